@@ -1,0 +1,3 @@
+pub mod Gates
+pub mod Sharing
+pub mod Answers

@@ -1,0 +1,5 @@
+pub mod Ring
+pub mod Words
+pub mod Signed
+pub mod Adder
+pub mod Truncation
