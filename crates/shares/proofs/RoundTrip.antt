@@ -99,6 +99,11 @@ is-true false t = absurd t
 agreed : (s : Share ℕ) → agree (hand-out s) ≡ true
 agreed s = rw (eq-eqb (s .l1) (s .l1) refl, eq-eqb (s .l2) (s .l2) refl, eq-eqb (s .m) (s .m) refl)
 
+-- the six words of one share open to its value: 10 is never met
+pub share-opens : (w : ℕ) (s : Share ℕ) → reconstruction w (hand-out s) ≡ (0, signed w (value (numbers w) s))
+unfolding reconstruction
+share-opens w s = rw (agreed s)
+
 -- "splitting then opening gives back the reading": for every reading in range and every two masks
 pub round-trip : (w : ℕ) (reading : ℤ) (l1 l2 : ℕ) → 2 ≤ w → T (in-range w reading) → l1 < 2 ^ w → l2 < 2 ^ w
     → (split w reading l1 l2 .0 ≡ 0) × (reconstruction w (split w reading l1 l2 .1) ≡ (0, reading))

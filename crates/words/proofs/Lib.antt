@@ -8,3 +8,4 @@ pub mod Integers
 pub mod Signed
 pub mod Truncation
 pub mod Machine
+pub mod Below

@@ -153,7 +153,7 @@ shr-biased w k x y c e = rw (e, floor-sub y c (2 ^ k) (pow-pos k)) (wrap-sub w (
 
 -- ---- floors
 
-mag-floor : (z : ℤ) (m : ℕ) → mag (floor z m) ≤ mag z
+pub mag-floor : (z : ℤ) (m : ℕ) → mag (floor z m) ≤ mag z
 unfolding floor
 mag-floor (pos n) m = div-le-self n m
 mag-floor (negsuc n) m = div-le-self n m

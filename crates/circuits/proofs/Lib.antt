@@ -1,0 +1,14 @@
+pub mod Gates
+pub mod Points
+pub mod Targets
+pub mod Blocks
+pub mod Truncations
+pub mod Curve
+pub mod Opens
+pub mod Costs
+pub mod Packing
+pub mod Indices
+pub mod Places
+pub mod ByKind
+pub mod Calibration
+pub mod Worked

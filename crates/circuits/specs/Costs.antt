@@ -1,0 +1,10 @@
+-- Document 01's table of deals, words spoken, A and B: the counts of a program. Assumes nothing.
+use mathlib.Core.List.{List, []}
+use Prim.Native.Nat.{ℕ}
+use Rattle.gates.specs.declared.Gate.{Gate}
+use Rattle.gates.specs.Meaning.{order-steps}
+use Rattle.gates.specs.Costs.{Cost, cost}
+
+-- the counts of an order with these gates
+unfoldable pub program-cost : ℕ → List Gate → Cost
+program-cost w gs = cost (order-steps w gs [])

@@ -1,0 +1,6 @@
+pub mod Programs
+pub mod Orders
+pub mod Opens
+pub mod Costs
+pub mod Fetch
+pub mod Packed

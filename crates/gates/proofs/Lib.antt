@@ -1,0 +1,6 @@
+pub mod Seen
+pub mod Lanes
+pub mod Needs
+pub mod Duet
+pub mod Floors
+pub mod Others

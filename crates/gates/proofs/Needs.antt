@@ -1,0 +1,129 @@
+-- What a list of steps needs of A, of B and of the deals, and what it speaks, as sums over the list; what the lists hold beyond does not matter.
+-- Assumes nothing.
+use mathlib.Core.Path.{_≡_, refl, _∙_}
+use mathlib.Core.List.{List, [], _∷_, _++_}
+use Prim.Native.Nat.{ℕ, _*_, suc, _+_, _≤_, _<_}
+use native.Mathlib.Nat.{zero-add}
+use native.Mathlib.Omega.{arith}
+use lib.ListN.{length}
+use Rattle.gates.specs.Steps.{at, Exchange, product, refresh, Step, local, deal, exchange, end, new-at, past-deal, emit, Cursor, past}
+use Rattle.gates.specs.Costs.{Cost, plus, step-cost, cost}
+use Rattle.gates.specs.Duet.{utter, words}
+use Rattle.gates.specs.Walk.{whole, far}
+use Rattle.gates.specs.Parties.{Pair, Triple, dealt, deals, act, joint1, joint2}
+
+pub whole-cursor : {S : Type 0} (f : Step → Cursor → S → S) (ss : List Step) (c : Cursor) (s : S) (t : List S) → whole f ss c s t .cur ≡ far ss c
+unfolding whole far
+whole-cursor f [] c s t = refl
+whole-cursor f (x ∷ ss) c s t = whole-cursor f ss _ _ _
+
+-- one list of steps after another
+pub whole-append : {S : Type 0} (f : Step → Cursor → S → S) (ss ts : List Step) (c : Cursor) (s : S) (t : List S)
+    → whole f (ss ++ ts) c s t ≡ whole f ts (whole f ss c s t .cur) (whole f ss c s t .state) (whole f ss c s t .trail)
+unfolding whole
+whole-append f [] ts c s t = refl
+whole-append f (x ∷ ss) ts c s t = whole-append f ss ts _ _ _
+
+-- ---- the counts are sums over the list
+
+pub cost-path : {x y : Cost} → x .deals ≡ y .deals → x .words ≡ y .words → x .a ≡ y .a → x .b ≡ y .b → x ≡ y
+cost-path p q r s = λ i. record { deals = p i; words = q i; a = r i; b = s i }
+
+pub cost-append : (ss ts : List Step) → cost (ss ++ ts) ≡ plus (cost ss) (cost ts)
+unfolding cost plus
+cost-append [] ts = cost-path (omega arith) (omega arith) (omega arith) (omega arith)
+cost-append (x ∷ ss) ts = rw (cost-append ss ts) (cost-path (omega arith) (omega arith) (omega arith) (omega arith))
+
+-- the cursor behind a list of steps has used its counts
+pub record Used (c : Cursor) (k : Cost) (e : Cursor) : Type 0 where
+  pub a : e .a ≡ c .a + k .a
+  pub b : e .b ≡ c .b + k .b
+  pub deals : e .k ≡ c .k + k .deals
+
+pub past-used : (x : Step) (c : Cursor) → Used c (step-cost x) (past x c)
+unfolding past step-cost new-at past-deal
+past-used (local d m l) c = omega arith
+past-used (deal d f) c = omega arith
+past-used (exchange d (product O a b)) c = omega arith
+past-used (exchange d (refresh O a)) c = omega arith
+past-used end c = omega arith
+
+pub far-used : (ss : List Step) (c : Cursor) → Used c (cost ss) (far ss c)
+unfolding far cost plus
+far-used [] c = omega arith
+far-used (x ∷ ss) c =
+    let p : Used c (step-cost x) (past x c) = past-used x c in
+    let q : Used (past x c) (cost ss) (far ss (past x c)) = far-used ss (past x c) in
+    record { a = omega arith; b = omega arith; deals = omega arith }
+
+-- the two hosts speak as many words as are counted
+utter-length : {S : Type 0} (say : Exchange → Cursor → S → ℕ) (x : Step) (c : Cursor) (s : S) (ws : List ℕ) → length (utter say x c s ws) * 2 ≡ step-cost x .words + length ws * 2
+unfolding utter step-cost
+utter-length say (local d m l) c s ws = omega arith
+utter-length say (deal d f) c s ws = omega arith
+utter-length say (exchange d (product O a b)) c s ws = omega arith
+utter-length say (exchange d (refresh O a)) c s ws = omega arith
+utter-length say end c s ws = omega arith
+
+pub words-length : {S : Type 0} (f : Step → Cursor → S → S) (say : Exchange → Cursor → S → ℕ) (ss : List Step) (c : Cursor) (s : S)
+    → length (words f say ss c s) * 2 ≡ cost ss .words
+unfolding words cost plus
+words-length f say [] c s = refl
+words-length f say (x ∷ ss) c s = omega (arith, utter-length say x c s (words f say ss (past x c) (f x c s)), words-length f say ss (past x c) (f x c s))
+
+-- preparation writes as many deals as the steps need
+emitted : (e : Exchange) (x k : ℕ) (ds : List ℕ) → length (emit e x ds) + k ≡ length ds + past-deal e k
+unfolding emit past-deal
+emitted (product O a b) x k ds = omega arith
+emitted (refresh O a) x k ds = refl
+
+swap : (n k : ℕ) → suc n + k ≡ n + suc k
+swap n k = omega arith
+
+deals-far : (A B : List ℕ) (ss : List Step) (c : Cursor) (s : Pair) → length (deals A B ss c s) + c .k ≡ far ss c .k
+unfolding deals dealt far past
+deals-far A B [] c s = zero-add (c .k)
+deals-far A B (local d m l ∷ ss) c s = deals-far A B ss _ _
+deals-far A B (deal d f ∷ ss) c s = swap _ (c .k) ∙ deals-far A B ss _ _
+deals-far A B (exchange d e ∷ ss) c s = emitted e _ (c .k) _ ∙ deals-far A B ss _ _
+deals-far A B (end ∷ ss) c s = deals-far A B ss _ _
+
+pub deals-length : (A B : List ℕ) (ss : List Step) (c : Cursor) (s : Pair) → length (deals A B ss c s) ≡ cost ss .deals
+deals-length A B ss c s = omega (arith, deals-far A B ss c s, far-used ss c .deals)
+
+-- ---- what stands behind the needs does not matter
+
+-- cursors only grow
+past-grows : (x : Step) (c : Cursor) → (c .a ≤ past x c .a) × (c .b ≤ past x c .b)
+unfolding past new-at
+past-grows (local d m l) c = omega arith
+past-grows (deal d f) c = omega arith
+past-grows (exchange d (product O a b)) c = omega arith
+past-grows (exchange d (refresh O a)) c = omega arith
+past-grows end c = omega arith
+
+far-grows : (ss : List Step) (c : Cursor) → (c .a ≤ far ss c .a) × (c .b ≤ far ss c .b)
+unfolding far
+far-grows [] c = omega arith
+far-grows (x ∷ ss) c = omega (arith, past-grows x c, far-grows ss (past x c))
+
+-- the same words up to place n
+abbrev pub Alike : List ℕ → List ℕ → ℕ → Type 0
+Alike X Y n = (i : ℕ) → i < n → at X i ≡ at Y i
+
+module _ (A A′ B B′ : List ℕ) where
+  act-alike : (x : Step) (c : Cursor) (j : Triple) → Alike A A′ (past x c .a) → Alike B B′ (past x c .b) → act A B x c j ≡ act A′ B′ x c j
+  unfolding act joint1 joint2 past new-at
+  act-alike (local d m l) c j h k = refl
+  act-alike (deal d f) c j h k = rw (h (c .a) (omega arith))
+  act-alike (exchange d (product O a b)) c j h k = rw (h (c .a) (omega arith), h (suc (c .a)) (omega arith), k (c .b) (omega arith))
+  act-alike (exchange d (refresh O a)) c j h k = rw (h (c .a) (omega arith), k (c .b) (omega arith))
+  act-alike end c j h k = refl
+
+  pub whole-alike : (ss : List Step) (c : Cursor) (j : Triple) (t : List Triple) → Alike A A′ (far ss c .a) → Alike B B′ (far ss c .b)
+      → whole (act A B) ss c j t ≡ whole (act A′ B′) ss c j t
+  unfolding whole far
+  whole-alike [] c j t h k = refl
+  whole-alike (x ∷ ss) c j t h k =
+      let g = far-grows ss (past x c) in
+      rw (act-alike x c j (λ i l. h i (omega arith)) (λ i l. k i (omega arith))) (whole-alike ss _ _ _ h k)

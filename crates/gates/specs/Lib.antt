@@ -1,0 +1,7 @@
+pub mod Steps
+pub mod Meaning
+pub mod Walk
+pub mod Parties
+pub mod Speech
+pub mod Costs
+pub mod Duet

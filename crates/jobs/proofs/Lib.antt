@@ -1,0 +1,7 @@
+pub mod Accepted
+pub mod Conditions
+pub mod Orders
+pub mod Sums
+pub mod Turns
+pub mod Unused
+pub mod FirstFault

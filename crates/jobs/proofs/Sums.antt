@@ -1,0 +1,151 @@
+-- A job's counts are the sums of its orders' entries in document 01's table of costs, and stay small. Assumes nothing.
+use mathlib.Core.Path.{_≡_, refl, sym, _∙_, subst}
+use mathlib.Core.Bool.{Bool, true, false, cond}
+use mathlib.Core.List.{List, [], _∷_, map}
+use Prim.Native.Nat.{ℕ, zero, suc, _+_, _*_, _/_, _≤_}
+use native.Mathlib.Omega.{arith}
+use lib.Dec.{T}
+use lib.ListN.{length, getD}
+use Rattle.tables.specs.Table.{Row, rows, keeps-rules}
+use Rattle.tables.proofs.Rows.{rules}
+use Rattle.gates.specs.declared.Gate.{Gate}
+use Rattle.gates.specs.Steps.{Step}
+use Rattle.gates.specs.Meaning.{order-steps, job-steps}
+use Rattle.gates.specs.Costs.{Cost, cost-of, plus, step-cost, cost}
+use Rattle.gates.proofs.Needs.{cost-path}
+use Rattle.circuits.specs.declared.Order.{Order}
+use Rattle.circuits.specs.Orders.{curve-program, kinds, program}
+use Rattle.circuits.specs.Costs.{program-cost}
+use Rattle.circuits.proofs.Costs.{cost-0, cost-1, cost-2, cost-3, cost-4, cost-5, cost-6, cost-7, cost-8, cost-9, curve-exact-cost, curve-one-bit-cost}
+use Rattle.jobs.specs.Job.{orders, job-gates, steps-of, job-cost, order-fault}
+use Rattle.jobs.specs.Walk.{curve-cost, kind-costs, kind-cost}
+use Rattle.jobs.proofs.Accepted.{good, curve-ruled}
+
+-- ---- kind by kind
+
+by-kind : (P : ℕ → Type 0) → P 0 → P 1 → P 2 → P 3 → P 4 → P 5 → P 6 → P 7 → P 8 → P 9 → P 10
+    → ((k : ℕ) → P (suc (suc (suc (suc (suc (suc (suc (suc (suc (suc (suc k)))))))))))) → (k : ℕ) → P k
+by-kind P a b c d e f g h i j k l zero = a
+by-kind P a b c d e f g h i j k l (suc zero) = b
+by-kind P a b c d e f g h i j k l (suc (suc zero)) = c
+by-kind P a b c d e f g h i j k l (suc (suc (suc zero))) = d
+by-kind P a b c d e f g h i j k l (suc (suc (suc (suc zero)))) = e
+by-kind P a b c d e f g h i j k l (suc (suc (suc (suc (suc zero))))) = f
+by-kind P a b c d e f g h i j k l (suc (suc (suc (suc (suc (suc zero)))))) = g
+by-kind P a b c d e f g h i j k l (suc (suc (suc (suc (suc (suc (suc zero))))))) = h
+by-kind P a b c d e f g h i j k l (suc (suc (suc (suc (suc (suc (suc (suc zero)))))))) = i
+by-kind P a b c d e f g h i j k l (suc (suc (suc (suc (suc (suc (suc (suc (suc zero))))))))) = j
+by-kind P a b c d e f g h i j k l (suc (suc (suc (suc (suc (suc (suc (suc (suc (suc zero)))))))))) = k
+by-kind P a b c d e f g h i j k l (suc (suc (suc (suc (suc (suc (suc (suc (suc (suc (suc n))))))))))) = l n
+
+-- ---- an order's counts
+
+module _ (ps : List Row) where
+  of-curve : (d a c : ℕ) → program-cost 32 (curve-program 32 a d ps c) ≡ curve-cost c (length ps)
+  unfolding curve-program curve-cost
+  of-curve d a zero = curve-exact-cost a d ps
+  of-curve d a (suc c) = curve-one-bit-cost a d ps
+
+  of-kind : (d a c k : ℕ) → program-cost 32 (getD (kinds 32 ps d a c) k []) ≡ kind-cost k c (length ps)
+  unfolding kinds kind-cost kind-costs program-cost order-steps cost step-cost plus
+  of-kind d a c =
+      by-kind (λ k. program-cost 32 (getD (kinds 32 ps d a c) k []) ≡ kind-cost k c (length ps))
+      (cost-0 d a c) (cost-1 d a c) (cost-2 d a c) (cost-3 d a c) (cost-4 d a c) (cost-5 d a) (cost-6 c a d) (cost-7 c a d) (cost-8 c a d) (cost-9 a d)
+      (of-curve d a c) (λ k. refl)
+
+  of-order : (o : Order) → program-cost 32 (program 32 ps o) ≡ kind-cost (o .kind) (o .fourth) (length ps)
+  unfolding program
+  of-order o = of-kind (o .target) (o .source) (o .fourth) (o .kind)
+
+-- ---- a job's counts
+
+program-then : (w : ℕ) (gs : List Gate) (ss : List Step) → cost (order-steps w gs ss) ≡ plus (program-cost w gs) (cost ss)
+unfolding program-cost order-steps cost step-cost plus
+program-then w [] ss = cost-path (omega arith) (omega arith) (omega arith) (omega arith)
+program-then w (g ∷ gs) ss = rw (program-then w gs ss) (cost-path (omega arith) (omega arith) (omega arith) (omega arith))
+
+-- the counts of a list of orders
+unfoldable pub orders-cost : List Row → List Order → Cost
+orders-cost ps os = cost (job-steps 32 (map (program 32 ps) os))
+
+pub whole-job : (job table : List ℕ) → orders-cost (rows table) (orders job) ≡ job-cost 32 job table
+unfolding orders-cost job-cost steps-of job-gates
+whole-job job table = refl
+
+pub no-orders : (ps : List Row) → orders-cost ps [] ≡ cost-of 0 0 0 0
+unfolding orders-cost job-steps cost
+no-orders ps = refl
+
+pub one-more : (ps : List Row) (o : Order) (os : List Order) → orders-cost ps (o ∷ os) ≡ plus (kind-cost (o .kind) (o .fourth) (length ps)) (orders-cost ps os)
+unfolding orders-cost job-steps
+one-more ps o os = rw (← of-order ps o) (program-then 32 (program 32 ps o) (job-steps 32 (map (program 32 ps) os)))
+
+-- ---- entries of the table
+
+pub one-bit-cost : (mode n : ℕ) → (mode ≡ 0 → ⊥) → cost-of (14 * n + 3) (24 * n + 4) (26 * n + 5) (12 * n + 2) ≡ kind-cost 10 mode n
+unfolding kind-cost kind-costs curve-cost
+one-bit-cost zero n h = absurd (h refl)
+one-bit-cost (suc m) n h = refl
+
+pub no-cost : (k c n : ℕ) → (k ≡ 4 → ⊥) → (k ≡ 5 → ⊥) → (k ≡ 6 → ⊥) → (k ≡ 7 → ⊥) → (k ≡ 8 → ⊥) → (k ≡ 9 → ⊥) → (k ≡ 10 → ⊥)
+    → cost-of 0 0 0 0 ≡ kind-cost k c n
+unfolding kind-cost kind-costs
+no-cost zero c n h4 h5 h6 h7 h8 h9 h10 = refl
+no-cost (suc zero) c n h4 h5 h6 h7 h8 h9 h10 = refl
+no-cost (suc (suc zero)) c n h4 h5 h6 h7 h8 h9 h10 = refl
+no-cost (suc (suc (suc zero))) c n h4 h5 h6 h7 h8 h9 h10 = refl
+no-cost (suc (suc (suc (suc zero)))) c n h4 h5 h6 h7 h8 h9 h10 = absurd (h4 refl)
+no-cost (suc (suc (suc (suc (suc zero))))) c n h4 h5 h6 h7 h8 h9 h10 = absurd (h5 refl)
+no-cost (suc (suc (suc (suc (suc (suc zero)))))) c n h4 h5 h6 h7 h8 h9 h10 = absurd (h6 refl)
+no-cost (suc (suc (suc (suc (suc (suc (suc zero))))))) c n h4 h5 h6 h7 h8 h9 h10 = absurd (h7 refl)
+no-cost (suc (suc (suc (suc (suc (suc (suc (suc zero)))))))) c n h4 h5 h6 h7 h8 h9 h10 = absurd (h8 refl)
+no-cost (suc (suc (suc (suc (suc (suc (suc (suc (suc zero))))))))) c n h4 h5 h6 h7 h8 h9 h10 = absurd (h9 refl)
+no-cost (suc (suc (suc (suc (suc (suc (suc (suc (suc (suc zero)))))))))) c n h4 h5 h6 h7 h8 h9 h10 = absurd (h10 refl)
+no-cost (suc (suc (suc (suc (suc (suc (suc (suc (suc (suc (suc k))))))))))) c n h4 h5 h6 h7 h8 h9 h10 = refl
+
+-- ---- the rows matter to a curve alone, and an accepted curve has a table that keeps its rules
+
+rows-for-curve : (ruled : Bool) (n c k : ℕ) → (k ≡ 10 → ruled ≡ true) → kind-cost k c (cond ruled n 0) ≡ kind-cost k c n
+unfolding kind-cost kind-costs
+rows-for-curve ruled n c =
+    by-kind (λ k. (k ≡ 10 → ruled ≡ true) → kind-cost k c (cond ruled n 0) ≡ kind-cost k c n)
+    (λ h. refl) (λ h. refl) (λ h. refl) (λ h. refl) (λ h. refl) (λ h. refl) (λ h. refl) (λ h. refl) (λ h. refl) (λ h. refl)
+    (λ (h : 10 ≡ 10 → ruled ≡ true). rw (h refl)) (λ k h. refl)
+
+pub rows-right : (ruled : Bool) (n : ℕ) (o : Order) → order-fault 32 ruled o ≡ 0 → kind-cost (o .kind) (o .fourth) (cond ruled n 0) ≡ kind-cost (o .kind) (o .fourth) n
+rows-right ruled n o e = rows-for-curve ruled n (o .fourth) (o .kind) (λ ten. curve-ruled 32 ruled o (good 32 ruled o e) ten .1)
+
+-- ---- how much one order adds
+
+pub record Below (k : Cost) (n : ℕ) : Type 0 where
+  pub deals : k .deals ≤ 240 * n
+  pub words : k .words ≤ 408 * n
+  pub a : k .a ≤ 444 * n
+  pub b : k .b ≤ 204 * n
+
+few-in-curve : (c n : ℕ) → n ≤ 16 → Below (curve-cost c n) 1
+unfolding curve-cost
+few-in-curve zero n h = omega arith
+few-in-curve (suc c) n h = omega arith
+
+pub few : (k c n : ℕ) → n ≤ 16 → Below (kind-cost k c n) 1
+unfolding kind-cost kind-costs
+few k c n h =
+    by-kind (λ k. Below (kind-cost k c n) 1)
+    (omega arith) (omega arith) (omega arith) (omega arith) (omega arith) (omega arith) (omega arith) (omega arith) (omega arith) (omega arith)
+    (few-in-curve c n h) (λ k. omega arith) k
+
+-- ---- the rows of a table that keeps its rules
+
+module _ (table : List ℕ) (ruled : Bool) (e : ruled ≡ keeps-rules table) where
+  pub rows-counted : ruled ≡ true → (length (rows table) ≤ 16) × (length table / 2 ≡ length (rows table))
+  rows-counted t =
+      let r = rules table .0 (subst T (sym t ∙ e) tt) in
+      (r .at-most, omega (arith, r .whole-rows))
+
+  pub rows-few : cond ruled (length (rows table)) 0 ≤ 16
+  rows-few = go ruled refl
+    where
+      go : (b : Bool) → ruled ≡ b → cond b (length (rows table)) 0 ≤ 16
+      go true t = rows-counted t .0
+      go false t = omega arith

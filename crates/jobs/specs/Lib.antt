@@ -1,0 +1,4 @@
+pub mod Job
+pub mod Walk
+pub mod Answers
+pub mod FirstFault

@@ -1,0 +1,153 @@
+// Jobs: lists of orders, four words to an order. Checking a job with its table, and the part of a mask list that it leaves unused.
+ghost use mathlib.Core.Path.{_≡_};
+ghost use Rattle.jobs.specs.Job.{ill-sized};
+ghost use Prim.Native.Nat.{_+_, _*_, _≤_};
+ghost use lib.ListN.{length};
+ghost use Rattle.gates.specs.Costs.{cost-of};
+ghost use Rattle.jobs.specs.Walk.{order-at};
+ghost use Rattle.jobs.specs.Answers.{verdict, check-job, need, leftover-number, leftover-part};
+use crate::cost::none;
+use crate::cost::order_counts;
+use crate::cost::plus;
+use crate::cost::rows_of;
+use crate::faults::order_fault;
+use circuits::Order;
+
+mod cost;
+mod faults;
+
+// What checking a job with its table finds.
+pub enum Checked {
+    // The job's counts: deals, words spoken by both hosts, and words used of A and of B.
+    Accepted {
+        deals: u32,
+        words: u32,
+        a: u32,
+        b: u32,
+    },
+    // The number, 2 to 5, with the order's index (0 for 2).
+    Refused {
+        number: u32,
+        index: u32,
+    },
+}
+
+// One of the two mask lists.
+pub enum Which {
+    ListA,
+    ListB,
+}
+
+// Whether the words are no list of 1 to 64 orders.
+fn ill_sized(job: &[u32]) -> bool
+    ensures { λ b. ⌜ b ≡ ill-sized (now (job .entry)) ⌝ }
+{
+    let n = job.len();
+    if n == 0 {
+        return true;
+    }
+    if 256 < n {
+        return true;
+    }
+    n % 4 != 0
+}
+
+// The order at an index.
+fn order_at(job: &[u32], i: usize) -> Order
+    requires { ⌜ i * 4 + 4 ≤ length (now job) ⌝ }
+    ensures { λ o. ⌜ o ≡ order-at (now (job .entry)) i ⌝ }
+{
+    let at = i * 4;
+    let kind = job[at];
+    let target = job[at + 1];
+    let source = job[at + 2];
+    let fourth = job[at + 3];
+    Order {
+        kind,
+        target,
+        source,
+        fourth,
+    }
+}
+
+// The first fault of a job with its table, or its counts.
+pub fn check(job: &[u32], table: &[u32]) -> Checked
+    ensures { λ r. ⌜ verdict r ≡ check-job 32 (now (job .entry)) (now (table .entry)) ⌝ }
+{
+    if ill_sized(job) {
+        return Checked::Refused {
+            number: 2,
+            index: 0,
+        };
+    }
+    let ruled = tables::keeps_rules(table);
+    let rows = rows_of(table, ruled);
+    let n = job.len() / 4;
+    let mut sum = none();
+    let mut i = 0;
+    while i < n {
+        let order = order_at(job, i);
+        let fault = order_fault(order, ruled);
+        if fault != 0 {
+            let index = i as u32;
+            return Checked::Refused {
+                number: fault,
+                index,
+            };
+        }
+        sum = plus(sum, order_counts(order, rows));
+        i += 1;
+    }
+    Checked::Accepted {
+        deals: sum.deals,
+        words: sum.words,
+        a: sum.a,
+        b: sum.b,
+    }
+}
+
+// What a job with these counts of A and B needs of the one list.
+fn need(which: Which, a: u32, b: u32) -> u32
+    ensures { λ n. ⌜ n ≡ need which (cost-of 0 0 a b) ⌝ }
+{
+    match which {
+        Which::ListA => a,
+        Which::ListB => b,
+    }
+}
+
+// The part of a mask list after the job's need; the whole list where refused. Its number, or 0, goes into the lent word.
+pub fn leftover<'a>(
+    job: &[u32],
+    table: &[u32],
+    which: Which,
+    list: &'a [u32],
+    number: &mut u32,
+) -> &'a [u32]
+    ensures part { λ r. ⌜ now r ≡ leftover-part (leftover-number 32 (now (job .entry)) (now (table .entry)) which (now (list .entry))) 32 (now (job .entry)) (now (table .entry)) which (now (list .entry)) ⌝ }
+    ensures said { λ r. ⌜ now (number .exit) ≡ leftover-number 32 (now (job .entry)) (now (table .entry)) which (now (list .entry)) ⌝ }
+{
+    match check(job, table) {
+        Checked::Refused {
+            number: found,
+            index: _,
+        } => {
+            *number = found;
+            list
+        }
+        Checked::Accepted {
+            deals: _,
+            words: _,
+            a,
+            b,
+        } => {
+            let first = need(which, a, b) as usize;
+            if list.len() < first {
+                *number = 6;
+                return list;
+            }
+            *number = 0;
+            &list[first..]
+        }
+    }
+}

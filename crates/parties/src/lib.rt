@@ -1,0 +1,1 @@
+// Preparation, starting and hearing: their definitions.

@@ -1,0 +1,155 @@
+-- The trail of a job is what its orders' gates leave, one order after another. Assumes nothing.
+use mathlib.Core.Path.{_≡_, refl, sym, ap, _∙_}
+use mathlib.Core.List.{List, [], _∷_, _++_, map, append-nil, append-assoc}
+use Prim.Native.Nat.{ℕ, zero, suc, _+_, _≤_, _<_}
+use native.Mathlib.Omega.{arith}
+use lib.ListN.{getD, length, take}
+use Rattle.gates.specs.declared.Gate.{Gate}
+use Rattle.gates.specs.declared.Gate.the-variants.{Add, Sub, Xor, Mul, And, Refresh, Scale, Plus, Up, Bit, Const, Public, Deal, DealBits}
+use Rattle.gates.specs.Steps.{Step, end, past}
+use Rattle.gates.specs.Meaning.{meaning, order-steps, job-steps}
+use Rattle.gates.specs.Walk.{Conf, mark, whole}
+use Rattle.gates.specs.Parties.{Triple, act}
+use Rattle.gates.specs.Costs.{Cost, plus, cost, step-cost}
+use Rattle.gates.proofs.Needs.{cost-path}
+use Rattle.circuits.specs.Costs.{program-cost}
+use Rattle.circuits.proofs.Gates.{Fits}
+use Rattle.circuits.proofs.Points.{Point, after, afters}
+use Rattle.jobs.specs.Job.{orders, job-gates, steps-of}
+use Rattle.runs.specs.Runs.{Setting}
+use Rattle.runs.specs.Orders.{first-counts}
+use Rattle.runs.proofs.Places.{orders as ends}
+
+mark-gate : {S : Type 0} (w : ℕ) (g : Gate) (s : S) (t : List S) → mark (meaning w g) s t ≡ t
+unfolding meaning
+mark-gate w (Add d a b) s t = refl
+mark-gate w (Sub d a b) s t = refl
+mark-gate w (Xor d a b) s t = refl
+mark-gate w (Mul d a b) s t = refl
+mark-gate w (And d a b) s t = refl
+mark-gate w (Refresh d a) s t = refl
+mark-gate w (Scale d a n) s t = refl
+mark-gate w (Plus d a n) s t = refl
+mark-gate w (Up d a n) s t = refl
+mark-gate w (Bit d a n) s t = refl
+mark-gate w (Const d n) s t = refl
+mark-gate w (Public d a f) s t = refl
+mark-gate w (Deal d a f) s t = refl
+mark-gate w (DealBits d a) s t = refl
+
+module _ (w : ℕ) (A B : List ℕ) (hA : Fits w A) (hB : Fits w B) where
+  abbrev Pt : Type 0
+  Pt = Point w A B hA hB
+
+  abbrev run : List Gate → Pt → Pt
+  run = afters w A B hA hB
+
+  -- past the end of an order
+  abbrev pub ended : Pt → Pt
+  ended G = record { c = past end (G .c); j = G .j; fits = G .fits; slots = G .slots }
+
+  -- the points at which the orders of a job leave the walk
+  unfoldable pub points : List (List Gate) → Pt → List Pt
+  points [] G = []
+  points (o ∷ os) G = run o G ∷ points os (ended (run o G))
+
+  whole-order : (gs : List Gate) (G : Pt) (ss : List Step) (t : List Triple)
+      → whole (act A B) (order-steps w gs ss) (G .c) (G .j) t ≡ whole (act A B) ss (past end (run gs G .c)) (run gs G .j) (t ++ (run gs G .j ∷ []))
+  unfolding whole order-steps afters after act
+  whole-order [] G ss t = refl
+  whole-order (g ∷ gs) G ss t = ap (whole (act A B) (order-steps w gs ss) _ _) (mark-gate w g (G .j) t) ∙ whole-order gs (after w A B hA hB g G) ss t
+
+  pub job-trail : (os : List (List Gate)) (G : Pt) (t : List Triple) → whole (act A B) (job-steps w os) (G .c) (G .j) t .trail ≡ t ++ map (λ (p : Pt). p .j) (points os G)
+  unfolding whole job-steps points
+  job-trail [] G t = sym (append-nil t)
+  job-trail (o ∷ os) G t =
+      ap (λ (p : Conf Triple). p .trail) (whole-order o G (job-steps w os) t)
+      ∙ job-trail os (ended (run o G)) (t ++ (run o G .j ∷ []))
+      ∙ append-assoc t (run o G .j ∷ []) _
+
+  -- the point just before order q
+  unfoldable pub point-before : List (List Gate) → Pt → ℕ → Pt
+  point-before [] G q = G
+  point-before (o ∷ os) G zero = G
+  point-before (o ∷ os) G (suc q) = point-before os (ended (run o G)) q
+
+  -- order q takes the point before it to the next
+  pub point-after : (os : List (List Gate)) (G E : Pt) (q : ℕ) → q < length os → getD (points os G) q E ≡ run (getD os q []) (point-before os G q)
+  unfolding points point-before
+  point-after [] G E q h = absurd (omega arith)
+  point-after (o ∷ os) G E zero h = refl
+  point-after (o ∷ os) G E (suc q) h = point-after os (ended (run o G)) E q (omega arith)
+
+  -- which is where the order before left the walk
+  pub point-next : (os : List (List Gate)) (G E : Pt) (q : ℕ) → q < length os → point-before os G (suc q) .j ≡ getD (points os G) q E .j
+  unfolding points point-before
+  point-next [] G E q h = absurd (omega arith)
+  point-next (o ∷ []) G E zero h = refl
+  point-next (o ∷ o′ ∷ os) G E zero h = refl
+  point-next (o ∷ os) G E (suc q) h = point-next os (ended (run o G)) E q (omega arith)
+
+  -- the walk of the first q orders comes to the point before order q
+  pub state-before : (os : List (List Gate)) (G : Pt) (q : ℕ) (t : List Triple) → whole (act A B) (job-steps w (take q os)) (G .c) (G .j) t .state ≡ point-before os G q .j
+  unfolding whole job-steps point-before
+  state-before [] G zero t = refl
+  state-before [] G (suc q) t = refl
+  state-before (o ∷ os) G zero t = refl
+  state-before (o ∷ os) G (suc q) t = ap (λ (p : Conf Triple). p .state) (whole-order o G (job-steps w (take q os)) t) ∙ state-before os (ended (run o G)) q _
+
+-- ---- the counts of a job, order by order
+
+order-cost : (w : ℕ) (gs : List Gate) (ss : List Step) → cost (order-steps w gs ss) ≡ plus (program-cost w gs) (cost ss)
+unfolding order-steps program-cost cost step-cost plus
+order-cost w [] ss = cost-path (omega arith) (omega arith) (omega arith) (omega arith)
+order-cost w (g ∷ gs) ss = rw (order-cost w gs ss) (cost-path (omega arith) (omega arith) (omega arith) (omega arith))
+
+pub first-cost : (w : ℕ) (os : List (List Gate)) (q : ℕ) → cost (job-steps w (take q os)) ≡ first-counts w q os
+unfolding job-steps first-counts cost
+first-cost w [] zero = refl
+first-cost w [] (suc q) = refl
+first-cost w (o ∷ os) zero = refl
+first-cost w (o ∷ os) (suc q) = order-cost w o (job-steps w (take q os)) ∙ ap (plus (program-cost w o)) (first-cost w os q)
+
+-- the words of A that the orders up to order q use
+pub used-within : (w : ℕ) (os : List (List Gate)) (q : ℕ) → q < length os → first-counts w q os .a + program-cost w (getD os q []) .a ≤ cost (job-steps w os) .a
+unfolding job-steps first-counts plus
+used-within w [] q h = absurd (omega arith)
+used-within w (o ∷ os) zero h = omega (arith, ap (λ (k : Cost). k .a) (order-cost w o (job-steps w os)))
+used-within w (o ∷ os) (suc q) h = omega (arith, ap (λ (k : Cost). k .a) (order-cost w o (job-steps w os)), used-within w os q (omega arith))
+
+-- ---- as many ends as orders
+
+pub orders-gate : (w : ℕ) (g : Gate) (ss : List Step) → ends (meaning w g ∷ ss) ≡ ends ss
+unfolding meaning ends
+orders-gate w (Add d a b) ss = refl
+orders-gate w (Sub d a b) ss = refl
+orders-gate w (Xor d a b) ss = refl
+orders-gate w (Mul d a b) ss = refl
+orders-gate w (And d a b) ss = refl
+orders-gate w (Refresh d a) ss = refl
+orders-gate w (Scale d a n) ss = refl
+orders-gate w (Plus d a n) ss = refl
+orders-gate w (Up d a n) ss = refl
+orders-gate w (Bit d a n) ss = refl
+orders-gate w (Const d n) ss = refl
+orders-gate w (Public d a f) ss = refl
+orders-gate w (Deal d a f) ss = refl
+orders-gate w (DealBits d a) ss = refl
+
+orders-order : (w : ℕ) (gs : List Gate) (ss : List Step) → ends (order-steps w gs ss) ≡ suc (ends ss)
+unfolding ends order-steps
+orders-order w [] ss = refl
+orders-order w (g ∷ gs) ss = orders-gate w g (order-steps w gs ss) ∙ orders-order w gs ss
+
+orders-job : (w : ℕ) (os : List (List Gate)) → ends (job-steps w os) ≡ length os
+unfolding ends job-steps
+orders-job w [] = refl
+orders-job w (o ∷ os) = orders-order w o (job-steps w os) ∙ ap suc (orders-job w os)
+
+length-map : {A B : Type 0} (f : A → B) (l : List A) → length (map f l) ≡ length l
+length-map f [] = refl
+length-map f (x ∷ l) = ap suc (length-map f l)
+
+pub orders-of : (w : ℕ) (S : Setting) → ends (steps-of w (S .job) (S .table)) ≡ length (orders (S .job))
+unfolding steps-of job-gates
+orders-of w S = orders-job w (job-gates w (S .job) (S .table)) ∙ length-map _ (orders (S .job))

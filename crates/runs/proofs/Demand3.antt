@@ -1,0 +1,198 @@
+-- Demand 3, proved for every run. Assumes nothing.
+use mathlib.Core.Path.{_≡_, refl, sym, ap, ap₂, _∙_, subst}
+use mathlib.Core.Bool.{Bool, true, false, cond}
+use mathlib.Core.Logic.{⊎-elim}
+use mathlib.Core.List.{List}
+use Prim.Native.Nat.{ℕ, zero, suc, _+_, _-_, _*_, _%_, _^_, _≤_, _<_}
+use native.Mathlib.Nat.{mod-eq-of-lt}
+use native.Mathlib.Omega.{arith}
+use borrow.Author.Tests.{le-leb, lt-leb}
+use lib.Dec.{T, leb, leb→le, le→leb}
+use lib.IntN.{ℤ, pos, negsuc, _+ℤ_, +ℤ-idr}
+use lib.ListN.{getD, length, length-set}
+use lib.Signed.{_≤ℤ_, leZ-yes}
+use Rattle.words.specs.Words.{add}
+use Rattle.words.specs.Signed.{floor, signed, wrap, in-range}
+use Rattle.words.specs.Truncation.{slip}
+use Rattle.words.proofs.Integers.{le-or-lt, sub-below}
+use Rattle.words.proofs.Signed.{signed-low, signed-high, wrap-lt}
+use Rattle.words.proofs.Words.{sub-lt}
+use Rattle.tables.specs.Table.{rows}
+use Rattle.tables.specs.Curve.{scaled, last-count, line, Near}
+use Rattle.tables.specs.Count.{count}
+use Rattle.tables.proofs.Curve.{exact-near, one-bit-near, scaled-level}
+use Rattle.tables.proofs.Counting.{slips-of-words}
+use Rattle.gates.specs.Steps.{at}
+use Rattle.circuits.specs.declared.Order.{Order}
+use Rattle.circuits.specs.Programs.{sum-program}
+use Rattle.circuits.specs.Costs.{program-cost}
+use Rattle.circuits.proofs.Calibration.{Promised, ranged, above}
+use Rattle.jobs.specs.Job.{orders, job-gates}
+use Rattle.runs.specs.Runs.{Setting, World, Call, Completes, Run, Finished, buffer-of, Accepted}
+use Rattle.runs.specs.Orders.{Words, order-at, counts-before, first-counts, refresh-mask}
+use Rattle.runs.specs.Demands.{reading, Y-of, Exact, OneBit, opens, Finishes, refresh-place, with-word, eqZ, Alike, Demand3}
+use Rattle.runs.proofs.Curves.{in-job, checked, source-word, rules-kept, exact-opens, one-bit-opens}
+use Rattle.runs.proofs.Family.{place-needed, reading-same, mask-same}
+use Rattle.runs.proofs.Chain.{orders-of}
+use Rattle.runs.proofs.Progress.{stuck-ended}
+
+-- ---- a reading in range
+
+module _ (S : Setting) (q : ℕ) (v : World) (F : Finishes S q v) (h : T (in-range 32 (reading S q))) where
+  in-range-word : Promised (S .table) (source-word S q v F)
+  unfolding reading
+  in-range-word = ranged h
+
+  exact : Exact S q → opens S v q ≡ (0, floor (Y-of S q) 4096)
+  exact e = exact-opens S q v F (e .kind) in-range-word (e .mode)
+
+  one-bit : OneBit S q → opens S v q ≡ (0, floor (Y-of S q) 4096 +ℤ pos (slip 12 (wrap 12 (Y-of S q)) (refresh-mask 32 S q)))
+  one-bit e = one-bit-opens S q v F (e .kind) in-range-word 0 (e .mode)
+
+  near-exact : Exact S q → Near (line (rows (S .table)) (reading S q)) (opens S v q .1)
+  unfolding Y-of
+  near-exact e = rw (exact e) (exact-near (S .table) (rules-kept S q v F (e .kind)) (reading S q))
+
+  near-one-bit : OneBit S q → Near (line (rows (S .table)) (reading S q)) (opens S v q .1)
+  unfolding Y-of
+  near-one-bit e = rw (one-bit e) (one-bit-near (S .table) (rules-kept S q v F (e .kind)) (reading S q) (refresh-mask 32 S q))
+
+-- ---- the count
+
+count-same : (n : ℕ) (f g : ℕ → Bool) → ((a : ℕ) → a < n → f a ≡ g a) → count n f ≡ count n g
+unfolding count
+count-same zero f g h = refl
+count-same (suc n) f g h = ap₂ (λ (x : ℕ) (b : Bool). x + cond b 1 0) (count-same n f g (λ a l. h a (omega arith))) (h n (omega arith))
+
+less : (z : ℤ) → eqZ z (z +ℤ pos 1) ≡ false
+less (pos n) = rw (le-leb n (n + 1) (omega arith), lt-leb (n + 1) n (omega arith))
+less (negsuc zero) = refl
+less (negsuc (suc n)) =
+    let e : suc (suc n) - suc 1 ≡ n = omega arith in
+    rw (sub-below 1 (suc (suc n)) (omega arith), e, le-leb n (suc n) (omega arith), lt-leb (suc n) n (omega arith))
+
+-- one more, or the same
+one-more : (z : ℤ) (b : Bool) → eqZ (z +ℤ pos (cond b 1 0)) (z +ℤ pos 1) ≡ b
+one-more z true = equal (z +ℤ pos 1)
+  where
+    equal : (x : ℤ) → eqZ x x ≡ true
+    equal (pos n) = rw (le-leb n n (omega arith))
+    equal (negsuc n) = rw (le-leb n n (omega arith))
+one-more z false = rw (+ℤ-idr z) (less z)
+
+-- ---- above the last row
+
+-- what the curve gives of Y in a mode, with the refresh's mask R
+last-value : (mode : ℕ) (Y : ℤ) (R : ℕ) → ℤ
+last-value zero Y R = floor Y 4096
+last-value (suc c) Y R = floor Y 4096 +ℤ pos (slip 12 (wrap 12 Y) R)
+
+above-word : (x n : ℕ) → x < 2 ^ 32 → pos n ≤ℤ signed 32 x → (n ≤ x) × (x < 2 ^ 31)
+above-word x n h l =
+    ⊎-elim
+    (λ (k : 2 ^ 31 ≤ x). absurd (rw (signed-high 32 x k, sub-below x (2 ^ 32) h) at (l .le)))
+    (λ (k : x < 2 ^ 31). (leb→le n x (rw (signed-low 32 x k) at (l .le)), k))
+    (le-or-lt (2 ^ 31) x)
+
+-- what the lists, the job and the table say of an order is the same in runs that are alike
+mask-of : (job table A B : List ℕ) → ℕ → ℕ
+mask-of job table A B q =
+    add 32 (at A (first-counts 32 q (job-gates 32 job table) .a + program-cost 32 (sum-program 32 (getD (orders job) q (record { kind = 0; target = 0; source = 0; fourth = 0 }) .source) (rows table)) .a))
+    (at B (first-counts 32 q (job-gates 32 job table) .b + program-cost 32 (sum-program 32 (getD (orders job) q (record { kind = 0; target = 0; source = 0; fourth = 0 }) .source) (rows table)) .b))
+
+masks-alike : (S S′ : Setting) (q : ℕ) → Alike S S′ → refresh-mask 32 S q ≡ refresh-mask 32 S′ q
+unfolding refresh-mask counts-before order-at mask-of
+masks-alike S S′ q e = λ i. mask-of (e .job i) (e .table i) (e .A i) (e .B i) q
+
+orders-alike : (S S′ : Setting) (q : ℕ) → Alike S S′ → order-at S q ≡ order-at S′ q
+unfolding order-at
+orders-alike S S′ q e = ap (λ (job : List ℕ). getD (orders job) q (record { kind = 0; target = 0; source = 0; fourth = 0 })) (e .job)
+
+module _ (S : Setting) (q : ℕ) (v : World) (F : Finishes S q v) (k : order-at S q .kind ≡ 10) (l : pos (last-count (rows (S .table))) ≤ℤ reading S q) where
+  above-last : Promised (S .table) (source-word S q v F)
+  unfolding reading
+  above-last = let p = above-word (source-word S q v F) (last-count (rows (S .table))) (sub-lt 32 _ _) l in above (p .0) (p .1)
+
+  Y-last : Y-of S q ≡ scaled (rows (S .table)) (pos (last-count (rows (S .table))))
+  unfolding Y-of
+  Y-last = scaled-level (S .table) (rules-kept S q v F k) (reading S q) l
+
+  -- by the mode: what the last row opens
+  saturated-opens : (mode : ℕ) → order-at S q .fourth ≡ mode
+      → opens S v q ≡ (0, last-value mode (scaled (rows (S .table)) (pos (last-count (rows (S .table))))) (refresh-mask 32 S q))
+  unfolding last-value
+  saturated-opens zero m = exact-opens S q v F k above-last m ∙ ap {B = ℕ × ℤ} (λ (Y : ℤ). (0, floor Y 4096)) Y-last
+  saturated-opens (suc c) m =
+      one-bit-opens S q v F k above-last c m ∙ ap {B = ℕ × ℤ} (λ (Y : ℤ). (0, floor Y 4096 +ℤ pos (slip 12 (wrap 12 Y) (refresh-mask 32 S q)))) Y-last
+
+saturated : (S S′ : Setting) (q : ℕ) (v v′ : World) → Alike S S′ → Finishes S q v → Finishes S′ q v′ → order-at S q .kind ≡ 10
+    → reading S q ≡ pos (last-count (rows (S .table))) → pos (last-count (rows (S .table))) ≤ℤ reading S′ q → opens S v q ≡ opens S′ v′ q
+saturated S S′ q v v′ e F F′ k r l =
+    let o = orders-alike S S′ q e in
+    saturated-opens S q v F k (rw r (leZ-yes (le→leb (last-count (rows (S .table))) (last-count (rows (S .table))) (omega arith)))) (order-at S q .fourth) refl
+    ∙ (λ i. (0, last-value (order-at S q .fourth) (scaled (rows (e .table i)) (pos (last-count (rows (e .table i))))) (masks-alike S S′ q e i)))
+    ∙ sym (saturated-opens S′ q v′ F′ (sym (ap (λ (x : Order). x .kind) o) ∙ k) (subst (λ (t : List ℕ). pos (last-count (rows t)) ≤ℤ reading S′ q) (e .table) l) (order-at S q .fourth) (sym (ap (λ (x : Order). x .fourth) o)))
+
+-- ---- the family of runs
+
+module _ (S : Setting) (q : ℕ) (v : ℕ → World) (words : Words 32 S) (F : (a : ℕ) → a < 2 ^ 32 → Finishes (with-word S q a) q (v a)) (e : OneBit S q)
+    (h : T (in-range 32 (reading S q))) where
+  abbrev first-run : Finishes (with-word S q 0) q (v 0)
+  first-run = F 0 (omega arith)
+
+  in-orders : q < length (orders (S .job))
+  unfolding with-word
+  in-orders = in-job (with-word S q 0) q (v 0) first-run
+
+  place-listed : refresh-place S q < length (S .A)
+  unfolding with-word
+  place-listed =
+      let c = checked (with-word S q 0) q (v 0) first-run in
+      omega (arith, place-needed S q e words in-orders, c .a, length-set (S .A) (refresh-place S q) 0)
+
+  -- the refresh's word of B
+  abbrev b : ℕ
+  b = at (S .B) (counts-before 32 S q .b + program-cost 32 (sum-program 32 (order-at S q .source) (rows (S .table))) .b)
+
+  abbrev y : ℕ
+  y = wrap 12 (Y-of S q)
+
+  module _ (a : ℕ) (l : a < 2 ^ 32) where
+    same-reading : reading (with-word S q a) q ≡ reading S q
+    same-reading = reading-same S q e a words (F a l .words) in-orders
+
+    word-opens : opens S (v a) q ≡ (0, floor (Y-of S q) 4096 +ℤ pos (slip 12 y (add 32 a b)))
+    unfolding with-word order-at Y-of
+    word-opens =
+        one-bit (with-word S q a) q (v a) (F a l) (rw same-reading h) (record { kind = e .kind; mode = e .mode })
+        ∙ (λ i. (0, floor (scaled (rows (S .table)) (same-reading i)) 4096 +ℤ pos (slip 12 (wrap 12 (scaled (rows (S .table)) (same-reading i))) (mask-same S q e a place-listed i))))
+
+    gives-one-more : eqZ (opens S (v a) q .1) (floor (Y-of S q) 4096 +ℤ pos 1) ≡ leb 4096 (y + (a + b) % 2 ^ 32 % 4096)
+    unfolding slip add
+    gives-one-more =
+        ap (λ (p : ℕ × ℤ). eqZ (p .1) (floor (Y-of S q) 4096 +ℤ pos 1)) word-opens
+        ∙ one-more (floor (Y-of S q) 4096) (leb 4096 (y % 4096 + add 32 a b % 4096))
+        ∙ ap (λ (n : ℕ). leb 4096 (n + add 32 a b % 4096)) (mod-eq-of-lt (wrap-lt 12 (Y-of S q)))
+
+  slips : count (2 ^ 32) (λ a. eqZ (opens S (v a) q .1) (floor (Y-of S q) 4096 +ℤ pos 1)) ≡ y * 2 ^ 20
+  slips = count-same (2 ^ 32) _ (λ a. leb 4096 (y + (a + b) % 2 ^ 32 % 4096)) gives-one-more ∙ slips-of-words y b (wrap-lt 12 (Y-of S q))
+
+-- ---- every order
+
+finishes : (S : Setting) (v : World) (cs : List Call) → Run 32 S cs v → Accepted 32 S (buffer-of v) → ((c : Call) (v′ : World) → Completes 32 S c v v′ → ⊥)
+    → (q : ℕ) → q < length (orders (S .job)) → Finished v q
+finishes S v cs r acc n q h =
+    let f = stuck-ended 32 S r acc n in
+    record { one = rw (f .one, orders-of 32 S) h; two = rw (f .two, orders-of 32 S) h }
+
+pub demand3 : Demand3
+demand3 =
+    record {
+      exact = λ S q v F e h. exact S q v F h e;
+      one-bit = λ S q v F e h. one-bit S q v F h e;
+      slips = λ S q v words F e h. slips S q v words F e h;
+      near-exact = λ S q v F e h. near-exact S q v F h e;
+      near-one-bit = λ S q v F e h. near-one-bit S q v F h e;
+      saturated = saturated;
+      finishes = finishes;
+    }

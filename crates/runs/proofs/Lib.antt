@@ -1,0 +1,15 @@
+pub mod Places
+pub mod Ties
+pub mod Refusals
+pub mod Kept
+pub mod Chain
+pub mod Opened
+pub mod Opening
+pub mod Progress
+pub mod Started
+pub mod Curves
+pub mod Family
+pub mod Demand3
+pub mod Demand1
+pub mod Counts
+pub mod Demand2

@@ -1,0 +1,191 @@
+-- Document 01, "Stepping": runs of a job, lists of preparation, starting and hearing with refused calls anywhere. Assumes nothing.
+use mathlib.Core.Path.{_≡_}
+use mathlib.Core.Logic.{_≢_, _⊎_}
+use mathlib.Core.List.{List, [], _∷_, _++_}
+use Prim.Native.Nat.{ℕ, _≤_, _<_}
+use lib.ListN.{getD, take, drop, length}
+use Rattle.shares.specs.Sharing.{Six, reconstruction}
+use Rattle.gates.specs.Steps.{Lane, at}
+use Rattle.gates.specs.Parties.{Pair}
+use Rattle.jobs.specs.Job.{job-fault, job-cost}
+use Rattle.parties.specs.Lent.{Lent, party-of}
+use Rattle.parties.specs.Calls.{State, Prepared, start-walk, start, found-of, hear-walk, hear, prepare-walk, prepare}
+use lib.IntN.{ℤ}
+
+-- "every call is lent the same job, table and lists": these, and the registers that the hosts are given, which open: host 0 has the masks r1 and r2,
+-- host 1 rm and r1, host 2 rm and r2
+pub record Setting : Type 0 where
+  pub job : List ℕ
+  pub table : List ℕ
+  pub A : List ℕ
+  pub B : List ℕ
+  pub rm : Lane
+  pub r1 : Lane
+  pub r2 : Lane
+  pub rm-sixteen : length rm ≡ 16
+  pub r1-sixteen : length r1 ≡ 16
+  pub r2-sixteen : length r2 ≡ 16
+
+-- ---- what the hosts hold
+
+-- a word spoken, with its place
+abbrev pub Spoken : Type 0
+Spoken = ℕ × ℕ × ℕ
+
+abbrev pub utter : State → ℕ → Spoken
+utter s w = (s .order, s .turn, w)
+
+abbrev pub Among : Spoken → List Spoken → Type 0
+Among p [] = ⊥
+Among p (q ∷ l) = (p ≡ q) ⊎ Among p l
+
+-- host 0: its masks; once it has prepared, its trail too, its masks as each order left them
+pub data Dealer : Type 0 where
+  idle : Pair → Dealer
+  ready : Pair → List Pair → Dealer
+
+-- host 1 or 2: what it holds (before its starting, registers with whatever place and kept words); once started, its trail and the words that it has spoken
+pub data Side : Type 0 where
+  waiting : State → Side
+  going : State → List Pair → List Spoken → Side
+
+-- the three hosts, and the buffer that the deals are written to
+pub data World : Type 0 where
+  world : Dealer → List ℕ → Side → Side → World
+
+abbrev pub registers : State → Pair
+registers s = (take 16 (s .m), take 16 (s .mask))
+
+-- "after a refused starting, with the place and kept words it held"
+abbrev pub with-registers : State → Pair → State
+with-registers s r = record { m = r .0 ++ drop 16 (s .m); mask = r .1 ++ drop 16 (s .mask); order = s .order; turn = s .turn }
+
+-- ---- refused calls, lent anything: what the host holds next is built from the call's answer
+
+module _ (w : ℕ) where
+  pub data Turned : State → State → Type 0 where
+    at-start : {s : State} (L : Lent) → start w L (registers s) .number ≢ 0 → Turned s (with-registers s (registers (start w L (registers s) .state)))
+    at-hearing : {s : State} (L : Lent) (v : ℕ) → hear w L s v .number ≢ 0 → Turned s (hear w L s v .state)
+
+  pub data Refuses : World → World → Type 0 where
+    -- a preparation, lent the run's buffer
+    dealer : {r : Pair} {buf : List ℕ} {one two : Side} (job table A B : List ℕ) → prepare w job table A B buf r .number ≢ 0
+        → Refuses (world (idle r) buf one two) (world (idle (prepare w job table A B buf r .masks)) (prepare w job table A B buf r .buffer) one two)
+    dealer-later : {r : Pair} {t : List Pair} {buf : List ℕ} {one two : Side} (job table A B : List ℕ) → prepare w job table A B buf r .number ≢ 0
+        → Refuses (world (ready r t) buf one two) (world (ready (prepare w job table A B buf r .masks) t) (prepare w job table A B buf r .buffer) one two)
+    -- or another buffer
+    dealer-elsewhere : {r : Pair} {buf : List ℕ} {one two : Side} (job table A B other : List ℕ) → prepare w job table A B other r .number ≢ 0
+        → Refuses (world (idle r) buf one two) (world (idle (prepare w job table A B other r .masks)) buf one two)
+    dealer-later-elsewhere : {r : Pair} {t : List Pair} {buf : List ℕ} {one two : Side} (job table A B other : List ℕ) → prepare w job table A B other r .number ≢ 0
+        → Refuses (world (ready r t) buf one two) (world (ready (prepare w job table A B other r .masks) t) buf one two)
+    one-waiting : {z : Dealer} {buf : List ℕ} {s s′ : State} {two : Side} → Turned s s′ → Refuses (world z buf (waiting s) two) (world z buf (waiting s′) two)
+    two-waiting : {z : Dealer} {buf : List ℕ} {s s′ : State} {one : Side} → Turned s s′ → Refuses (world z buf one (waiting s)) (world z buf one (waiting s′))
+    one-going : {z : Dealer} {buf : List ℕ} {s s′ : State} {t : List Pair} {said : List Spoken} {two : Side} → Turned s s′
+        → Refuses (world z buf (going s t said) two) (world z buf (going s′ t said) two)
+    two-going : {z : Dealer} {buf : List ℕ} {s s′ : State} {t : List Pair} {said : List Spoken} {one : Side} → Turned s s′
+        → Refuses (world z buf one (going s t said)) (world z buf one (going s′ t said))
+
+-- ---- calls that complete, of the run's own job
+
+-- the calls of a run; a hearing names the word
+pub data Call : Type 0 where
+  preparing starting1 starting2 turned-down : Call
+  hearing1 hearing2 : ℕ → Call
+
+module _ (w : ℕ) (S : Setting) where
+  abbrev pub lent1 : (D : List ℕ) → Lent
+  lent1 D = record { host = 1; job = S .job; table = S .table; masks = S .A; deals = D }
+
+  abbrev pub lent2 : (D : List ℕ) → Lent
+  lent2 D = record { host = 2; job = S .job; table = S .table; masks = S .B; deals = D }
+
+  -- D begins with the deals that the preparation wrote
+  abbrev pub Dealt : (buf D : List ℕ) → Type 0
+  Dealt buf D = take (job-cost w (S .job) (S .table) .deals) D ≡ take (job-cost w (S .job) (S .table) .deals) buf
+
+  abbrev pub preparation : List ℕ → Pair → Prepared
+  preparation buf r = prepare w (S .job) (S .table) (S .A) (S .B) buf r
+
+  -- a host after its starting, and after a hearing
+  abbrev pub started : Lent → State → Side
+  started L s = going (start w L (registers s) .state) (start-walk w L (registers s) .trail) (utter (start w L (registers s) .state) (start w L (registers s) .word) ∷ [])
+
+  abbrev pub stepped : Lent → State → (v : ℕ) → List Pair → List Spoken → Side
+  stepped L s v t said =
+      going (hear w L s v .state) (t ++ hear-walk (party-of L) s v (found-of w L s) .trail) (utter (hear w L s v .state) (hear w L s v .word) ∷ said)
+
+  pub data Completes : Call → World → World → Type 0 where
+    prepares : {r : Pair} {buf : List ℕ} {one two : Side} → preparation buf r .number ≡ 0
+        → Completes preparing (world (idle r) buf one two)
+        (world (ready (preparation buf r .masks) (prepare-walk w (S .job) (S .table) (S .A) (S .B) r .trail)) (preparation buf r .buffer) one two)
+    starts1 : {z : Dealer} {buf : List ℕ} {s : State} {two : Side} (D : List ℕ) → start w (lent1 D) (registers s) .number ≡ 0
+        → Completes starting1 (world z buf (waiting s) two) (world z buf (started (lent1 D) s) two)
+    -- "starting host 2 after the preparation"
+    starts2 : {r : Pair} {t₀ : List Pair} {buf : List ℕ} {s : State} {one : Side} (D : List ℕ) → Dealt buf D → start w (lent2 D) (registers s) .number ≡ 0
+        → Completes starting2 (world (ready r t₀) buf one (waiting s)) (world (ready r t₀) buf one (started (lent2 D) s))
+    -- "the word the other host spoke at that same place"
+    hears1 : {z : Dealer} {buf : List ℕ} {s s2 : State} {t t2 : List Pair} {said said2 : List Spoken} (D : List ℕ) (v : ℕ)
+        → Among (s .order, s .turn, v) said2 → hear w (lent1 D) s v .number ≡ 0
+        → Completes (hearing1 v) (world z buf (going s t said) (going s2 t2 said2)) (world z buf (stepped (lent1 D) s v t said) (going s2 t2 said2))
+    hears2 : {z : Dealer} {buf : List ℕ} {s s1 : State} {t t1 : List Pair} {said said1 : List Spoken} (D : List ℕ) → Dealt buf D → (v : ℕ)
+        → Among (s .order, s .turn, v) said1 → hear w (lent2 D) s v .number ≡ 0
+        → Completes (hearing2 v) (world z buf (going s1 t1 said1) (going s t said)) (world z buf (going s1 t1 said1) (stepped (lent2 D) s v t said))
+
+  -- a run and its calls, the last in front
+  pub data Run : List Call → World → Type 0 where
+    begin : {buf : List ℕ} {one two : State} → registers one ≡ (S .rm, S .r1) → registers two ≡ (S .rm, S .r2)
+        → Run [] (world (idle (S .r1, S .r2)) buf (waiting one) (waiting two))
+    complete : {cs : List Call} {c : Call} {v v′ : World} → Run cs v → Completes c v v′ → Run (c ∷ cs) v′
+    refuse : {cs : List Call} {v v′ : World} → Run cs v → Refuses w v v′ → Run (turned-down ∷ cs) v′
+
+-- ---- what a world shows
+
+abbrev pub trail0 : World → List Pair
+trail0 (world (idle r) buf one two) = []
+trail0 (world (ready r t) buf one two) = t
+
+abbrev pub side-trail : Side → List Pair
+side-trail (waiting s) = []
+side-trail (going s t said) = t
+
+abbrev pub side-order : Side → ℕ
+side-order (waiting s) = 0
+side-order (going s t said) = s .order
+
+abbrev pub trail1 : World → List Pair
+trail1 (world z buf one two) = side-trail one
+
+abbrev pub trail2 : World → List Pair
+trail2 (world z buf one two) = side-trail two
+
+-- the orders that host 1 and host 2 are past
+abbrev pub order1 : World → ℕ
+order1 (world z buf one two) = side-order one
+
+abbrev pub order2 : World → ℕ
+order2 (world z buf one two) = side-order two
+
+-- "An order is finished when both hosts' places are past it."
+pub record Finished (v : World) (q : ℕ) : Type 0 where
+  pub one : q < order1 v
+  pub two : q < order2 v
+
+-- the six words of slot i that three hosts hold in their lanes
+abbrev pub six : (p0 p1 p2 : Pair) → ℕ → Six
+six p0 p1 p2 i =
+    record { l1-of-0 = at (p0 .0) i; l2-of-0 = at (p0 .1) i; m-of-1 = at (p1 .0) i; l1-of-1 = at (p1 .1) i; m-of-2 = at (p2 .0) i; l2-of-2 = at (p2 .1) i }
+
+-- "What it opens is what opening gives on the three hosts' shares of its target as the order leaves them": slot i after order q
+unfoldable pub opened-after : (w : ℕ) → World → (q i : ℕ) → ℕ × ℤ
+opened-after w v q i = reconstruction w (six (getD (trail0 v) q ([], [])) (getD (trail1 v) q ([], [])) (getD (trail2 v) q ([], [])) i)
+
+-- the buffer of deals
+abbrev pub buffer-of : World → List ℕ
+buffer-of (world z buf one two) = buf
+
+-- a job accepted with its lists and a buffer for its deals
+pub record Accepted (w : ℕ) (S : Setting) (buffer : List ℕ) : Type 0 where
+  pub job : job-fault w (S .job) (S .table) .0 ≡ 0
+  pub a : job-cost w (S .job) (S .table) .a ≤ length (S .A)
+  pub b : job-cost w (S .job) (S .table) .b ≤ length (S .B)
+  pub deals : job-cost w (S .job) (S .table) .deals ≤ length buffer

@@ -1,0 +1,1 @@
+// Theorems about runs; the crate has no code.
