@@ -16,6 +16,7 @@ use Rattle.circuits.specs.Costs.{program-cost}
 use Rattle.circuits.proofs.Gates.{Fits}
 use Rattle.circuits.proofs.Points.{Point, after, afters}
 use Rattle.jobs.specs.Job.{orders, job-gates, steps-of}
+use Rattle.runs.proofs.Lists.{length-map}
 use Rattle.runs.specs.Runs.{Setting}
 use Rattle.runs.specs.Orders.{first-counts}
 use Rattle.runs.proofs.Places.{orders as ends}
@@ -145,10 +146,6 @@ orders-job : (w : ℕ) (os : List (List Gate)) → ends (job-steps w os) ≡ len
 unfolding ends job-steps
 orders-job w [] = refl
 orders-job w (o ∷ os) = orders-order w o (job-steps w os) ∙ ap suc (orders-job w os)
-
-length-map : {A B : Type 0} (f : A → B) (l : List A) → length (map f l) ≡ length l
-length-map f [] = refl
-length-map f (x ∷ l) = ap suc (length-map f l)
 
 pub orders-of : (w : ℕ) (S : Setting) → ends (steps-of w (S .job) (S .table)) ≡ length (orders (S .job))
 unfolding steps-of job-gates

@@ -16,7 +16,7 @@ use Rattle.jobs.specs.Job.{orders}
 use Rattle.jobs.proofs.Accepted.{curve-ruled}
 use Rattle.runs.specs.Runs.{Setting, World}
 use Rattle.runs.specs.Orders.{slot, before-order, order-at, refresh-mask}
-use Rattle.runs.specs.Demands.{reading, Y-of, opens, Finishes}
+use Rattle.runs.specs.Demand3.{reading, Y-of, opens, Finishes}
 use Rattle.runs.proofs.Opened.{trail-orders, order-good, order-leaves}
 use Rattle.runs.proofs.Opening.{finished-order, finished-opens}
 use Rattle.runs.proofs.Started.{Checked, past-checked}

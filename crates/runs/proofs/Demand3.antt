@@ -30,7 +30,7 @@ use Rattle.circuits.proofs.Calibration.{Promised, ranged, above}
 use Rattle.jobs.specs.Job.{orders, job-gates}
 use Rattle.runs.specs.Runs.{Setting, World, Call, Completes, Run, Finished, buffer-of, Accepted}
 use Rattle.runs.specs.Orders.{Words, order-at, counts-before, first-counts, refresh-mask}
-use Rattle.runs.specs.Demands.{reading, Y-of, Exact, OneBit, opens, Finishes, refresh-place, with-word, eqZ, Alike, Demand3}
+use Rattle.runs.specs.Demand3.{reading, Y-of, Exact, OneBit, opens, Finishes, refresh-place, with-word, eqZ, Alike, Demand3}
 use Rattle.runs.proofs.Curves.{in-job, checked, source-word, rules-kept, exact-opens, one-bit-opens}
 use Rattle.runs.proofs.Family.{place-needed, reading-same, mask-same}
 use Rattle.runs.proofs.Chain.{orders-of}

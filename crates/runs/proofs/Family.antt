@@ -24,7 +24,7 @@ use Rattle.circuits.proofs.Costs.{cost-after, end-cost}
 use Rattle.jobs.specs.Job.{orders, job-gates, steps-of, job-cost}
 use Rattle.runs.specs.Runs.{Setting}
 use Rattle.runs.specs.Orders.{Words, first, slot, before-order, order-at, counts-before, refresh-mask}
-use Rattle.runs.specs.Demands.{reading, OneBit, refresh-place, with-word}
+use Rattle.runs.specs.Demand3.{reading, OneBit, refresh-place, with-word}
 use Rattle.runs.proofs.Chain.{state-before, first-cost, used-within}
 use Rattle.runs.proofs.Opened.{G₀, gates-is, in-gates, before-is}
 

@@ -30,19 +30,11 @@ use Rattle.circuits.proofs.Opens.{new-mask, curve-mask, Sound, kind-opens, kind
 use Rattle.jobs.specs.Job.{orders, job-gates, steps-of, job-fault}
 use Rattle.jobs.proofs.Accepted.{Good, accepted-orders, exact-shift, curve-ruled}
 use Rattle.parties.specs.Calls.{fresh}
+use Rattle.runs.proofs.Lists.{getD-map, length-map}
 use Rattle.runs.specs.Runs.{Setting}
 use Rattle.runs.specs.Orders.{Words, first, trail, after-order, before-order, slot, order-at, first-counts, counts-before, refresh-mask}
 use Rattle.runs.proofs.Kept.{j₀-lengths}
 use Rattle.runs.proofs.Chain.{ended, points, job-trail, point-before, point-after, point-next}
-
-getD-map : {A B : Type 0} (f : A → B) (l : List A) (q : ℕ) (d : A) (e : B) → q < length l → getD (map f l) q e ≡ f (getD l q d)
-getD-map f [] q d e h = absurd (omega arith)
-getD-map f (x ∷ l) zero d e h = refl
-getD-map f (x ∷ l) (suc q) d e h = getD-map f l q d e (omega arith)
-
-length-map : {A B : Type 0} (f : A → B) (l : List A) → length (map f l) ≡ length l
-length-map f [] = refl
-length-map f (x ∷ l) = ap suc (length-map f l)
 
 fits-append : (w : ℕ) (l k : Lane) → Fits w l → Fits w k → Fits w (l ++ k)
 fits-append w [] k f g i = g i

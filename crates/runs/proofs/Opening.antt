@@ -1,7 +1,7 @@
 -- After every run: what opening gives on a finished order's shares, and that the words spoken are those defined at their places. Assumes nothing.
-use mathlib.Core.Path.{_≡_, refl}
-use mathlib.Core.List.{List, [], _∷_, _++_, map}
-use Prim.Native.Nat.{ℕ, zero, suc, _<_}
+use mathlib.Core.Path.{_≡_}
+use mathlib.Core.List.{List, [], _++_}
+use Prim.Native.Nat.{ℕ, _<_}
 use native.Mathlib.Nat.{not-suc-le-zero}
 use native.Mathlib.Omega.{arith}
 use lib.ListN.{getD, length, length-append, List·getD-append}
@@ -12,16 +12,12 @@ use Rattle.shares.proofs.RoundTrip.{share-opens}
 use Rattle.gates.specs.Steps.{Exchange, Cursor}
 use Rattle.gates.specs.Parties.{Pair, Triple, of0, of1, of2, act, joint1, joint2}
 use Rattle.parties.specs.Calls.{State}
+use Rattle.runs.proofs.Lists.{getD-map}
 use Rattle.runs.specs.Runs.{Setting, Spoken, World, Call, Run, order1, order2, Finished, opened-after}
 use Rattle.runs.specs.Orders.{first, trail, after-order, slot}
 use Rattle.runs.proofs.Places.{trail-pos, trail-length}
 use Rattle.runs.proofs.Ties.{joint, Tied}
 use Rattle.runs.proofs.Kept.{all, j₀, last, not-yet, dealt-all, wait1, go1, wait2, go2, Ok, ok, kept}
-
-getD-map : {A B : Type 0} (f : A → B) (l : List A) (q : ℕ) (d : A) (e : B) → q < length l → getD (map f l) q e ≡ f (getD l q d)
-getD-map f [] q d e h = absurd (omega arith)
-getD-map f (x ∷ l) zero d e h = refl
-getD-map f (x ∷ l) (suc q) d e h = getD-map f l q d e (omega arith)
 
 module _ (w : ℕ) (S : Setting) where
   -- a host's trail has the joint walk's lanes as order q left them

@@ -16,7 +16,7 @@ use Rattle.jobs.specs.Job.{orders, steps-of, job-cost}
 use Rattle.parties.specs.Calls.{State, start, hear}
 use Rattle.runs.specs.Runs.{Setting, Spoken, Among, Dealer, ready, Side, waiting, going, World, world, registers, Call, lent1, lent2, Dealt, preparation, Run, opened-after}
 use Rattle.runs.specs.Orders.{first, slot, after-order, before-order, order-at, refresh-mask}
-use Rattle.runs.specs.Demands.{opens, Finishes}
+use Rattle.runs.specs.Demand3.{opens, Finishes}
 
 -- the words that a host speaks on the joint walk, each at its place, and 0 at the end
 unfoldable pub defined-words : (A B : List ℕ) → (Exchange → Cursor → Triple → ℕ) → List Step → Cursor → Triple → List Spoken

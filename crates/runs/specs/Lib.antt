@@ -1,5 +1,5 @@
 pub mod Runs
 pub mod Orders
-pub mod Demands
+pub mod Demand3
 pub mod Demand1
 pub mod Demand2

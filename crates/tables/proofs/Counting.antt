@@ -9,7 +9,7 @@ use lib.Dec.{leb}
 use lib.Pow.{pow-add}
 use Rattle.words.specs.Words.{add}
 use Rattle.tables.specs.Count.{count}
-use Rattle.tables.proofs.Wrapping.{low-low}
+use Rattle.words.proofs.Truncation.{low-low}
 
 -- tests that agree below n
 same : (n : ℕ) (f g : ℕ → Bool) → ((a : ℕ) → a < n → f a ≡ g a) → count n f ≡ count n g

@@ -6,13 +6,14 @@ use native.Mathlib.Nat.{mod-lt, mod-add-mod, add-mod-mod, mod-eq-of-lt, zero-mul
 use native.Mathlib.Omega.{arith}
 use lib.IntN.{ℤ, pos, negsuc, negℤ, _+ℤ_, _-ℤ_, _*ℤ_, +ℤ-invr, +ℤ-one, -ℤ-one, zero-*ℤ, sucℤ-*ℤ, predℤ-*ℤ}
 use lib.Signed.{mag}
-use lib.Pow.{pow-pos, pow-add, mod-mod-pow}
+use lib.Pow.{pow-pos, pow-add}
 use lib.Arith.{digits-mod}
 use Rattle.words.specs.Words.{add, sub, neg, mul}
 use Rattle.words.specs.Signed.{signed, wrap}
 use Rattle.words.proofs.Solver.{_⊕_, _⊖_, _⊗_, `1, solve, neg-unique}
 use Rattle.words.proofs.Words.{Word, word-path, number-words, number-ring, sub-is}
 use Rattle.words.proofs.Integers.{le-or-lt, sub-ge, sub-below, sub-add}
+use Rattle.words.proofs.Truncation.{low-low}
 use Rattle.words.proofs.Signed.{wrap-lt, wrap-sub, wrap-signed}
 use Rattle.tables.proofs.Integers.{steps, up, down, up-down, minus}
 
@@ -78,12 +79,6 @@ mag-minus (negsuc n) zero = rw (sub-below 0 (suc n) (omega arith)) (omega arith)
 mag-minus (negsuc n) (suc r) = omega arith
 
 -- ---- the low bits of a word
-
--- the low k bits of the low w bits
-pub low-low : (w k n : ℕ) → k ≤ w → n % 2 ^ w % 2 ^ k ≡ n % 2 ^ k
-low-low w k n h =
-    let e : w - k + k ≡ w = omega arith in
-    rw e at (mod-mod-pow n (w - k) k)
 
 -- of the word of z they are the word of z, of fewer bits
 pub wrap-low : (w k : ℕ) (z : ℤ) → k ≤ w → wrap w z % 2 ^ k ≡ wrap k z

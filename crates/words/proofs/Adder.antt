@@ -2,11 +2,10 @@
 use mathlib.Core.Path.{_≡_, refl, sym, ap, _∙_}
 use mathlib.Core.Bool.{Bool, true, false, cond}
 use mathlib.Core.List.{List, [], _∷_}
-use mathlib.Core.Logic.{_⊎_, inl, inr, ⊎-elim, _↔_}
+use mathlib.Core.Logic.{⊎-elim, _↔_}
 use Prim.Native.Nat.{ℕ, zero, suc, _+_, _-_, _%_, _^_, _≤_, _<_, min}
 use native.Mathlib.Nat.{zero-min, min-zero}
 use native.Mathlib.Omega.{arith}
-use native.Mathlib.Decide.{decLt}
 use borrow.Author.Tests.{ltb-false}
 use lib.Dec.{ltb}
 use lib.Bits.{bitAnd, bitXor, differ}
@@ -14,6 +13,7 @@ use Rattle.words.specs.Words.{bit, shl, add}
 use Rattle.words.specs.Adder.{carry, update, doubled, distances, updates, run, carries, products, sign}
 use Rattle.words.proofs.Digits.{table}
 use Rattle.words.proofs.Bits.{bit-lt, bit-and, bit-xor, bit-mod, bit-shl-low, bit-shl-high}
+use Rattle.words.proofs.Integers.{le-or-lt}
 use Rattle.words.proofs.Carries.{carry-lt, carry-zero, carry-suc, carry-one, bit-add}
 
 -- composition of two windows, digit by digit
@@ -22,9 +22,6 @@ compose : (g p g' p' c : ℕ) → g < 2 → p < 2 → g' < 2 → p' < 2 → c < 
 compose g p g' p' c hg hp hg' hp' hc =
     table 5 (λ g p g' p' c. differ g (min p (differ g' (min p' c)))) (λ g p g' p' c. differ (differ g (min p g')) (min (min p p') c)) tt
     g hg p hp g' hg' p' hp' c hc
-
-le-or-lt : (a b : ℕ) → (a ≤ b) ⊎ (b < a)
-le-or-lt a b = elim (decLt b a) [ yes h ↦ inr h | no f ↦ inl (omega arith) ]
 
 -- G and P after a distance
 unfoldable spread : ℕ → ℕ → ℕ → ℕ → ℕ

@@ -6,6 +6,7 @@ use Prim.Native.Nat.{ℕ, zero, suc}
 use lib.Dec.{T, eqb, leb, ltb, eqb→eq}
 use lib.ListN.{getD}
 use Rattle.words.specs.Ring.{Ops, Ring}
+use Rattle.words.proofs.Digits.{both}
 
 -- ---- expressions and their normal form: a sorted list of signed monomials, each a sorted list of variables
 
@@ -93,12 +94,6 @@ norm (e ⊗ f) = mulP (norm e) (norm f)
 norm (⊝ e) = negP (norm e)
 norm `0 = []
 norm `1 = plus [] ∷ []
-
-both : (a b : Bool) → T (a && b) → T a × T b
-both true true t = (tt, tt)
-both true false t = absurd t
-both false true t = absurd t
-both false false t = absurd t
 
 eqM-eq : (m n : List ℕ) → T (eqM m n) → m ≡ n
 eqM-eq [] [] t = refl

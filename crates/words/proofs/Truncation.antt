@@ -103,7 +103,7 @@ slip-carry k x L = go (leb (2 ^ k) (x % 2 ^ k + L % 2 ^ k)) refl
     go false t = sym (div-eq-of-lt (leb-false _ _ t))
 
 -- the low k bits of the low v bits
-low-low : (v k n : ℕ) → k ≤ v → n % 2 ^ v % 2 ^ k ≡ n % 2 ^ k
+pub low-low : (v k n : ℕ) → k ≤ v → n % 2 ^ v % 2 ^ k ≡ n % 2 ^ k
 low-low v k n h =
     let e : v - k + k ≡ v = omega arith in
     rw e at (mod-mod-pow n (v - k) k)
