@@ -3,7 +3,6 @@
 ghost use mathlib.Core.Path.{_≡_};
 ghost use mathlib.Core.List.{[], _∷_};
 ghost use Prim.Native.Nat.{ℕ, _^_, _≤_, _<_};
-ghost use lib.ListN.{length};
 ghost use Rattle.gates.specs.declared.Gate.the-variants.{Mul, Refresh};
 ghost use Rattle.tables.specs.Table.{rows};
 ghost use Rattle.circuits.specs.Programs.{relu-program, one-bit-program, exact-program};
@@ -100,13 +99,10 @@ fn refreshed_place(n: usize, gate: usize, a: usize, deals: usize) -> Sought
 }
 
 // A row has 42 gates and 12 exchanges, and uses 26 words of A and 14 deals.
-// The places of a table of 2^32 words or more need not fit their type, and the rules allow only 32 words.
-fn curve_place(mode: u32, table: &[u32], n: usize) -> Sought
-    ensures { λ s. ⌜ (length (now (table .entry)) < 2 ^ 32 → (x d : ℕ) → s ≡ sought 32 (curve-program 32 x d (rows (now (table .entry))) mode) n 0 0 0) ⌝ }
+fn curve_place(mode: u32, table: &[u32], n: u32) -> Sought
+    ensures { λ s. ⌜ ((x d : ℕ) → s ≡ sought 32 (curve-program 32 x d (rows (now (table .entry))) mode) n 0 0 0) ⌝ }
 {
-    if 4294967296 <= table.len() {
-        return Sought::Nowhere;
-    }
+    let n = n as usize;
     let count = table.len() / 2;
     let row = n / 12;
     if row < count {
@@ -135,18 +131,20 @@ fn at_once(n: usize) -> Sought
     }
 }
 
-pub fn seek(o: Order, table: &[u32], n: usize) -> Sought
-    ensures { λ s. ⌜ (length (now (table .entry)) < 2 ^ 32 → s ≡ sought 32 (program 32 (rows (now (table .entry))) o) n 0 0 0) ⌝ }
+// A turn is a u32, so that a curve's place fits its type whatever the table's length.
+pub fn seek(o: Order, table: &[u32], turn: u32) -> Sought
+    ensures { λ s. ⌜ s ≡ sought 32 (program 32 (rows (now (table .entry))) o) turn 0 0 0 ⌝ }
 {
     let kind = o.kind;
     let c = o.fourth;
+    let n = turn as usize;
     match kind {
         4 => at_once(n),
         5 => at_once(n),
         7 => one_bit_place(n, 0, 0, 0),
         8 => exact_place(n, 0, 0, 0),
         9 => relu_place(n, 0, 0, 0),
-        10 => curve_place(c, table, n),
+        10 => curve_place(c, table, turn),
         _ => Sought::Nowhere,
     }
 }

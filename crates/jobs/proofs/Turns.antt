@@ -86,7 +86,7 @@ module _ (job table : List ℕ) where
   }
 
   module _ {i : ℕ} {sum : Counts} (g : Going job table i sum) {ruled : Bool} {n : ℕ} (t : Given job table ruled n) where
-    pub done : length job / 4 ≤ i → record { number = 0; index = 0; counts = counted sum } ≡ check-job 32 job table
+    pub done : length job / 4 ≤ i → record { accepted = true; number = 0; index = 0; counts = counted sum } ≡ check-job 32 job table
     unfolding orders-fault judged plus
     done h =
         let left = no-more job i h in

@@ -22,7 +22,7 @@ unfolding judged
 refusal-tells zero n i f k q e = (ap (λ (v : Verdict). v .number) e, λ z. sym (ap (λ (v : Verdict). v .counts) e))
 refusal-tells (suc p) n i f k q e = (ap (λ (v : Verdict). v .number) e ∙ q, λ z. absurd (omega arith))
 
-counts-tell : (p : ℕ) (f : Fault) (k c : Cost) → f .0 ≡ p → record { number = 0; index = 0; counts = c } ≡ judged p f k → (p ≡ 0) × (k ≡ c)
+counts-tell : (p : ℕ) (f : Fault) (k c : Cost) → f .0 ≡ p → record { accepted = true; number = 0; index = 0; counts = c } ≡ judged p f k → (p ≡ 0) × (k ≡ c)
 unfolding judged
 counts-tell zero f k c q e = (refl, sym (ap (λ (v : Verdict). v .counts) e))
 counts-tell (suc p) f k c q e = let z : 0 ≡ f .0 = ap (λ (v : Verdict). v .number) e in absurd (omega arith)
@@ -63,7 +63,7 @@ module _ (w : ℕ) (job table : List ℕ) (x : Which) (l : List ℕ) where
           (rw (enough, none), rw enough q)
       go (suc p) q h = (refl, q)
 
-  module _ (n m a b r : ℕ) (e : record { number = 0; index = 0; counts = cost-of n m a b } ≡ check-job w job table) (er : r ≡ need x (cost-of 0 0 a b)) where
+  module _ (n m a b r : ℕ) (e : record { accepted = true; number = 0; index = 0; counts = cost-of n m a b } ≡ check-job w job table) (er : r ≡ need x (cost-of 0 0 a b)) where
     told : (job-fault w job table .0 ≡ 0) × (need x (job-cost w job table) ≡ r)
     unfolding check-job
     told =

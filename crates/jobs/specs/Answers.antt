@@ -1,5 +1,5 @@
 -- The answers of checking a job and of asking for unused masks: whole, as functions of every input. Assumes nothing.
-use mathlib.Core.Bool.{Bool, cond}
+use mathlib.Core.Bool.{Bool, true, false, cond}
 use mathlib.Core.List.{List}
 use Prim.Native.Nat.{ℕ, zero, suc}
 use lib.ListN.{drop}
@@ -10,23 +10,24 @@ use Rattle.jobs.specs.declared.Which.{Which}
 use Rattle.jobs.specs.declared.Which.the-variants.{ListA, ListB}
 use Rattle.jobs.specs.Job.{Fault, job-fault, job-cost, short-a, short-b}
 
--- a number, 0 for none; the order's index; the counts, 0 where refused
+-- accepted or refused; a number, 0 for none; the order's index; the counts, 0 where refused
 pub record Verdict : Type 0 where
+  pub accepted : Bool
   pub number : ℕ
   pub index : ℕ
   pub counts : Cost
 
 abbrev pub refusal : Fault → Verdict
-refusal f = record { number = f .0; index = f .1; counts = cost-of 0 0 0 0 }
+refusal f = record { accepted = false; number = f .0; index = f .1; counts = cost-of 0 0 0 0 }
 
 -- the paper's number and values for each answer
 abbrev pub verdict : Checked → Verdict
-verdict (Accepted n m a b) = record { number = 0; index = 0; counts = cost-of n m a b }
+verdict (Accepted n m a b) = record { accepted = true; number = 0; index = 0; counts = cost-of n m a b }
 verdict (Refused n i) = refusal (n, i)
 
 -- by the number of a fault: 0 gives the counts
 unfoldable pub judged : ℕ → Fault → Cost → Verdict
-judged zero f k = record { number = 0; index = 0; counts = k }
+judged zero f k = record { accepted = true; number = 0; index = 0; counts = k }
 judged (suc n) f k = refusal f
 
 -- checking a job with its table

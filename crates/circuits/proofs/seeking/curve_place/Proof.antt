@@ -1,12 +1,8 @@
 use mathlib.Core.Path.{_∙_}
-use native.Mathlib.Omega.{arith}
 use borrow.Author.Needs.{needs}
 use Rattle.circuits.proofs.Places.{curve-row-place, exact-rest-place, refreshed-rest-place}
 use Rattle.circuits.proofs.seeking.curve_place.Statement.{statement}
 use Rattle.circuits.proofs.seeking.curve_place.Tie as tie
-
-returns : tie.Need-returns
-returns c = λ h x d. absurd (omega arith)
 
 mul-relu-place : tie.Need-mul-relu-place
 mul-relu-place c = search needs
@@ -23,11 +19,11 @@ mul-relu-place-3 c = search needs
 relu-place-requires : tie.Need-relu-place-requires
 relu-place-requires c κs = search needs
 
-returns-2 : tie.Need-returns-2
-returns-2 c =
-    λ h x d.
-    let s = c .before .before .before .before in
-    c .relu-place .ensures 21 23 ∙ curve-row-place x d (s .args .table .now) (s .args .mode) (s .args .n) (c .before .if2 .taken)
+returns : tie.Need-returns
+returns c =
+    λ x d.
+    let s = c .before .before .before in
+    c .relu-place .ensures 21 23 ∙ curve-row-place x d (s .args .table .now) (s .args .mode) (s .args .n) (c .before .if1 .taken)
 
 mul-rest : tie.Need-mul-rest
 mul-rest c = search needs
@@ -65,29 +61,28 @@ mul-refreshed-place-3 c = search needs
 refreshed-place-requires : tie.Need-refreshed-place-requires
 refreshed-place-requires c κs = search needs
 
+returns-2 : tie.Need-returns-2
+returns-2 c =
+    λ x d.
+    let s = c .before .before .before .before in
+    c .exact-place .ensures 12 22 d ∙ exact-rest-place x d (s .args .table .now) (s .args .mode) (s .args .n) (c .before .before .if1 .left) (c .before .if2 .taken)
+
 returns-3 : tie.Need-returns-3
 returns-3 c =
-    λ h x d.
-    let s = c .before .before .before .before .before in
-    c .exact-place .ensures 12 22 d ∙ exact-rest-place x d (s .args .table .now) (s .args .mode) (s .args .n) (c .before .before .if2 .left) (c .before .if3 .taken)
-
-returns-4 : tie.Need-returns-4
-returns-4 c =
-    λ h x d.
-    let s = c .before .before .before .before .before in
-    c .refreshed-place .ensures d ∙ refreshed-rest-place x d (s .args .table .now) (s .args .mode) (s .args .n) (c .before .before .if2 .left) (c .before .if3 .left)
+    λ x d.
+    let s = c .before .before .before .before in
+    c .refreshed-place .ensures d ∙ refreshed-rest-place x d (s .args .table .now) (s .args .mode) (s .args .n) (c .before .before .if1 .left) (c .before .if2 .left)
 
 pub curve-place-spec : {M : Type 1} → statement M
 curve-place-spec =
     tie.close
     (tie.spec
-    returns
     mul-relu-place
     add-relu-place
     mul-relu-place-2
     mul-relu-place-3
     relu-place-requires
-    returns-2
+    returns
     mul-rest
     sub-rest
     mul-exact-place
@@ -100,5 +95,5 @@ curve-place-spec =
     mul-refreshed-place-2
     mul-refreshed-place-3
     refreshed-place-requires
-    returns-3
-    returns-4)
+    returns-2
+    returns-3)
