@@ -1,11 +1,12 @@
 -- A list of words in fours: the order at an index, and the orders behind it. Assumes nothing.
-use mathlib.Core.Path.{_≡_, refl}
+use mathlib.Core.Path.{_≡_, refl, sym}
 use mathlib.Core.List.{List, [], _∷_}
 use Prim.Native.Nat.{ℕ, suc, _+_, _*_, _/_, _≤_, _<_}
 use native.Mathlib.Numerals.{towards-suc}
 use native.Mathlib.Omega.{arith}
-use lib.ListN.{length, getD, drop, length-drop}
+use lib.ListN.{length, getD, drop, length-drop, List·getD-eq-default}
 use lib.Seq.{drop-cons}
+use Rattle.circuits.specs.declared.Order.{Order}
 use Rattle.jobs.specs.Job.{orders}
 use Rattle.jobs.specs.Walk.{order-at}
 
@@ -34,3 +35,15 @@ module _ (ws : List ℕ) (i : ℕ) where
 
   pub no-more : length ws / 4 ≤ i → orders (drop (i * 4) ws) ≡ []
   no-more h = none (drop (i * 4) ws) (omega (arith, length-drop (i * 4) ws))
+
+  -- ---- the order at an index, word by word
+
+  pub words-of : {k d a c : ℕ} → k ≡ getD ws (i * 4) 0 → d ≡ getD ws (i * 4 + 1) 0 → a ≡ getD ws (i * 4 + 2) 0 → c ≡ getD ws (i * 4 + 3) 0
+      → record { kind = k; target = d; source = a; fourth = c } ≡ order-at ws i
+  words-of ek ed ea ec = rw (ek, ed, ea, ec)
+
+  past : (n : ℕ) → length ws ≤ n → 0 ≡ getD ws n 0
+  past n h = sym (List·getD-eq-default ws 0 {n = n} h)
+
+  pub past-end : length ws ≤ i → record { kind = 0; target = 0; source = 0; fourth = 0 } ≡ order-at ws i
+  past-end h = words-of (past (i * 4) (omega arith)) (past (i * 4 + 1) (omega arith)) (past (i * 4 + 2) (omega arith)) (past (i * 4 + 3) (omega arith))

@@ -2,13 +2,14 @@
 use mathlib.Core.List.{List, [], _∷_}
 use Prim.Native.Nat.{ℕ, zero, suc, _+_, _*_, _≤_}
 use lib.ListN.{getD}
+use Rattle.gates.specs.Steps.{at}
 use Rattle.gates.specs.Costs.{Cost, cost-of}
 use Rattle.circuits.specs.declared.Order.{Order}
 use Rattle.jobs.specs.declared.cost.Counts.{Counts}
 
--- the order at index i of a job's words
+-- the order at index i of a job's words; past the end stand zeros
 abbrev pub order-at : List ℕ → ℕ → Order
-order-at ws i = record { kind = getD ws (i * 4) 0; target = getD ws (i * 4 + 1) 0; source = getD ws (i * 4 + 2) 0; fourth = getD ws (i * 4 + 3) 0 }
+order-at ws i = record { kind = at ws (i * 4); target = at ws (i * 4 + 1); source = at ws (i * 4 + 2); fourth = at ws (i * 4 + 3) }
 
 -- ---- counts
 

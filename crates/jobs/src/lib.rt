@@ -1,8 +1,7 @@
 // Jobs: lists of orders, four words to an order. Checking a job with its table, and the part of a mask list that it leaves unused.
 ghost use mathlib.Core.Path.{_≡_};
 ghost use Rattle.jobs.specs.Job.{ill-sized};
-ghost use Prim.Native.Nat.{_+_, _*_, _≤_};
-ghost use lib.ListN.{length};
+ghost use Rattle.gates.specs.Steps.{at};
 ghost use Rattle.gates.specs.Costs.{cost-of};
 ghost use Rattle.jobs.specs.Walk.{order-at};
 ghost use Rattle.jobs.specs.Answers.{verdict, check-job, need, leftover-number, leftover-part};
@@ -52,16 +51,30 @@ fn ill_sized(job: &[u32]) -> bool
     n % 4 != 0
 }
 
-// The order at an index.
-fn order_at(job: &[u32], i: usize) -> Order
-    requires { ⌜ i * 4 + 4 ≤ length (now job) ⌝ }
+// A word of a list; past the end stands 0, as in the definitions.
+pub fn word_at(words: &[u32], i: usize) -> u32
+    ensures { λ r. ⌜ r ≡ at (now (words .entry)) i ⌝ }
+{
+    if i < words.len() { words[i] } else { 0 }
+}
+
+// The order at an index of a job.
+pub fn order_at(job: &[u32], i: usize) -> Order
     ensures { λ o. ⌜ o ≡ order-at (now (job .entry)) i ⌝ }
 {
-    let at = i * 4;
-    let kind = job[at];
-    let target = job[at + 1];
-    let source = job[at + 2];
-    let fourth = job[at + 3];
+    if job.len() <= i {
+        return Order {
+            kind: 0,
+            target: 0,
+            source: 0,
+            fourth: 0,
+        };
+    }
+    let first = i * 4;
+    let kind = word_at(job, first);
+    let target = word_at(job, first + 1);
+    let source = word_at(job, first + 2);
+    let fourth = word_at(job, first + 3);
     Order {
         kind,
         target,

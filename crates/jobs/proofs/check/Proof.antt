@@ -35,7 +35,7 @@ loop-holds c =
     (given _ _ (sym (s .before .ill-sized .ensures) ∙ s .if1 .left) (c .before .before .keeps-rules .ensures) (c .before .rows-of .ensures), starts _ _ _ (c .none .ensures))
 
 order-at-requires : tie.Need-order-at-requires Inv-loop μ-loop
-order-at-requires c κs = omega arith
+order-at-requires c κs = search needs
 
 order-fault-requires : tie.Need-order-fault-requires Inv-loop μ-loop
 order-fault-requires c κs = search needs

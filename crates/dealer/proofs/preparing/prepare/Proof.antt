@@ -1,0 +1,69 @@
+use mathlib.Core.Path.{sym, ap, _∙_}
+use native.Mathlib.Omega.{arith}
+use denote.Ref.{now}
+use Rattle.jobs.specs.Job.{Fault}
+use Rattle.dealer.proofs.Answers.{room-outset, refused, dealt-count, finished}
+use borrow.Author.Needs.{needs}
+use Rattle.dealer.proofs.preparing.prepare.Statement.{statement}
+use Rattle.dealer.proofs.preparing.prepare.Tie as tie
+
+find-fault-requires : tie.Need-find-fault-requires
+find-fault-requires c κs = search needs
+
+same-length : tie.Need-same-length
+same-length c = search needs
+
+returns : tie.Need-returns
+returns c =
+    let s = c .before .before .before .before .before .before .before .before .before .args in
+    refused 32 (now (s .job)) (now (s .table)) (now (s .a)) (now (s .b)) (now (s .deals)) (s .masks .l1, s .masks .l2) _ _ (c .before .before .find-fault .ensures .fault) (c .if1 .taken)
+
+fresh-requires : tie.Need-fresh-requires
+fresh-requires c κs = search needs
+
+fresh-requires-2 : tie.Need-fresh-requires-2
+fresh-requires-2 c κs = search needs
+
+deal-job-requires : tie.Need-deal-job-requires
+deal-job-requires c κs =
+    let s = c .before .before .before .before .before .before .before .before .before .before .before .before .before .before .before .before .args in
+    room-outset 32 (now (s .job)) (now (s .table)) (now (s .a)) (now (s .b)) (now (s .deals)) _ _ (sym (ap (λ (f : Fault). f .0) (c .before .before .before .before .before .before .before .before .before .find-fault .ensures .fault)) ∙ c .before .before .before .before .before .before .before .if1 .left)
+
+registers-requires : tie.Need-registers-requires
+registers-requires c κs = search needs
+
+registers-requires-2 : tie.Need-registers-requires-2
+registers-requires-2 c κs = search needs
+
+cast-t23 : tie.Need-cast-t23
+cast-t23 c =
+    let s = c .before .before .before .before .before .before .before .before .before .before .before .before .before .before .before .before .before .before .before .before .before .before .args in
+    let e = sym (ap (λ (f : Fault). f .0) (c .before .before .before .before .before .before .before .before .before .before .before .before .before .before .before .find-fault .ensures .fault)) ∙ c .before .before .before .before .before .before .before .before .before .before .before .before .before .if1 .left in
+    let n = dealt-count 32 (now (s .job)) (now (s .table)) (now (s .a)) (now (s .b)) (now (s .deals)) (s .masks .l1, s .masks .l2) _ _ _ e (c .before .before .before .before .before .before .before .before .before .before .fresh .ensures) (c .before .before .before .before .before .before .before .before .before .fresh2 .ensures) (c .before .before .before .before .before .deal-job .ensures) in
+    let k = c .before .before .before .before .before .before .before .before .before .before .before .before .before .before .before .find-fault .ensures .counted (c .before .before .before .before .before .before .before .before .before .before .before .before .before .if1 .left) in
+    omega (arith, n, k, c .before .before .before .before .before .before .before .before .before .before .before .before .before .before .before .find-fault .ok)
+
+same-length-2 : tie.Need-same-length-2
+same-length-2 c = search needs
+
+returns-2 : tie.Need-returns-2
+returns-2 c =
+    let s = c .before .before .before .before .before .before .before .before .before .before .before .before .before .before .before .before .before .before .before .before .before .before .args in
+    let e = sym (ap (λ (f : Fault). f .0) (c .before .before .before .before .before .before .before .before .before .before .before .before .before .before .before .find-fault .ensures .fault)) ∙ c .before .before .before .before .before .before .before .before .before .before .before .before .before .if1 .left in
+    finished 32 (now (s .job)) (now (s .table)) (now (s .a)) (now (s .b)) (now (s .deals)) (s .masks .l1, s .masks .l2) _ _ _ e (c .before .before .before .before .before .before .before .before .before .before .fresh .ensures) (c .before .before .before .before .before .before .before .before .before .fresh2 .ensures) (c .before .before .before .before .before .deal-job .ensures) _ _ (c .before .before .registers .ensures) (c .before .registers2 .ensures)
+
+pub prepare-spec : {M : Type 1} → statement M
+prepare-spec =
+    tie.close
+    (tie.spec
+    find-fault-requires
+    same-length
+    returns
+    fresh-requires
+    fresh-requires-2
+    deal-job-requires
+    registers-requires
+    registers-requires-2
+    cast-t23
+    same-length-2
+    returns-2)
