@@ -1,0 +1,130 @@
+-- Hearing at a product or refresh: the lanes, the cursor behind it, and the walk from there. Assumes nothing.
+use mathlib.Core.Path.{_≡_, refl, sym, ap, subst, _∙_}
+use mathlib.Core.List.{List, [], _∷_}
+use Prim.Native.Nat.{ℕ, suc, _+_, _/_, _≤_, _<_}
+use native.Mathlib.Numerals.{add-one}
+use native.Mathlib.Omega.{arith}
+use lib.ListN.{length, drop}
+use Rattle.tables.specs.Table.{rows}
+use Rattle.gates.specs.declared.Gate.{Gate}
+use Rattle.gates.specs.declared.Shape.{Shape}
+use Rattle.gates.specs.declared.Shape.the-variants.{Local, Dealing, Product, Refreshing}
+use Rattle.gates.specs.Steps.{Lane, product, refresh, Step, local, deal, exchange, end, new-at, past-deal, Cursor, past}
+use Rattle.gates.specs.Meaning.{meaning, order-steps, job-steps}
+use Rattle.gates.specs.Walk.{Exchanging}
+use Rattle.gates.specs.Parties.{Pair}
+use Rattle.gates.specs.Speech.{shape}
+use Rattle.circuits.specs.declared.Order.{Order}
+use Rattle.circuits.specs.declared.Fetched.{Fetched}
+use Rattle.circuits.specs.declared.Fetched.the-variants.{At, Past}
+use Rattle.circuits.specs.Fetch.{fetched}
+use Rattle.circuits.specs.Orders.{program}
+use Rattle.jobs.specs.Job.{job-gates}
+use Rattle.parties.specs.Lent.{Party}
+use Rattle.parties.specs.Places.{found}
+use Rattle.parties.specs.Calls.{State, report, hear-walk}
+use Rattle.jobs.specs.Walk.{order-at}
+use Rattle.hosts.specs.Walks.{cursor, host-of, heard-at, reported, steps-from, Standing}
+use Rattle.hosts.proofs.Walking.{at-gate}
+use Rattle.hosts.proofs.Shapes.{heard-as}
+use Rattle.hosts.proofs.Advancing.{word-any}
+use Rattle.hosts.proofs.Jobs.{gates-drop}
+
+-- ---- the cursor behind a gate
+
+abbrev pub a-by : Shape → ℕ → ℕ
+a-by Local a = a
+a-by (Dealing d) a = a + 1
+a-by (Product d) a = a + 2
+a-by (Refreshing d) a = a + 1
+
+abbrev pub k-by : Shape → ℕ → ℕ
+k-by Local k = k
+k-by (Dealing d) k = k + 1
+k-by (Product d) k = k + 1
+k-by (Refreshing d) k = k
+
+past-by : (y : Step) (a k : ℕ) → (a-by (shape y) a ≡ past y (cursor 0 0 a 0 k) .a) × (k-by (shape y) k ≡ past y (cursor 0 0 a 0 k) .k)
+unfolding shape past new-at past-deal
+past-by (local d m l) a k = (refl, refl)
+past-by (deal d f) a k = (omega arith, omega arith)
+past-by (exchange d (product O p q)) a k = (omega arith, omega arith)
+past-by (exchange d (refresh O p)) a k = (omega arith, refl)
+past-by end a k = (refl, refl)
+
+pub behind-is : (y : Step) (a k : ℕ) (sh t : Shape) → sh ≡ shape y → sh ≡ t → (a-by t a ≡ past y (cursor 0 0 a 0 k) .a) × (k-by t k ≡ past y (cursor 0 0 a 0 k) .k)
+behind-is y a k sh t e p =
+    subst (λ (z : Shape). (a-by z a ≡ past y (cursor 0 0 a 0 k) .a) × (k-by z k ≡ past y (cursor 0 0 a 0 k) .k)) (sym e ∙ p) (past-by y a k)
+
+pub past-few : (y : Step) (a k : ℕ) → (past y (cursor 0 0 a 0 k) .a ≤ a + 2) × (past y (cursor 0 0 a 0 k) .k ≤ k + 1)
+unfolding past new-at past-deal
+past-few (local d m l) a k = (omega arith, omega arith)
+past-few (deal d f) a k = (omega arith, omega arith)
+past-few (exchange d (product O p q)) a k = (omega arith, omega arith)
+past-few (exchange d (refresh O p)) a k = (omega arith, omega arith)
+past-few end a k = (omega arith, omega arith)
+
+past-exchange : (y : Step) → Exchanging (y ∷ []) → (o x a b k : ℕ)
+    → past y (cursor o x a b k) ≡ cursor o (suc x) (past y (cursor 0 0 a 0 k) .a) (suc b) (past y (cursor 0 0 a 0 k) .k)
+unfolding past
+past-exchange (local d m l) h o x a b k = absurd h
+past-exchange (deal d f) h o x a b k = absurd h
+past-exchange (exchange d e) h o x a b k = refl
+past-exchange end h o x a b k = absurd h
+
+-- ---- the walk from there
+
+-- the lanes do not depend on the place
+heard-any : (h : ℕ) (M D : List ℕ) (y : Step) (o x a b k : ℕ) (s : Pair) (v : ℕ)
+    → heard-at (host-of h M D) y (cursor o x a b k) s v ≡ heard-at (host-of h M D) y (cursor 0 0 a b k) s v
+heard-any h M D y o x a b k s v =
+    heard-as M D o x a b k s h y _ v (word-any h M D y o x a b k s) ∙ sym (heard-as M D 0 0 a b k s h y _ v refl)
+
+walk-on : (P : Party) (s : State) (v : ℕ) (y : Step) (ss : List Step) (c : Cursor) → Exchanging (y ∷ [])
+    → report P (hear-walk P s v (found (y ∷ ss) c)) ≡ reported P ss (past y c) (heard-at P y c (s .m, s .mask) v)
+unfolding hear-walk reported heard-at
+walk-on P s v (local d m l) ss c h = absurd h
+walk-on P s v (deal d f) ss c h = absurd h
+walk-on P s v (exchange d e) ss c h = refl
+walk-on P s v end ss c h = absurd h
+
+module _ (h : ℕ) (J T M D : List ℕ) (o i : ℕ) (e : o < length J / 4) (g : Gate) (eg : fetched (program 32 (rows T) (order-at J o)) i ≡ At g) where
+  -- the steps from the gate g on
+  pub steps-there : steps-from 32 i (drop o (job-gates 32 J T)) ≡ meaning 32 g ∷ order-steps 32 (drop (suc i) (program 32 (rows T) (order-at J o))) (job-steps 32 (drop (suc o) (job-gates 32 J T)))
+  unfolding steps-from
+  steps-there = rw (gates-drop 32 J T o e) (at-gate 32 (program 32 (rows T) (order-at J o)) i g (job-steps 32 (drop (suc o) (job-gates 32 J T))) eg)
+
+  pub steps-at : steps-from 32 i (drop o (job-gates 32 J T)) ≡ meaning 32 g ∷ steps-from 32 (i + 1) (drop o (job-gates 32 J T))
+  unfolding steps-from
+  steps-at = rw (gates-drop 32 J T o e, add-one i) (at-gate 32 (program 32 (rows T) (order-at J o)) i g (job-steps 32 (drop (suc o) (job-gates 32 J T))) eg)
+
+  pub resumed : Exchanging (meaning 32 g ∷ []) → (s : State) (v a b k i′ a′ k′ : ℕ) (m l : Lane)
+      → (m, l) ≡ heard-at (host-of h M D) (meaning 32 g) (cursor 0 0 a b k) (s .m, s .mask) v
+      → i′ ≡ i + 1 → a′ ≡ past (meaning 32 g) (cursor 0 0 a 0 k) .a → k′ ≡ past (meaning 32 g) (cursor 0 0 a 0 k) .k
+      → reported (host-of h M D) (steps-from 32 i′ (drop o (job-gates 32 J T))) (cursor o (s .turn + 1) a′ (b + 1) k′) (m, l)
+      ≡ report (host-of h M D) (hear-walk (host-of h M D) s v (found (steps-from 32 i (drop o (job-gates 32 J T))) (cursor o (s .turn) a b k)))
+  resumed w s v a b k i′ a′ k′ m l em ei ea ek =
+      let y = meaning 32 g in
+      let c : past y (cursor o (s .turn) a b k) ≡ cursor o (s .turn + 1) a′ (b + 1) k′ = rw (add-one (s .turn), add-one b, ea, ek) (past-exchange y w o (s .turn) a b k) in
+      ap (λ (n : ℕ). reported (host-of h M D) (steps-from 32 n (drop o (job-gates 32 J T))) (cursor o (s .turn + 1) a′ (b + 1) k′) (m, l)) ei
+      ∙ sym
+      (ap (λ (ss : List Step). report (host-of h M D) (hear-walk (host-of h M D) s v (found ss (cursor o (s .turn) a b k)))) steps-at
+      ∙ walk-on (host-of h M D) s v y (steps-from 32 (i + 1) (drop o (job-gates 32 J T))) (cursor o (s .turn) a b k) w
+      ∙ ap (λ (z : Cursor). reported (host-of h M D) (steps-from 32 (i + 1) (drop o (job-gates 32 J T))) z (heard-at (host-of h M D) y (cursor o (s .turn) a b k) (s .m, s .mask) v)) c
+      ∙ ap (λ (z : Pair). reported (host-of h M D) (steps-from 32 (i + 1) (drop o (job-gates 32 J T))) (cursor o (s .turn + 1) a′ (b + 1) k′) z) (heard-any h M D y o (s .turn) a b k (s .m, s .mask) v ∙ sym em))
+
+-- the gate that the code fetched is the one where the state stands
+module _ (J T : List ℕ) (o i : ℕ) (S : Standing J T o i) (ord : Order) (eo : ord ≡ order-at J o) (f : Fetched) (ef : f ≡ fetched (program 32 (rows T) ord) i) where
+  same-fetch : f ≡ fetched (program 32 (rows T) (order-at J o)) i
+  same-fetch = ef ∙ ap (λ (z : Order). fetched (program 32 (rows T) z) i) eo
+
+  pub not-past : {A : Type 0} → f ≡ Past → A
+  not-past p = let z : _≡_ {A = ℕ} 0 1 = cc (same-fetch, S .there) in absurd (omega arith)
+
+  pub fetched-there : (g : Gate) → f ≡ At g → fetched (program 32 (rows T) (order-at J o)) i ≡ At g
+  fetched-there g p = sym same-fetch ∙ p
+
+  pub speaks-there : (g : Gate) → f ≡ At g → Exchanging (meaning 32 g ∷ [])
+  speaks-there g p =
+      let e : S .held ≡ g = cc (same-fetch, S .there) in
+      subst (λ (z : Gate). Exchanging (meaning 32 z ∷ [])) e (S .speaks)

@@ -1,0 +1,134 @@
+-- The answer of a walk, step by step: it does not depend on the trail, and each gate of an order takes it on. Assumes nothing.
+use mathlib.Core.Path.{_≡_, refl, ap, _∙_}
+use mathlib.Core.Bool.{Bool, true, false, cond}
+use mathlib.Core.List.{List, [], _∷_, _++_}
+use Prim.Native.Nat.{ℕ, zero, suc, _<_}
+use native.Mathlib.Omega.{arith}
+use lib.Dec.{eqb}
+use lib.ListN.{length, drop}
+use Rattle.gates.specs.declared.Gate.{Gate}
+use Rattle.gates.specs.declared.Gate.the-variants.{Add, Sub, Xor, Mul, And, Refresh, Scale, Plus, Up, Bit, Const, Public, Deal, DealBits}
+use Rattle.gates.specs.declared.Shape.the-variants.{Local, Dealing}
+use Rattle.gates.specs.Steps.{at, product, refresh, Step, local, deal, exchange, end, Cursor, past}
+use Rattle.gates.specs.Meaning.{meaning, order-steps}
+use Rattle.gates.specs.Walk.{walk, Exchanging}
+use Rattle.gates.specs.Parties.{Pair, on-m, on-mask, act1, act2}
+use Rattle.gates.specs.Speech.{shape}
+use Rattle.circuits.specs.declared.Fetched.the-variants.{At, Past}
+use Rattle.circuits.specs.Fetch.{fetched}
+use Rattle.parties.specs.Lent.{Party, party1, party2, party-of}
+use Rattle.parties.specs.Calls.{word-at, spoken-at, report}
+use Rattle.hosts.specs.Walks.{cursor, host-of, deal-taken, reported}
+
+-- ---- the trail
+
+pub trail-free : (P : Party) (ss : List Step) (c : Cursor) (s : Pair) (t u : List Pair)
+    → report P (walk (P .act) ss c s t) ≡ report P (walk (P .act) ss c s u)
+unfolding walk
+trail-free P [] c s t u = refl
+trail-free P (local d m l ∷ ss) c s t u = trail-free P ss _ _ t u
+trail-free P (deal d f ∷ ss) c s t u = trail-free P ss _ _ t u
+trail-free P (exchange d e ∷ ss) c s t u = refl
+trail-free P (end ∷ ss) c s t u = trail-free P ss _ _ (t ++ (s ∷ [])) (u ++ (s ∷ []))
+
+-- ---- a step
+
+-- a step that a gate gives: every one but `end`
+abbrev pub OfGate : Step → Type 0
+OfGate (local d m l) = Unit
+OfGate (deal d f) = Unit
+OfGate (exchange d e) = Unit
+OfGate end = ⊥
+
+pub of-gate : (w : ℕ) (g : Gate) → OfGate (meaning w g)
+unfolding meaning
+of-gate w (Add d a b) = tt
+of-gate w (Sub d a b) = tt
+of-gate w (Xor d a b) = tt
+of-gate w (Mul d a b) = tt
+of-gate w (And d a b) = tt
+of-gate w (Refresh d a) = tt
+of-gate w (Scale d a n) = tt
+of-gate w (Plus d a n) = tt
+of-gate w (Up d a n) = tt
+of-gate w (Bit d a n) = tt
+of-gate w (Const d n) = tt
+of-gate w (Public d a f) = tt
+of-gate w (Deal d a f) = tt
+of-gate w (DealBits d a) = tt
+
+pub never : {S : Type 0} → _≡_ {A = ℕ} 0 1 → S
+never e = absurd (omega arith)
+
+module _ (P : Party) (ss : List Step) (o x a b k : ℕ) (s : Pair) where
+  pub passes-local : (y : Step) → OfGate y → shape y ≡ Local → reported P (y ∷ ss) (cursor o x a b k) s ≡ reported P ss (cursor o x a b k) (P .act y (cursor o x a b k) s)
+  unfolding reported walk past shape
+  passes-local (local d m l) g e = refl
+  passes-local (deal d f) g e = never (cc)
+  passes-local (exchange d (product O p q)) g e = never (cc)
+  passes-local (exchange d (refresh O p)) g e = never (cc)
+  passes-local end g e = absurd g
+
+  pub passes-deal : (y : Step) (d : ℕ) → shape y ≡ Dealing d
+      → reported P (y ∷ ss) (cursor o x a b k) s ≡ reported P ss (cursor o x (suc a) b (suc k)) (P .act y (cursor o x a b k) s)
+  unfolding reported walk past shape
+  passes-deal (local d m l) d′ e = never (cc)
+  passes-deal (deal d f) d′ e = refl
+  passes-deal (exchange d (product O p q)) d′ e = never (cc)
+  passes-deal (exchange d (refresh O p)) d′ e = never (cc)
+  passes-deal end d′ e = never (cc)
+
+  pub passes-end : (act-end : P .act end (cursor o x a b k) s ≡ s) → reported P (end ∷ ss) (cursor o x a b k) s ≡ reported P ss (cursor (suc o) 0 a b k) s
+  unfolding reported walk past
+  passes-end e = trail-free P ss _ _ _ [] ∙ ap (λ (z : Pair). report P (walk (P .act) ss (cursor (suc o) 0 a b k) z [])) e
+
+  -- the answer at a product or refresh
+  pub stops : (y : Step) → Exchanging (y ∷ [])
+      → reported P (y ∷ ss) (cursor o x a b k) s
+      ≡ record { number = 0; index = 0; spoken = suc b; word = word-at (P .say) (y ∷ []) (cursor o x a b k) s; state = record { m = s .0; mask = s .1; order = o; turn = x } }
+  unfolding reported walk word-at spoken-at
+  stops (local d m l) h = absurd h
+  stops (deal d f) h = absurd h
+  stops (exchange d e) h = refl
+  stops end h = absurd h
+
+  pub ends : reported P [] (cursor o x a b k) s ≡ record { number = 0; index = 0; spoken = b; word = 0; state = record { m = s .0; mask = s .1; order = o; turn = x } }
+  unfolding reported walk word-at spoken-at
+  ends = refl
+
+-- ---- a gate of an order
+
+pub at-gate : (w : ℕ) (gs : List Gate) (i : ℕ) (g : Gate) (ss : List Step) → fetched gs i ≡ At g
+    → order-steps w (drop i gs) ss ≡ meaning w g ∷ order-steps w (drop (suc i) gs) ss
+unfolding fetched order-steps
+at-gate w [] i g ss e = never (cc)
+at-gate w (h ∷ gs) zero g ss e = ap (λ (y : Gate). meaning w y ∷ order-steps w gs ss) (cc)
+at-gate w (h ∷ gs) (suc i) g ss e = at-gate w gs i g ss e
+
+pub past-gates : (w : ℕ) (gs : List Gate) (i : ℕ) (ss : List Step) → fetched gs i ≡ Past → order-steps w (drop i gs) ss ≡ end ∷ ss
+unfolding fetched order-steps
+past-gates w [] zero ss e = refl
+past-gates w [] (suc i) ss e = refl
+past-gates w (h ∷ gs) zero ss e = never (cc)
+past-gates w (h ∷ gs) (suc i) ss e = past-gates w gs i ss e
+
+pub inside : (gs : List Gate) (i : ℕ) (g : Gate) → fetched gs i ≡ At g → i < length gs
+unfolding fetched
+inside [] i g e = never (cc)
+inside (h ∷ gs) zero g e = omega arith
+inside (h ∷ gs) (suc i) g e = let k : i < length gs = inside gs i g e in omega arith
+
+-- ---- what a host does at a step
+
+pub acts : (h : ℕ) (M D : List ℕ) (y : Step) (c : Cursor) (s : Pair)
+    → host-of h M D .act y c s ≡ (on-m y (s .0), on-mask y (deal-taken h M D (c .a) (c .k)) (s .1))
+unfolding host-of party-of deal-taken act1 act2
+acts h M D y c s = go (eqb h 1)
+  where
+    go : (b : Bool) → cond {A = Party} b (party1 M) (party2 M D) .act y c s ≡ (on-m y (s .0), on-mask y (cond b (at M (c .a)) (at D (c .k))) (s .1))
+    go true = refl
+    go false = refl
+
+pub acts-end : (h : ℕ) (M D : List ℕ) (c : Cursor) (s : Pair) → host-of h M D .act end c s ≡ s
+unfolding on-m on-mask
+acts-end h M D c s = acts h M D end c s

@@ -1,0 +1,170 @@
+// Hearing: the place of a state is found, its own word worked out again, and the walk goes on with both.
+ghost use mathlib.Core.Path.{_≡_};
+ghost use mathlib.Core.Bool.{_&&_, cond};
+ghost use Prim.Native.Nat.{_*_, _+_, _^_, _≤_, _<_};
+ghost use lib.Dec.{eqb};
+ghost use lib.ListN.{length, take, drop};
+ghost use Rattle.gates.specs.Steps.{past};
+ghost use Rattle.gates.specs.Meaning.{meaning};
+ghost use Rattle.jobs.specs.Job.{job-gates};
+ghost use Rattle.jobs.specs.Answers.{check-job};
+ghost use Rattle.parties.specs.Places.{found};
+ghost use Rattle.parties.specs.Calls as Calls;
+ghost use Rattle.hosts.specs.Answers.{answer-of, state-of, lent};
+ghost use Rattle.hosts.specs.Walks.{cursor, host-of, steps-from, Sized, Standing};
+use crate::Answer;
+use crate::State;
+use crate::answering::refused;
+use crate::lending::check_lent;
+use crate::speaking::Reach;
+use crate::speaking::meet;
+use crate::walk::advance;
+use circuits::Fetched;
+use circuits::Sought;
+use circuits::fetch;
+use circuits::seek;
+use gates::Gate;
+use gates::Shape;
+use gates::shape_of;
+use jobs::Checked;
+use jobs::order_at;
+
+// Words used of A and B, and deals.
+pub struct Used {
+    pub a: usize,
+    pub b: usize,
+    pub k: usize,
+}
+
+// What the orders before one use: a job that ends there has these counts, and one without orders, which is refused, has none.
+fn used_before(job: &[u32], table: &[u32], order: usize) -> Used
+    requires { ⌜ order * 4 ≤ length (now job) ⌝ }
+    ensures { λ r. ⌜ (r .a ≡ check-job 32 (take (order * 4) (now (job .entry))) (now (table .entry)) .counts .a) × (r .b ≡ check-job 32 (take (order * 4) (now (job .entry))) (now (table .entry)) .counts .b) × (r .k ≡ check-job 32 (take (order * 4) (now (job .entry))) (now (table .entry)) .counts .deals) ⌝ }
+{
+    let end = order * 4;
+    match jobs::check(&job[..end], table) {
+        Checked::Accepted {
+            deals,
+            words: _,
+            a,
+            b,
+        } => Used {
+            a: a as usize,
+            b: b as usize,
+            k: deals as usize,
+        },
+        Checked::Refused {
+            number: _,
+            index: _,
+        } => Used { a: 0, b: 0, k: 0 },
+    }
+}
+
+// Conditions 8 and 9 past the last order: the end is the number of orders and 0.
+fn end_fault(order: usize, n: usize, turn: u32) -> u32
+    ensures { λ r. ⌜ r ≡ cond (eqb order n && eqb turn 0) 9 8 ⌝ }
+{
+    if order == n {
+        if turn == 0 {
+            return 9;
+        }
+        return 8;
+    }
+    8
+}
+
+// Behind a product or refresh: a product takes g1 and a deal besides.
+fn behind(g: Gate, at: Reach) -> Reach
+    requires { ⌜ (at .gate < 2 ^ 40) × (at .a < 2 ^ 40) × (at .k < 2 ^ 40) ⌝ }
+    ensures { λ r. ⌜ (r .gate ≡ at .gate + 1) × (r .a ≡ past (meaning 32 g) (cursor 0 0 (at .a) 0 (at .k)) .a) × (r .k ≡ past (meaning 32 g) (cursor 0 0 (at .a) 0 (at .k)) .k) ⌝ }
+{
+    let gate = at.gate + 1;
+    let a = at.a;
+    let k = at.k;
+    match shape_of(g) {
+        Shape::Product { d: _ } => Reach {
+            gate,
+            a: a + 2,
+            k: k + 1,
+        },
+        Shape::Refreshing { d: _ } => Reach { gate, a: a + 1, k },
+        Shape::Dealing { d: _ } => Reach {
+            gate,
+            a: a + 1,
+            k: k + 1,
+        },
+        Shape::Local => Reach { gate, a, k },
+    }
+}
+
+// The other's word is heard at the product or refresh where the state stands, with b words spoken before it.
+fn resume(
+    host: u32,
+    job: &[u32],
+    table: &[u32],
+    masks: &[u32],
+    deals: &[u32],
+    s: State,
+    heard: u32,
+    at: Reach,
+    b: usize,
+) -> Answer
+    requires { ⌜ Sized (now job) (now table) × Standing (now job) (now table) (s .order) (at .gate) × (at .gate < 1000) × (s .turn < 1000) × (at .a < 2 ^ 30) × (at .k < 2 ^ 30) × (b < 2 ^ 30) ⌝ }
+    ensures { λ r. ⌜ answer-of r ≡ Calls.report (host-of host (now (masks .entry)) (now (deals .entry))) (Calls.hear-walk (host-of host (now (masks .entry)) (now (deals .entry))) (state-of s) heard (found (steps-from 32 (at .gate) (drop (s .order) (job-gates 32 (now (job .entry)) (now (table .entry))))) (cursor (s .order) (s .turn) (at .a) b (at .k)))) ⌝ }
+{
+    let order = s.order;
+    let turn = s.turn + 1;
+    // The state stands at a gate, so that there is always one.
+    let Fetched::At { gate: g } = fetch(order_at(job, order as usize), table, at.gate) else {
+        return refused(8, 0, s);
+    };
+    let mut m = s.m;
+    let mut mask = s.mask;
+    meet(host, g, masks, deals, at, b, heard, &mut m, &mut mask);
+    let next = State {
+        m,
+        mask,
+        order,
+        turn,
+    };
+    advance(host, job, table, masks, deals, next, behind(g, at), b + 1)
+}
+
+impl State {
+    // Checks 1 to 7 come first, then 8 and 9; a refusal gives the state back.
+    pub fn hear(
+        self,
+        host: u32,
+        job: &[u32],
+        table: &[u32],
+        masks: &[u32],
+        deals: &[u32],
+        heard: u32,
+    ) -> Answer
+        ensures { λ r. ⌜ answer-of r ≡ Calls.hear 32 (lent host (now (job .entry)) (now (table .entry)) (now (masks .entry)) (now (deals .entry))) (state-of self) heard ⌝ }
+    {
+        let s = self;
+        let fault = check_lent(host, job, table, masks, deals);
+        if fault.number != 0 {
+            return refused(fault.number, fault.index, s);
+        }
+        let order = s.order as usize;
+        let turn = s.turn as usize;
+        let n = job.len() / 4;
+        if n <= order {
+            return refused(end_fault(order, n, s.turn), 0, s);
+        }
+        match seek(order_at(job, order), table, s.turn) {
+            Sought::Nowhere => refused(8, 0, s),
+            Sought::Found { gate, a, deals: k } => {
+                let used = used_before(job, table, order);
+                let at = Reach {
+                    gate,
+                    a: used.a + a,
+                    k: used.k + k,
+                };
+                resume(host, job, table, masks, deals, s, heard, at, used.b + turn)
+            }
+        }
+    }
+}

@@ -1,0 +1,57 @@
+// Starting host 1 or 2: from its registers to the first product or refresh, or to the end.
+ghost use mathlib.Core.Path.{_≡_};
+ghost use Rattle.parties.specs.Calls as Calls;
+ghost use Rattle.hosts.specs.Answers.{answer-of, lanes-of, lent};
+use crate::Answer;
+use crate::Registers;
+use crate::State;
+use crate::answering::refused;
+use crate::lending::check_lent;
+use crate::speaking::Reach;
+use crate::walk::advance;
+
+// Sixteen registers, and kept words that are 0.
+fn fresh(r: [u32; 16]) -> [u32; 24]
+    ensures { λ l. ⌜ l ≡ Calls.fresh r ⌝ }
+{
+    let mut lane = [0u32; 24];
+    let mut i = 0;
+    while i < 16 {
+        lane[i] = r[i];
+        i += 1;
+    }
+    lane
+}
+
+// Checks 1 to 7 come first, and a refusal gives the registers back.
+pub fn start(
+    host: u32,
+    job: &[u32],
+    table: &[u32],
+    masks: &[u32],
+    deals: &[u32],
+    registers: Registers,
+) -> Answer
+    ensures { λ r. ⌜ answer-of r ≡ Calls.start 32 (lent host (now (job .entry)) (now (table .entry)) (now (masks .entry)) (now (deals .entry))) (lanes-of registers) ⌝ }
+{
+    let m = registers.m;
+    let mask = registers.mask;
+    let fresh_m = fresh(m);
+    let fresh_mask = fresh(mask);
+    let s = State {
+        m: fresh_m,
+        mask: fresh_mask,
+        order: 0,
+        turn: 0,
+    };
+    let fault = check_lent(host, job, table, masks, deals);
+    if fault.number != 0 {
+        return refused(fault.number, fault.index, s);
+    }
+    let from = Reach {
+        gate: 0,
+        a: 0,
+        k: 0,
+    };
+    advance(host, job, table, masks, deals, s, from, 0)
+}

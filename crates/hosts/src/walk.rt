@@ -1,0 +1,95 @@
+// A host's walk from gate to gate: within an order up to the next product or refresh, and over the orders of a job.
+ghost use mathlib.Core.Path.{_≡_};
+ghost use Prim.Native.Nat.{_/_, _+_, _^_, _≤_, _<_};
+ghost use lib.ListN.{length, drop};
+ghost use Rattle.tables.specs.Table.{rows};
+ghost use Rattle.circuits.specs.Orders.{program};
+ghost use Rattle.jobs.specs.Job.{job-gates};
+ghost use Rattle.hosts.specs.Answers.{answer-of};
+ghost use Rattle.hosts.specs.Walks.{cursor, host-of, steps-from, reported, Walked, Sized};
+use crate::Answer;
+use crate::State;
+use crate::answering::answered;
+use crate::speaking::Reach;
+use crate::speaking::say;
+use crate::speaking::step;
+use circuits::Fetched;
+use circuits::Order;
+use circuits::fetch;
+use gates::Shape;
+use gates::shape_of;
+use jobs::order_at;
+
+// Up to the order's next product or refresh, or past its last gate. Each gate writes its one slot in place.
+fn walk_order(
+    host: u32,
+    o: Order,
+    table: &[u32],
+    masks: &[u32],
+    deals: &[u32],
+    from: Reach,
+    m: &mut [u32; 24],
+    mask: &mut [u32; 24],
+) -> Reach
+    requires { ⌜ (length (program 32 (rows (now table)) o) ≤ 1000) × (from .gate ≤ 1000) × (from .a < 2 ^ 61) × (from .k < 2 ^ 61) ⌝ }
+    ensures { λ r. ⌜ Walked 32 (host-of host (now (masks .entry)) (now (deals .entry))) (program 32 (rows (now (table .entry))) o) (from .gate) (from .a) (from .k) (now (m .entry), now (mask .entry)) (r .gate) (r .a) (r .k) (now (m .exit), now (mask .exit)) ⌝ }
+{
+    let mut gate = from.gate;
+    let mut a = from.a;
+    let mut k = from.k;
+    loop {
+        let Fetched::At { gate: g } = fetch(o, table, gate) else {
+            return Reach { gate, a, k };
+        };
+        match shape_of(g) {
+            Shape::Product { d: _ } => return Reach { gate, a, k },
+            Shape::Refreshing { d: _ } => return Reach { gate, a, k },
+            Shape::Local => {
+                step(host, g, masks, deals, a, k, m, mask);
+                gate += 1;
+            }
+            Shape::Dealing { d: _ } => {
+                step(host, g, masks, deals, a, k, m, mask);
+                gate += 1;
+                a += 1;
+                k += 1;
+            }
+        }
+    }
+}
+
+// From a place of an accepted job to the next product or refresh, or to the end: the answer there, with b words spoken before.
+pub(crate) fn advance(
+    host: u32,
+    job: &[u32],
+    table: &[u32],
+    masks: &[u32],
+    deals: &[u32],
+    s: State,
+    from: Reach,
+    b: usize,
+) -> Answer
+    requires { ⌜ Sized (now job) (now table) × (from .gate ≤ 1000) × (from .a < 2 ^ 40) × (from .k < 2 ^ 40) × (b < 2 ^ 31) ⌝ }
+    ensures { λ r. ⌜ answer-of r ≡ reported (host-of host (now (masks .entry)) (now (deals .entry))) (steps-from 32 (from .gate) (drop (s .order) (job-gates 32 (now (job .entry)) (now (table .entry))))) (cursor (s .order) (s .turn) (from .a) b (from .k)) (s .m, s .mask) ⌝ }
+{
+    let n = job.len() / 4;
+    let mut m = s.m;
+    let mut mask = s.mask;
+    let mut order = s.order as usize;
+    let mut turn = s.turn;
+    let mut at = from;
+    while order < n {
+        let o = order_at(job, order);
+        at = walk_order(host, o, table, masks, deals, at, &mut m, &mut mask);
+        if let Fetched::At { gate: g } = fetch(o, table, at.gate) {
+            let word = say(host, g, masks, deals, at, b, &m, &mask);
+            return answered(b as u32 + 1, word, m, mask, order as u32, turn);
+        }
+        let a = at.a;
+        let k = at.k;
+        at = Reach { gate: 0, a, k };
+        order += 1;
+        turn = 0;
+    }
+    answered(b as u32, 0, m, mask, order as u32, turn)
+}
