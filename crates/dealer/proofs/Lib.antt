@@ -1,5 +1,4 @@
 pub mod Dealers
-pub mod Lists
 pub mod Programs
 pub mod Turns
 pub mod Checks

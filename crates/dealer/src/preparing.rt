@@ -25,6 +25,7 @@ use gates::step_mask;
 use jobs::Checked;
 use jobs::check;
 use jobs::order_at;
+use parties::fresh;
 
 // The words used of A and of B, and the deals written.
 pub struct Used {
@@ -82,18 +83,6 @@ fn find_fault(job: &[u32], table: &[u32], a: &[u32], b: &[u32], deals: &[u32]) -
 }
 
 // ---- the lanes: the registers, with temporaries behind them that are 0 at first
-
-fn fresh(registers: [u32; 16]) -> [u32; 24]
-    ensures { λ r. ⌜ r ≡ Calls.fresh registers ⌝ }
-{
-    let mut lane = [0u32; 24];
-    let mut i = 0;
-    while i < 16 {
-        lane[i] = registers[i];
-        i += 1;
-    }
-    lane
-}
 
 fn registers(lane: [u32; 24]) -> [u32; 16]
     ensures { λ r. ⌜ r ≡ take 16 lane ⌝ }

@@ -2,11 +2,8 @@
 use mathlib.Core.Path.{_≡_, refl, sym, ap, subst, _∙_}
 use mathlib.Core.List.{List, [], _∷_}
 use Prim.Native.Nat.{ℕ, suc, _+_, _/_, _≤_, _<_}
-use native.Mathlib.Nat.{zero-add}
 use native.Mathlib.Numerals.{add-one}
-use native.Mathlib.Omega.{arith}
-use lib.ListN.{length, getD, drop, set, replicate}
-use lib.Seq.{paste, paste-suc, take-all}
+use lib.ListN.{length, drop}
 use Rattle.tables.specs.Table.{rows}
 use Rattle.gates.specs.declared.Gate.{Gate}
 use Rattle.gates.specs.Steps.{Lane, Step}
@@ -19,25 +16,12 @@ use Rattle.circuits.specs.declared.Order.{Order}
 use Rattle.circuits.specs.Fetch.{fetched}
 use Rattle.circuits.specs.Orders.{program}
 use Rattle.jobs.specs.Job.{job-gates}
-use Rattle.parties.specs.Calls.{word-at, fresh}
+use Rattle.parties.specs.Calls.{word-at}
 use Rattle.jobs.specs.Walk.{order-at}
 use Rattle.hosts.specs.Walks.{cursor, host-of, reported, steps-from, Halting, Walked}
 use Rattle.hosts.proofs.Walking.{at-gate, past-gates, passes-end, stops, ends, acts-end}
 use Rattle.hosts.proofs.Shapes.{word-by}
 use Rattle.hosts.proofs.Jobs.{gates-drop, gates-over}
-
--- ---- sixteen registers and eight words that are 0
-
-pub copied : (r lane : Lane) (i : ℕ) → length r ≡ 16 → i < 16 → lane ≡ paste (replicate 24 0) 0 r i → set lane i (getD r i 0) ≡ paste (replicate 24 0) 0 r (i + 1)
-copied r lane i l h e =
-    ap (λ (z : Lane). set z i (getD r i 0)) e
-    ∙ ap (λ (j : ℕ). set (paste (replicate 24 0) 0 r i) j (getD r i 0)) (sym (zero-add i))
-    ∙ paste-suc (replicate 24 0) 0 r i 0 (omega (arith, zero-add i)) (omega arith)
-    ∙ ap (λ (j : ℕ). paste (replicate 24 0) 0 r j) (sym (add-one i))
-
-pub all-copied : (r lane : Lane) (i : ℕ) → length r ≡ 16 → i ≡ 16 → lane ≡ paste (replicate 24 0) 0 r i → lane ≡ fresh r
-unfolding fresh
-all-copied r lane i l h e = e ∙ rw (h, take-all 16 r (omega arith))
 
 -- ---- a turn
 

@@ -9,19 +9,7 @@ use crate::answering::refused;
 use crate::lending::check_lent;
 use crate::speaking::Reach;
 use crate::walk::advance;
-
-// Sixteen registers, and kept words that are 0.
-fn fresh(r: [u32; 16]) -> [u32; 24]
-    ensures { λ l. ⌜ l ≡ Calls.fresh r ⌝ }
-{
-    let mut lane = [0u32; 24];
-    let mut i = 0;
-    while i < 16 {
-        lane[i] = r[i];
-        i += 1;
-    }
-    lane
-}
+use parties::fresh;
 
 // Checks 1 to 7 come first, and a refusal gives the registers back.
 pub fn start(

@@ -1,1 +1,16 @@
-// Preparation, starting and hearing: their definitions.
+// Preparation, starting and hearing: their definitions, and the lane that each of them begins with.
+ghost use mathlib.Core.Path.{_≡_};
+ghost use Rattle.parties.specs.Calls as Calls;
+
+// Sixteen registers, and kept words that are 0.
+pub fn fresh(registers: [u32; 16]) -> [u32; 24]
+    ensures { λ lane. ⌜ lane ≡ Calls.fresh registers ⌝ }
+{
+    let mut lane = [0u32; 24];
+    let mut i = 0;
+    while i < 16 {
+        lane[i] = registers[i];
+        i += 1;
+    }
+    lane
+}

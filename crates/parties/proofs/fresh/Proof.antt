@@ -1,33 +1,33 @@
-use Rattle.hosts.proofs.Advancing.{copied, all-copied}
-use mathlib.Core.Path.{_≡_, refl}
-use borrow.Author.Needs.{needs}
+use mathlib.Core.Path.{_≡_, refl, ap, _∙_}
+use Prim.Native.Nat.{ℕ, _-_, _≤_}
 use native.Mathlib.Omega.{arith}
-use Prim.Native.Nat.{_-_, _≤_}
-use lib.ListN.{length, replicate, length-set}
-use lib.Seq.{paste}
-use Rattle.hosts.proofs.starting.fresh.Statement.{statement}
-use Rattle.hosts.proofs.starting.fresh.Tie as tie
+use mathlib.Core.List.{List}
+use lib.ListN.{getD, set, replicate}
+use Rattle.parties.specs.Calls.{fresh}
+use Rattle.parties.proofs.Lists.{copied, copy-more, copied-all}
+use Rattle.parties.proofs.fresh.Statement.{statement}
+use Rattle.parties.proofs.fresh.Tie as tie
 
 abbrev Inv-loop : tie.InvT-loop
-Inv-loop r lane₀ i₀ lane i = (i ≤ 16) × (length lane ≡ 24) × (lane ≡ paste (replicate 24 0) 0 r i)
+Inv-loop registers lane₀ i₀ lane i = (i ≤ 16) × (lane ≡ copied (replicate 24 0) registers i)
 
 abbrev μ-loop : tie.MeasureT-loop
-μ-loop r lane₀ i₀ lane i = 16 - i
+μ-loop registers lane₀ i₀ lane i = 16 - i
 
 loop-holds : tie.Need-loop-holds Inv-loop μ-loop
-loop-holds c = (omega arith, refl, refl)
+loop-holds c = (omega arith, refl)
 
 mul-lane : tie.Need-mul-lane Inv-loop μ-loop
-mul-lane c = search needs
+mul-lane c = omega arith
 
 array-read-lane : tie.Need-array-read-lane Inv-loop μ-loop
-array-read-lane c = search needs
+array-read-lane c = omega arith
 
 mul-lane-2 : tie.Need-mul-lane-2 Inv-loop μ-loop
-mul-lane-2 c = search needs
+mul-lane-2 c = omega arith
 
 array-write-lane : tie.Need-array-write-lane Inv-loop μ-loop
-array-write-lane c = search needs
+array-write-lane c = omega arith
 
 add-i : tie.Need-add-i Inv-loop μ-loop
 add-i c = omega arith
@@ -39,15 +39,13 @@ loop-again : tie.Need-loop-again Inv-loop μ-loop
 loop-again c =
     let l = c .before .loop in
     let r = c .before .before .args .t1 in
-    let h : length r ≡ 16 = omega arith in
-    (omega arith, simp length-set (l .inv .1), copied r (l .lane) (l .i) h (omega arith) (l .inv .2))
+    (omega arith, ap (λ (x : List ℕ). set x (l .i) (getD r (l .i) 0)) (l .inv .1) ∙ copy-more (replicate 24 0) r (l .i) (omega arith) (omega arith))
 
 returns : tie.Need-returns Inv-loop μ-loop
+unfolding fresh
 returns c =
     let l = c .before .loop in
-    let r = c .before .before .args .t1 in
-    let h : length r ≡ 16 = omega arith in
-    all-copied r (l .lane) (l .i) h (omega arith) (l .inv .2)
+    l .inv .1 ∙ copied-all (c .before .before .args .t1) (l .i) (omega arith) (omega arith)
 
 pub fresh-spec : {M : Type 1} → statement M
 fresh-spec =
