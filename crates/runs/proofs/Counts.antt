@@ -67,7 +67,7 @@ module _ (A B : List ℕ) (all : List Step) (j₀ : Triple) (shut : Closed all) 
   far-next [] c j t = refl
   far-next (x ∷ ss) c j t = refl
 
-  far-at : (n : ℕ) → far (at-n n .rest) (at-n n .cur) ≡ far all origin
+  pub far-at : (n : ℕ) → far (at-n n .rest) (at-n n .cur) ≡ far all origin
   unfolding pos
   far-at zero = refl
   far-at (suc n) = far-next (at-n n .rest) (at-n n .cur) (at-n n .state) (at-n n .trail) ∙ far-at n

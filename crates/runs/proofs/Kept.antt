@@ -126,7 +126,7 @@ module _ (w : ℕ) (S : Setting) where
   prepared-none zero f buf r e h = (refl, refl)
   prepared-none (suc n) f buf r e h = absurd (omega arith)
 
-  prepares-ok : (r : Pair) (buf : List ℕ) → r ≡ (S .r1, S .r2) → preparation w S buf r .number ≡ 0
+  pub prepares-ok : (r : Pair) (buf : List ℕ) → r ≡ (S .r1, S .r2) → preparation w S buf r .number ≡ 0
       → DealerOk (ready (preparation w S buf r .masks) (prepare-walk w (S .job) (S .table) A B r .trail)) (preparation w S buf r .buffer)
   unfolding prepare job-deals prepare-walk
   prepares-ok r buf h e =

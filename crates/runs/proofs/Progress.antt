@@ -23,7 +23,7 @@ use Rattle.runs.proofs.Kept.{all, j₀, supplied, not-yet, dealt-all, w
 
 -- ---- no fault, no refusal
 
-unless-zero : (n : ℕ) (f : Fault) (s : State) (a : Answer) → n ≡ 0 → unless n f s a ≡ a
+pub unless-zero : (n : ℕ) (f : Fault) (s : State) (a : Answer) → n ≡ 0 → unless n f s a ≡ a
 unfolding unless
 unless-zero zero f s a e = refl
 unless-zero (suc n) f s a e = absurd (omega arith)
@@ -42,11 +42,11 @@ module _ (w : ℕ) (S : Setting) where
   k = job-cost w (S .job) (S .table)
 
   module _ (buf : List ℕ) (acc : Accepted w S buf) where
-    lent1-zero : (D : List ℕ) → lent-fault w (lent1 w S D) .0 ≡ 0
+    pub lent1-zero : (D : List ℕ) → lent-fault w (lent1 w S D) .0 ≡ 0
     unfolding lent-fault lists-fault short-a
     lent1-zero D = or-else-zero (job-fault w (S .job) (S .table)) _ (acc .job) (rw (le-ltb (length (S .A)) (k .a) (acc .a)))
 
-    lent2-zero : (D : List ℕ) → k .deals ≤ length D → lent-fault w (lent2 w S D) .0 ≡ 0
+    pub lent2-zero : (D : List ℕ) → k .deals ≤ length D → lent-fault w (lent2 w S D) .0 ≡ 0
     unfolding lent-fault lists-fault short-b short-deals
     lent2-zero D h = or-else-zero (job-fault w (S .job) (S .table)) _ (acc .job) (rw (le-ltb (length (S .B)) (k .b) (acc .b), le-ltb (length D) (k .deals) h))
 

@@ -13,7 +13,7 @@ use Rattle.parties.specs.Lent.{or-else, lists-fault, lent-fault}
 use Rattle.runs.specs.Runs.{Setting, waiting, going, World, world, Refuses, dealer, dealer-later, dealer-elsewhere, dealer-later-elsewhere, one-waiting, two-waiting, one-going, two-going, Call, registers, lent1, Completes, prepares, starts1, starts2, hears1, hears2, Run, begin, complete, refuse, order1}
 use Rattle.runs.proofs.Refusals.{start-none}
 
-or-else-none : (f : Fault) (n : ℕ) → or-else f n .0 ≡ 0 → (f .0 ≡ 0) × (n ≡ 0)
+pub or-else-none : (f : Fault) (n : ℕ) → or-else f n .0 ≡ 0 → (f .0 ≡ 0) × (n ≡ 0)
 unfolding or-else
 or-else-none f n e = go (eqb (f .0) 0) refl e
   where

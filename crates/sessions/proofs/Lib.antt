@@ -1,0 +1,3 @@
+pub mod Positions
+pub mod Ends
+pub mod Turns

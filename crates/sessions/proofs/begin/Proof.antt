@@ -1,0 +1,39 @@
+use mathlib.Core.Path.{refl}
+use denote.Ref.{now}
+use Rattle.sessions.specs.Sessions.{lending, shared, preparation}
+use Rattle.sessions.proofs.Turns.{begins}
+use borrow.Author.Needs.{needs}
+use Rattle.sessions.proofs.begin.Statement.{statement}
+use Rattle.sessions.proofs.begin.Tie as tie
+use Rattle.sessions.proofs.begin.Reads as reads
+use Rattle.sessions.proofs.begin.Lts as lts
+use Rattle.dealer.proofs.prepare.Reads as prepare-reads
+use Rattle.sessions.proofs.first.Reads as first-reads
+
+-- src/lib.rt:85:9
+prepare-requires : tie.Need-prepare-requires
+prepare-requires c κs = search needs
+
+-- src/lib.rt:89:9
+first-requires : tie.Need-first-requires
+first-requires c κs = search needs
+
+-- src/lib.rt:90:9
+first-requires-2 : tie.Need-first-requires-2
+first-requires-2 c κs = search needs
+
+-- src/lib.rt:72:1
+same-length : tie.Need-same-length
+same-length c = search needs
+
+-- src/lib.rt:72:1
+returns : tie.Need-returns
+unfolding preparation
+returns c =
+    let p = c .before .before .before .before .before .before .before in
+    let a = p .before .before .before .before .before .before .before .before .before .before .args in
+    begins 32 (lending (now (a .job)) (now (a .table)) (now (a .a)) (now (a .b))) (shared (a .registers)) (now (a .deals)) _ _ _ _ (p .prepare .ensures) refl (c .before .before .first .ensures) (c .first2 .ensures)
+
+pub begin-spec : {M : Type 1} → statement M
+begin-spec =
+    tie.close (tie.spec prepare-requires first-requires first-requires-2 same-length returns)

@@ -1,0 +1,33 @@
+use Rattle.sessions.proofs.Turns.{started, not-started}
+use borrow.Author.Needs.{needs}
+use Rattle.sessions.proofs.first.Statement.{statement}
+use Rattle.sessions.proofs.first.Tie as tie
+use Rattle.sessions.proofs.first.Reads as reads
+use Rattle.sessions.proofs.first.Lts as lts
+use Rattle.hosts.proofs.start.Reads as start-reads
+use Rattle.parties.proofs.fresh.Reads as fresh-reads
+
+-- src/lib.rt:51:9
+start-requires : tie.Need-start-requires
+start-requires c κs = search needs
+
+-- src/lib.rt:51:9
+returns : tie.Need-returns
+returns c = let a = c .before .before .before .before .before .before .args in started (a .number) (a .index) _ _ _ (c .before .if1 .taken) (c .start .ensures)
+
+-- src/lib.rt:55:9
+fresh-requires : tie.Need-fresh-requires
+fresh-requires c κs = search needs
+
+-- src/lib.rt:56:9
+fresh-requires-2 : tie.Need-fresh-requires-2
+fresh-requires-2 c κs = search needs
+
+-- src/lib.rt:38:1
+returns-2 : tie.Need-returns-2
+returns-2 c =
+    let a = c .before .before .before .before .before .before .before .before .before .args in
+    not-started (a .number) (a .index) (a .registers .m) (a .registers .mask) _ _ _ (c .before .before .before .before .if1 .left) (c .before .fresh .ensures) (c .fresh2 .ensures)
+
+pub first-spec : {M : Type 1} → statement M
+first-spec = tie.close (tie.spec start-requires returns fresh-requires fresh-requires-2 returns-2)

@@ -1,0 +1,118 @@
+-- Document 01, "Stepping": a job that the three hosts run in one place, each word carried to the other host at once. Assumes nothing.
+use mathlib.Core.List.{List, []}
+use Prim.Native.Nat.{ℕ}
+use lib.IntN.{ℤ}
+use lib.ListN.{length}
+use Rattle.shares.specs.Sharing.{reconstruction}
+use Rattle.gates.specs.Steps.{origin}
+use Rattle.gates.specs.Walk.{whole}
+use Rattle.gates.specs.Parties.{Pair, Triple, of0, of1, of2, act}
+use Rattle.jobs.specs.Job.{orders, steps-of, job-cost}
+use Rattle.parties.specs.Lent.{Lent}
+use Rattle.parties.specs.Calls.{State, Answer, Prepared, fresh, given, unless, start, hear, prepare}
+use Rattle.hosts.specs.Answers.{answer-of}
+use Rattle.runs.specs.Runs.{six}
+use Rattle.sessions.specs.declared.Session.{Session as Session′}
+use Rattle.sessions.specs.declared.Shared.{Shared}
+
+-- "every call is lent the same job, table and lists"
+pub record Lending : Type 0 where
+  pub job : List ℕ
+  pub table : List ℕ
+  pub A : List ℕ
+  pub B : List ℕ
+
+abbrev pub lending : (job table A B : List ℕ) → Lending
+lending j t a b = record { job = j; table = t; A = a; B = b }
+
+-- the preparation's number, index, deals and masks, the last answers of hosts 1 and 2, and the buffer of deals
+pub record Session : Type 0 where
+  pub number : ℕ
+  pub index : ℕ
+  pub deals : ℕ
+  pub masks : Pair
+  pub one : Answer
+  pub two : Answer
+  pub buffer : List ℕ
+
+-- the code's session, and the buffer lent to it
+abbrev pub session-of : Session′ → (buffer : List ℕ) → Session
+session-of s buf =
+    record {
+      number = s .number;
+      index = s .index;
+      deals = s .deals;
+      masks = (s .masks .l1, s .masks .l2);
+      one = answer-of (s .one);
+      two = answer-of (s .two);
+      buffer = buf;
+    }
+
+-- the lanes m, L1 and L2 of the registers given
+abbrev pub shared : Shared → Triple
+shared r = (r .m, r .l1, r .l2)
+
+-- host 1 is lent A, host 2 B; both the deals, of which host 1 takes no notice
+abbrev pub to1 : Lending → (deals : List ℕ) → Lent
+to1 L D = record { host = 1; job = L .job; table = L .table; masks = L .A; deals = D }
+
+abbrev pub to2 : Lending → (deals : List ℕ) → Lent
+to2 L D = record { host = 2; job = L .job; table = L .table; masks = L .B; deals = D }
+
+module _ (w : ℕ) (L : Lending) where
+  unfoldable pub preparation : Triple → (buffer : List ℕ) → Prepared
+  preparation r buf = prepare w (L .job) (L .table) (L .A) (L .B) buf (of0 r)
+
+  -- a session after the preparation, with these answers of hosts 1 and 2; neither starts where the preparation is refused
+  unfoldable pub prepared : Triple → Prepared → (one two : Answer) → Session
+  prepared r p a b =
+      record {
+        number = p .number;
+        index = p .index;
+        deals = p .deals;
+        masks = p .masks;
+        one = unless (p .number) (p .number, p .index) (given (of1 r)) a;
+        two = unless (p .number) (p .number, p .index) (given (of2 r)) b;
+        buffer = p .buffer;
+      }
+
+  -- preparation, then both startings
+  unfoldable pub begun : Triple → (buffer : List ℕ) → Session
+  begun r buf =
+      prepared r (preparation r buf) (start w (to1 L (preparation r buf .buffer)) (of1 r)) (start w (to2 L (preparation r buf .buffer)) (of2 r))
+
+  -- each hears "the word the other host spoke"
+  unfoldable pub heard : Session → Session
+  heard s =
+      record {
+        number = s .number;
+        index = s .index;
+        deals = s .deals;
+        masks = s .masks;
+        one = hear w (to1 L (s .buffer)) (s .one .state) (s .two .word);
+        two = hear w (to2 L (s .buffer)) (s .two .state) (s .one .word);
+        buffer = s .buffer;
+      }
+
+  -- the three hosts' lanes m, L1 and L2 when every gate of the job is done
+  unfoldable pub left : Triple → Triple
+  left r = whole (act (L .A) (L .B)) (steps-of w (L .job) (L .table)) origin (fresh (r .0), fresh (r .1), fresh (r .2)) [] .state
+
+  -- a host at the end: "the end is the number of orders and 0", "the word given is 0", and each host has spoken a word for each word of B, half the job's words
+  unfoldable pub ended : Pair → Answer
+  ended s =
+      record {
+        number = 0;
+        index = 0;
+        spoken = job-cost w (L .job) (L .table) .b;
+        word = 0;
+        state = record { m = s .0; mask = s .1; order = length (orders (L .job)); turn = 0 };
+      }
+
+  -- the whole job
+  unfoldable pub session : Triple → (buffer : List ℕ) → Session
+  session r buf = prepared r (preparation r buf) (ended (of1 (left r))) (ended (of2 (left r)))
+
+-- what opening gives on the six words of slot i that the three hosts hold
+unfoldable pub opened-register : ℕ → (masks : Pair) (one two : State) → ℕ → ℕ × ℤ
+opened-register w p s t i = reconstruction w (six p (s .m, s .mask) (t .m, t .mask) i)

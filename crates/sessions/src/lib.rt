@@ -1,0 +1,214 @@
+// The three hosts in one place: preparation, both startings, and every spoken word carried to the other host.
+ghost use mathlib.Core.Path.{_≡_};
+ghost use Rattle.gates.specs.Steps.{at};
+ghost use Rattle.shares.specs.Answers.{opening};
+ghost use Rattle.parties.specs.Calls as Calls;
+ghost use Rattle.hosts.specs.Answers.{answer-of, state-of, lanes-of, lent};
+ghost use Rattle.sessions.specs.Sessions.{session-of, shared, lending, begun, heard, session, opened-register};
+use dealer::Masks;
+use dealer::prepare;
+use hosts::Answer;
+use hosts::Registers;
+use hosts::State;
+use hosts::start;
+use jobs::word_at;
+use parties::fresh;
+use shares::DealerShare;
+use shares::Opening;
+use shares::Shares;
+use shares::WorkerShare;
+use shares::reconstruct;
+
+// A share of every register, on which the three hosts agree.
+pub struct Shared {
+    pub m: [u32; 16],
+    pub l1: [u32; 16],
+    pub l2: [u32; 16],
+}
+
+// The preparation's number, order's index, deals and masks, and the last answers of hosts 1 and 2.
+pub struct Session {
+    pub number: u32,
+    pub index: u32,
+    pub deals: u32,
+    pub masks: Masks,
+    pub one: Answer,
+    pub two: Answer,
+}
+
+// A host's starting; where the preparation was refused, its registers and that number.
+fn first(
+    number: u32,
+    index: u32,
+    host: u32,
+    job: &[u32],
+    table: &[u32],
+    masks: &[u32],
+    deals: &[u32],
+    registers: Registers,
+) -> Answer
+    ensures { λ r. ⌜ answer-of r ≡ Calls.unless number (number, index) (Calls.given (lanes-of registers)) (Calls.start 32 (lent host (now (job .entry)) (now (table .entry)) (now (masks .entry)) (now (deals .entry))) (lanes-of registers)) ⌝ }
+{
+    if number == 0 {
+        return start(host, job, table, masks, deals, registers);
+    }
+    let m = registers.m;
+    let mask = registers.mask;
+    let fresh_m = fresh(m);
+    let fresh_mask = fresh(mask);
+    Answer {
+        number,
+        index,
+        spoken: 0,
+        word: 0,
+        state: State {
+            m: fresh_m,
+            mask: fresh_mask,
+            order: 0,
+            turn: 0,
+        },
+    }
+}
+
+// Preparation, then both startings; neither host starts where the preparation is refused.
+pub fn begin(
+    job: &[u32],
+    table: &[u32],
+    a: &[u32],
+    b: &[u32],
+    deals: &mut [u32],
+    registers: Shared,
+) -> Session
+    ensures { λ r. ⌜ session-of r (now (deals .exit)) ≡ begun 32 (lending (now (job .entry)) (now (table .entry)) (now (a .entry)) (now (b .entry))) (shared registers) (now (deals .entry)) ⌝ }
+{
+    let m = registers.m;
+    let l1 = registers.l1;
+    let l2 = registers.l2;
+    let done = prepare(job, table, a, b, deals, Masks { l1, l2 });
+    let number = done.number;
+    let index = done.index;
+    let masks = done.masks;
+    let one = first(
+        number,
+        index,
+        1,
+        job,
+        table,
+        a,
+        deals,
+        Registers { m, mask: l1 },
+    );
+    let two = first(
+        number,
+        index,
+        2,
+        job,
+        table,
+        b,
+        deals,
+        Registers { m, mask: l2 },
+    );
+    Session {
+        number,
+        index,
+        deals: done.deals,
+        masks,
+        one,
+        two,
+    }
+}
+
+// Each host hears the word that the other spoke last.
+pub fn exchange(
+    job: &[u32],
+    table: &[u32],
+    a: &[u32],
+    b: &[u32],
+    deals: &[u32],
+    s: Session,
+) -> Session
+    ensures { λ r. ⌜ session-of r (now (deals .entry)) ≡ heard 32 (lending (now (job .entry)) (now (table .entry)) (now (a .entry)) (now (b .entry))) (session-of s (now (deals .entry))) ⌝ }
+{
+    let first = s.one.state;
+    let second = s.two.state;
+    let masks = s.masks;
+    let one = first.hear(1, job, table, a, deals, s.two.word);
+    let two = second.hear(2, job, table, b, deals, s.one.word);
+    Session {
+        number: s.number,
+        index: s.index,
+        deals: s.deals,
+        masks,
+        one,
+        two,
+    }
+}
+
+// Words go to and fro until the hosts are at the job's end.
+fn carry(
+    job: &[u32],
+    table: &[u32],
+    a: &[u32],
+    b: &[u32],
+    deals: &mut [u32],
+    m: [u32; 16],
+    l1: [u32; 16],
+    l2: [u32; 16],
+) -> Session
+    ensures { λ r. ⌜ session-of r (now (deals .exit)) ≡ session 32 (lending (now (job .entry)) (now (table .entry)) (now (a .entry)) (now (b .entry))) (m, l1, l2) (now (deals .entry)) ⌝ }
+{
+    let mut s = begin(job, table, a, b, deals, Shared { m, l1, l2 });
+    if s.number != 0 {
+        return s;
+    }
+    let orders = (job.len() / 4) as u32;
+    while s.one.state.order < orders {
+        s = exchange(job, table, a, b, deals, s);
+    }
+    s
+}
+
+// The whole job, or the preparation's refusal.
+pub fn run(
+    job: &[u32],
+    table: &[u32],
+    a: &[u32],
+    b: &[u32],
+    deals: &mut [u32],
+    registers: Shared,
+) -> Session
+    ensures { λ r. ⌜ session-of r (now (deals .exit)) ≡ session 32 (lending (now (job .entry)) (now (table .entry)) (now (a .entry)) (now (b .entry))) (shared registers) (now (deals .entry)) ⌝ }
+{
+    let m = registers.m;
+    let l1 = registers.l1;
+    let l2 = registers.l2;
+    carry(job, table, a, b, deals, m, l1, l2)
+}
+
+// What host 1 or 2 holds of a register.
+fn held(s: State, register: usize) -> WorkerShare
+    ensures { λ r. ⌜ (r .m ≡ at (s .m) register) × (r .l ≡ at (s .mask) register) ⌝ }
+{
+    let m = s.m;
+    let mask = s.mask;
+    WorkerShare {
+        m: word_at(&m, register),
+        l: word_at(&mask, register),
+    }
+}
+
+// What a register, 0 to 15, opens on the three hosts' shares of it.
+pub fn opened(s: Session, register: usize) -> Opening
+    ensures { λ r. ⌜ opening r ≡ opened-register 32 (s .masks .l1, s .masks .l2) (state-of (s .one .state)) (state-of (s .two .state)) register ⌝ }
+{
+    let l1 = s.masks.l1;
+    let l2 = s.masks.l2;
+    reconstruct(Shares {
+        p0: DealerShare {
+            l1: word_at(&l1, register),
+            l2: word_at(&l2, register),
+        },
+        p1: held(s.one.state, register),
+        p2: held(s.two.state, register),
+    })
+}
