@@ -79,7 +79,7 @@ rows-cost x s (p ∷ ps) =
     ∙ ap₂ plus (row-cost x (p .r) (coefficient 32 s p ps)) (rows-cost x (slope-after p ps) ps)
     ∙ cost-path (omega arith) (omega arith) (omega arith) (omega arith)
 
-sum-cost : (x : ℕ) (ps : List Row) → program-cost 32 (sum-program 32 x ps) ≡ cost-of (14 * length ps) (24 * length ps) (26 * length ps) (12 * length ps)
+pub sum-cost : (x : ℕ) (ps : List Row) → program-cost 32 (sum-program 32 x ps) ≡ cost-of (14 * length ps) (24 * length ps) (26 * length ps) (12 * length ps)
 unfolding sum-program program-cost order-steps meaning cost step-cost plus
 sum-cost x [] = refl
 sum-cost x (p ∷ ps) =

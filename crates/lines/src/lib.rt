@@ -1,4 +1,7 @@
 // The rehearsal program's text (document 01, "House table by hand"): a line of its input, and the lines that it prints.
+ghost use mathlib.Core.Path.{_≡_};
+ghost use lib.ListN.{take};
+
 mod parsing;
 mod printing;
 
@@ -16,4 +19,14 @@ pub enum Asked {
 pub struct Text {
     pub bytes: [u8; 80],
     pub len: usize,
+}
+
+// The first n bytes, or all where there are fewer.
+pub fn front(bytes: &[u8], n: usize) -> &[u8]
+    ensures { λ r. ⌜ now r ≡ take n (now (bytes .entry)) ⌝ }
+{
+    if n <= bytes.len() {
+        return &bytes[..n];
+    }
+    bytes
 }

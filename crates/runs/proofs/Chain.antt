@@ -21,7 +21,7 @@ use Rattle.runs.specs.Runs.{Setting}
 use Rattle.runs.specs.Orders.{first-counts}
 use Rattle.runs.proofs.Places.{orders as ends}
 
-mark-gate : {S : Type 0} (w : ℕ) (g : Gate) (s : S) (t : List S) → mark (meaning w g) s t ≡ t
+pub mark-gate : {S : Type 0} (w : ℕ) (g : Gate) (s : S) (t : List S) → mark (meaning w g) s t ≡ t
 unfolding meaning
 mark-gate w (Add d a b) s t = refl
 mark-gate w (Sub d a b) s t = refl

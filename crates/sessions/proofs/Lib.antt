@@ -1,3 +1,4 @@
 pub mod Positions
 pub mod Ends
 pub mod Turns
+pub mod Leaves

@@ -9,3 +9,4 @@ pub mod Signed
 pub mod Truncation
 pub mod Machine
 pub mod Below
+pub mod Copying

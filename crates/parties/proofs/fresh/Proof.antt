@@ -4,7 +4,8 @@ use native.Mathlib.Omega.{arith}
 use mathlib.Core.List.{List}
 use lib.ListN.{getD, set, replicate}
 use Rattle.parties.specs.Calls.{fresh}
-use Rattle.parties.proofs.Lists.{copied, copy-more, copied-all}
+use Rattle.words.proofs.Copying.{copied, copy-more}
+use Rattle.parties.proofs.Lists.{copied-all}
 use Rattle.parties.proofs.fresh.Statement.{statement}
 use Rattle.parties.proofs.fresh.Tie as tie
 

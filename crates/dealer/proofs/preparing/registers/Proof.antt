@@ -3,7 +3,8 @@ use Prim.Native.Nat.{ℕ, _-_, _≤_}
 use native.Mathlib.Omega.{arith}
 use mathlib.Core.List.{List}
 use lib.ListN.{getD, set, replicate}
-use Rattle.parties.proofs.Lists.{copied, copy-more, copied-front}
+use Rattle.words.proofs.Copying.{copied, copy-more}
+use Rattle.parties.proofs.Lists.{copied-front}
 use Rattle.dealer.proofs.preparing.registers.Statement.{statement}
 use Rattle.dealer.proofs.preparing.registers.Tie as tie
 

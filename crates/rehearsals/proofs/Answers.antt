@@ -1,0 +1,124 @@
+-- From the calls' answers to the line that is printed. Assumes nothing.
+use mathlib.Core.Path.{_≡_, refl, sym, ap, _∙_}
+use mathlib.Core.Bool.{Bool, true, false, cond}
+use mathlib.Core.List.{List}
+use Prim.Native.Nat.{ℕ, zero, suc, _+_, _^_, _<_}
+use native.Mathlib.Omega.{arith}
+use lib.Dec.{T, lit≤, lit<}
+use lib.IntN.{ℤ, pos}
+use Rattle.words.specs.Words.{numbers}
+use Rattle.words.specs.Signed.{signed, wrap, in-range}
+use Rattle.words.proofs.Words.{Word, add-lt}
+use Rattle.words.proofs.Signed.{signed-wrap, wrap-lt, in-range-mag}
+use Rattle.shares.proofs.Gates.{numbers-open}
+use Rattle.shares.specs.Gates.{Share, value, masked}
+use Rattle.shares.specs.Sharing.{Six, hand-out, nothing, split}
+use Rattle.shares.specs.Answers.{words, sharing, opening}
+use Rattle.shares.specs.declared.Shares.{Shares}
+use Rattle.shares.specs.declared.Sharing.{Sharing}
+use Rattle.shares.specs.declared.Sharing.the-variants.{Shared, OutOfRange}
+use Rattle.shares.specs.declared.Opening.{Opening}
+use Rattle.shares.specs.declared.Opening.the-variants.{Opened, Disagree}
+use Rattle.hosts.specs.Answers.{state-of}
+use Rattle.lines.specs.Lines.{malformed, asking, parsed, answered, refused}
+use Rattle.lines.specs.Answers.{asked}
+use Rattle.lines.specs.declared.Asked.{Asked}
+use Rattle.lines.specs.declared.Asked.the-variants.{Reading, Malformed}
+use Rattle.sessions.specs.declared.Session.{Session as Session′}
+use Rattle.sessions.specs.Sessions.{Session, session-of, opened-register}
+use Rattle.rehearsals.specs.Rehearsal as Spec
+use Rattle.rehearsals.specs.Rehearsal.{first-a, first-b, answer-of, answer}
+use Rattle.rehearsals.specs.Trial.{trial, Ran}
+use Rattle.rehearsals.proofs.Trials.{deals-are, words-are, value-is}
+
+-- the words of a curve fit a word
+pub few : (mode n : ℕ) → n ≡ Spec.words mode → n < 2 ^ 32
+few zero n e = omega (arith, e)
+few (suc m) n e = omega (arith, e)
+
+-- ---- splitting, by whether the reading is in range
+
+split-in : (b : Bool) (h : Six) (p : ℕ × Six) → p ≡ cond b (0, h) (11, nothing) → p .0 ≡ 0 → (b ≡ true) × (p .1 ≡ h)
+split-in true h p e z = (refl, ap (λ (x : ℕ × Six). x .1) e)
+split-in false h p e z = let k : p .0 ≡ 11 = ap (λ (x : ℕ × Six). x .0) e in absurd (omega (arith, k, z))
+
+split-out : (b : Bool) (h : Six) (p : ℕ × Six) → p ≡ cond b (0, h) (11, nothing) → p .0 ≡ 11 → b ≡ false
+split-out true h p e z = let k : p .0 ≡ 0 = ap (λ (x : ℕ × Six). x .0) e in absurd (omega (arith, k, z))
+split-out false h p e z = refl
+
+holds : (b : Bool) → b ≡ true → T b
+holds b e = rw e tt
+
+-- ---- what the line asks for
+
+module _ (line : List ℕ) (v : Asked) (e : asked v ≡ parsed line) where
+  pub reading-asked : (m : ℕ) (z : ℤ) → v ≡ Reading m z → (t : List ℕ) → t ≡ answer-of (asking m z) → t ≡ answer line
+  unfolding answer
+  reading-asked m z h t g = g ∙ ap answer-of (sym (ap asked h) ∙ e)
+
+  pub nothing-asked : v ≡ Malformed → (t : List ℕ) → t ≡ refused 0 → t ≡ answer line
+  unfolding answer answer-of
+  nothing-asked h t g = g ∙ ap answer-of (sym (ap asked h) ∙ e)
+
+-- ---- the session's answer
+
+module _ (mode : ℕ) (z : ℤ) (v : Sharing) (e : sharing v ≡ split 32 z first-a first-b) where
+  abbrev share-of : Share ℕ
+  share-of = masked (numbers 32) (wrap 32 z) first-a first-b
+
+  -- "a number out of range prints "refused 11""
+  pub out-of-range : v ≡ OutOfRange → (t : List ℕ) → t ≡ refused 11 → t ≡ answer-of (asking mode z)
+  unfolding split answer-of
+  out-of-range h t g = g ∙ rw (split-out (in-range 32 z) (hand-out share-of) (sharing v) e (ap (λ (x : Sharing). sharing x .0) h))
+
+  module _ (s : Shares) (h : v ≡ Shared s) where
+    split-is : (in-range 32 z ≡ true) × (sharing v .1 ≡ hand-out share-of)
+    unfolding split
+    split-is = split-in (in-range 32 z) (hand-out share-of) (sharing v) e (ap (λ (x : Sharing). sharing x .0) h)
+
+    ranged : T (in-range 32 z)
+    ranged = holds (in-range 32 z) (split-is .0)
+
+    six-are : words s ≡ hand-out share-of
+    six-are = sym (ap (λ (x : Sharing). sharing x .1) h) ∙ split-is .1
+
+    m-is : s .p1 .m ≡ share-of .m
+    m-is = ap (λ (x : Six). x .m-of-1) six-are
+
+    l1-is : s .p1 .l ≡ first-a
+    l1-is = ap (λ (x : Six). x .l1-of-1) six-are
+
+    l2-is : s .p2 .l ≡ first-b
+    l2-is = ap (λ (x : Six). x .l2-of-2) six-are
+
+    value-in : signed 32 (value (numbers 32) (record { m = s .p1 .m; l1 = s .p1 .l; l2 = s .p2 .l })) ≡ z
+    value-in =
+        rw (m-is, l1-is, l2-is)
+        (ap (signed 32) (ap (λ (x : Word 32). x .0) (numbers-open 32 .masked-opens (wrap 32 z, wrap-lt 32 z) (first-a, lit< tt) (first-b, lit< tt)))
+        ∙ signed-wrap 32 z (lit≤ tt) (omega (arith, in-range-mag 32 z ranged)))
+
+    module _ (r : Session′) (R : Ran r (trial mode (s .p1 .m) (s .p1 .l) (s .p2 .l))) where
+      abbrev opens-of : ℕ × ℤ
+      opens-of = opened-register 32 (r .masks .l1, r .masks .l2) (state-of (r .one .state)) (state-of (r .two .state)) 0
+
+      opens-is : opens-of ≡ (0, Spec.value mode z)
+      opens-is =
+          ap {B = ℕ × ℤ} (λ (x : Session). opened-register 32 (x .masks) (x .one .state) (x .two .state) 0) (R .is)
+          ∙ value-is mode (s .p1 .m) (s .p1 .l) (s .p2 .l) (rw m-is (add-lt 32 _ _)) (rw l1-is (lit< tt)) (rw l2-is (lit< tt)) z value-in ranged
+
+      deals-is : r .deals ≡ Spec.deals mode
+      deals-is = ap (λ (x : Session). x .deals) (R .is) ∙ deals-are mode _ _ _
+
+      pub words-is : r .one .spoken + r .two .spoken ≡ Spec.words mode
+      words-is = ap (λ (x : Session). x .one .spoken + x .two .spoken) (R .is) ∙ words-are mode _ _ _
+
+      module _ (o : Opening) (g : opening o ≡ opens-of) where
+        -- opening never meets 10
+        pub agreed : o ≡ Disagree → ⊥
+        agreed d = let k : _≡_ {A = ℕ} 10 0 = sym (ap (λ (x : Opening). opening x .0) d) ∙ ap (λ (x : ℕ × ℤ). x .0) (g ∙ opens-is) in omega (arith, k)
+
+        pub printed : (x : ℤ) → o ≡ Opened x → (t : List ℕ) → t ≡ answered mode z x (r .deals) (r .one .spoken + r .two .spoken) → t ≡ answer-of (asking mode z)
+        unfolding answer-of
+        printed x d t p =
+            let y : x ≡ Spec.value mode z = sym (ap (λ (x : Opening). opening x .1) d) ∙ ap (λ (x : ℕ × ℤ). x .1) (g ∙ opens-is) in
+            p ∙ rw (y, deals-is, words-is, split-is .0)

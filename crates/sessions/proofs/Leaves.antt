@@ -1,0 +1,74 @@
+-- What a session leaves: a register opens what the joint walk holds in it, and the counts are the job's. Assumes nothing.
+use mathlib.Core.Path.{_≡_, refl, sym, ap, _∙_, subst}
+use mathlib.Core.List.{List, [], _∷_, _++_}
+use Prim.Native.Nat.{ℕ, _<_}
+use lib.ListN.{getD, take}
+use lib.Seq.{getD-take}
+use Rattle.words.specs.Words.{numbers}
+use Rattle.words.specs.Signed.{signed}
+use Rattle.shares.specs.Gates.{value}
+use Rattle.shares.proofs.RoundTrip.{share-opens}
+use Rattle.gates.specs.declared.Gate.{Gate}
+use Rattle.gates.specs.Steps.{Cursor, origin, past}
+use Rattle.gates.specs.Meaning.{meaning, order-steps, job-steps}
+use Rattle.gates.specs.Walk.{Conf, whole}
+use Rattle.gates.specs.Parties.{Pair, Triple, of1, of2, act}
+use Rattle.jobs.specs.Job.{job-gates, steps-of, job-cost}
+use Rattle.parties.specs.Calls.{State, given}
+use Rattle.runs.specs.Runs.{Setting, ready}
+use Rattle.runs.specs.Orders.{slot, after-order, trail, first}
+use Rattle.runs.proofs.Chain.{mark-gate}
+use Rattle.runs.proofs.Demand2.{demand2}
+use Rattle.runs.proofs.Kept.{DealerOk, dealt-all, prepares-ok}
+use Rattle.runs.proofs.Progress.{unless-zero}
+use Rattle.sessions.specs.Sessions.{Session, prepared, preparation as sessions-preparation, left, ended, session, opened-register}
+use Rattle.sessions.proofs.Positions.{lent-of, given-of, P}
+
+-- ---- one order: it leaves what the walk ends with
+
+order-whole : (w : ℕ) (A B : List ℕ) (gs : List Gate) (c : Cursor) (j : Triple) (t : List Triple)
+    → whole (act A B) (order-steps w gs []) c j t .trail ≡ t ++ (whole (act A B) (order-steps w gs []) c j t .state ∷ [])
+unfolding whole order-steps act
+order-whole w A B [] c j t = refl
+order-whole w A B (g ∷ gs) c j t =
+    let f : List Triple → Conf Triple = λ u. whole (act A B) (order-steps w gs []) (past (meaning w g) c) (act A B (meaning w g) c j) u in
+    subst (λ (u : List Triple). f u .trail ≡ t ++ (f u .state ∷ [])) (sym (mark-gate w g j t)) (order-whole w A B gs _ _ t)
+
+pub left-one : (w : ℕ) (S : Setting) (gs : List Gate) → job-gates w (S .job) (S .table) ≡ gs ∷ [] → left w (lent-of S) (given-of S) ≡ after-order w S 0
+unfolding left after-order trail steps-of job-steps
+left-one w S gs e =
+    let f : List (List Gate) → Conf Triple = λ os. whole (act (S .A) (S .B)) (job-steps w os) origin (first S) [] in
+    subst (λ (os : List (List Gate)). f os .state ≡ getD (f os .trail) 0 (first S)) (sym e)
+    (sym (ap (λ (t : List Triple). getD t 0 (first S)) (order-whole w (S .A) (S .B) gs origin (first S) [])))
+
+module _ (w : ℕ) (S : Setting) (buf : List ℕ) (done : P w S buf .number ≡ 0) where
+  abbrev over : Session
+  over = session w (lent-of S) (given-of S) buf
+
+  abbrev end-state : Triple
+  end-state = left w (lent-of S) (given-of S)
+
+  over-is : over ≡ record { number = P w S buf .number; index = P w S buf .index; deals = P w S buf .deals; masks = P w S buf .masks; one = ended w (lent-of S) (of1 end-state); two = ended w (lent-of S) (of2 end-state); buffer = P w S buf .buffer }
+  unfolding session prepared sessions-preparation
+  over-is =
+      rw (unless-zero (P w S buf .number) (P w S buf .number, P w S buf .index) (given (S .rm, S .r1)) (ended w (lent-of S) (of1 end-state)) done,
+        unless-zero (P w S buf .number) (P w S buf .number, P w S buf .index) (given (S .rm, S .r2)) (ended w (lent-of S) (of2 end-state)) done)
+
+  masks-are : P w S buf .masks ≡ (take 16 (end-state .1), take 16 (end-state .2))
+  unfolding left
+  masks-are = go (prepares-ok w S (S .r1, S .r2) buf refl done)
+    where
+      go : {t : List Pair} {d : List ℕ} → DealerOk w S (ready (P w S buf .masks) t) d → P w S buf .masks ≡ (take 16 (end-state .1), take 16 (end-state .2))
+      go (dealt-all post e m t) = m
+
+  -- opening never meets 10
+  pub register-opens : (i : ℕ) → i < 16 → opened-register w (over .masks) (over .one .state) (over .two .state) i ≡ (0, signed w (value (numbers w) (slot end-state i)))
+  unfolding opened-register ended
+  register-opens i h = rw (over-is, masks-are, getD-take 16 (end-state .1) i 0 h, getD-take 16 (end-state .2) i 0 h) (share-opens w (slot end-state i))
+
+  pub words-spoken : (over .one .spoken ≡ job-cost w (S .job) (S .table) .b) × (over .two .spoken ≡ job-cost w (S .job) (S .table) .b)
+  unfolding ended
+  words-spoken = rw over-is (refl, refl)
+
+pub deals-dealt : (S : Setting) (buf : List ℕ) → P 32 S buf .number ≡ 0 → session 32 (lent-of S) (given-of S) buf .deals ≡ job-cost 32 (S .job) (S .table) .deals
+deals-dealt S buf done = ap (λ (s : Session). s .deals) (over-is 32 S buf done) ∙ demand2 .deals-counted S buf (S .r1, S .r2) done
