@@ -51,8 +51,10 @@ module _ (w : ℕ) (S : Setting) (buf : List ℕ) (done : P w S buf .number ≡ 
   over-is : over ≡ record { number = P w S buf .number; index = P w S buf .index; deals = P w S buf .deals; masks = P w S buf .masks; one = ended w (lent-of S) (of1 end-state); two = ended w (lent-of S) (of2 end-state); buffer = P w S buf .buffer }
   unfolding session prepared sessions-preparation
   over-is =
-      rw (unless-zero (P w S buf .number) (P w S buf .number, P w S buf .index) (given (S .rm, S .r1)) (ended w (lent-of S) (of1 end-state)) done,
-        unless-zero (P w S buf .number) (P w S buf .number, P w S buf .index) (given (S .rm, S .r2)) (ended w (lent-of S) (of2 end-state)) done)
+      rw (
+        unless-zero (P w S buf .number) (P w S buf .number, P w S buf .index) (given (S .rm, S .r1)) (ended w (lent-of S) (of1 end-state)) done,
+        unless-zero (P w S buf .number) (P w S buf .number, P w S buf .index) (given (S .rm, S .r2)) (ended w (lent-of S) (of2 end-state)) done,
+      )
 
   masks-are : P w S buf .masks ≡ (take 16 (end-state .1), take 16 (end-state .2))
   unfolding left

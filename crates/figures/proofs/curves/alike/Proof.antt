@@ -1,0 +1,85 @@
+use Prim.Native.Nat.{_-_, _≤_}
+use borrow.Author.Needs.{needs}
+use Rattle.figures.proofs.curves.alike.Statement.{statement}
+use Rattle.figures.proofs.curves.alike.Tie as tie
+
+abbrev Inv-loop : tie.InvT-loop
+Inv-loop rows mode above end last due sum₀ i₀ sum i = i ≤ 8
+
+abbrev μ-loop : tie.MeasureT-loop
+μ-loop rows mode above end last due sum₀ i₀ sum i = 8 - i
+
+entry-requires : tie.Need-entry-requires Inv-loop μ-loop
+entry-requires c κs = search needs
+
+at-count-requires : tie.Need-at-count-requires Inv-loop μ-loop
+at-count-requires c κs = search needs
+
+opened-by-requires : tie.Need-opened-by-requires Inv-loop μ-loop
+opened-by-requires c κs = search needs
+
+opened-word-requires : tie.Need-opened-word-requires Inv-loop μ-loop
+opened-word-requires c κs = search needs
+
+loop-holds : tie.Need-loop-holds Inv-loop μ-loop
+loop-holds c = search needs
+
+mul-wrapping-add-u32 : tie.Need-mul-wrapping-add-u32 Inv-loop μ-loop
+mul-wrapping-add-u32 c = search needs
+
+array-read-wrapping-add-u32 : tie.Need-array-read-wrapping-add-u32 Inv-loop μ-loop
+array-read-wrapping-add-u32 c = search needs
+
+wrapping-add-u32-requires : tie.Need-wrapping-add-u32-requires Inv-loop μ-loop
+wrapping-add-u32-requires c κs = search needs
+
+at-count-requires-2 : tie.Need-at-count-requires-2 Inv-loop μ-loop
+at-count-requires-2 c κs = search needs
+
+opened-by-requires-2 : tie.Need-opened-by-requires-2 Inv-loop μ-loop
+opened-by-requires-2 c κs = search needs
+
+opens-requires : tie.Need-opens-requires Inv-loop μ-loop
+opens-requires c κs = search needs
+
+opened-word-requires-2 : tie.Need-opened-word-requires-2 Inv-loop μ-loop
+opened-word-requires-2 c κs = search needs
+
+with-requires : tie.Need-with-requires Inv-loop μ-loop
+with-requires c κs = search needs
+
+add-i : tie.Need-add-i Inv-loop μ-loop
+add-i c = search needs
+
+loop-less : tie.Need-loop-less Inv-loop μ-loop
+loop-less c = search needs
+
+loop-again : tie.Need-loop-again Inv-loop μ-loop
+loop-again c = search needs
+
+returns : tie.Need-returns Inv-loop μ-loop
+returns c = search needs
+
+pub alike-spec : {M : Type 1} → statement M
+alike-spec =
+    tie.close
+    (tie.spec
+    Inv-loop
+    μ-loop
+    entry-requires
+    at-count-requires
+    opened-by-requires
+    opened-word-requires
+    loop-holds
+    mul-wrapping-add-u32
+    array-read-wrapping-add-u32
+    wrapping-add-u32-requires
+    at-count-requires-2
+    opened-by-requires-2
+    opens-requires
+    opened-word-requires-2
+    with-requires
+    add-i
+    loop-less
+    loop-again
+    returns)

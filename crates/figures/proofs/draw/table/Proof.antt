@@ -1,0 +1,97 @@
+use Prim.Native.Nat.{_-_, _≤_}
+use borrow.Author.Needs.{needs}
+use Rattle.figures.proofs.draw.table.Statement.{statement}
+use Rattle.figures.proofs.draw.table.Tie as tie
+
+abbrev Inv-loop : tie.InvT-loop
+Inv-loop seed gap rows₀ r₀ row₀ rows r row = row ≤ 16
+
+abbrev μ-loop : tie.MeasureT-loop
+μ-loop seed gap rows₀ r₀ row₀ rows r row = 16 - row
+
+word-requires : tie.Need-word-requires Inv-loop μ-loop
+word-requires c κs = search needs
+
+one-of-requires : tie.Need-one-of-requires Inv-loop μ-loop
+one-of-requires c κs = search needs
+
+loop-holds : tie.Need-loop-holds Inv-loop μ-loop
+loop-holds c = search needs
+
+cast-at : tie.Need-cast-at Inv-loop μ-loop
+cast-at c = search needs
+
+mul-at : tie.Need-mul-at Inv-loop μ-loop
+mul-at c = search needs
+
+mul-rows : tie.Need-mul-rows Inv-loop μ-loop
+mul-rows c = search needs
+
+array-write-rows : tie.Need-array-write-rows Inv-loop μ-loop
+array-write-rows c = search needs
+
+word-requires-2 : tie.Need-word-requires-2 Inv-loop μ-loop
+word-requires-2 c κs = search needs
+
+one-of-requires-2 : tie.Need-one-of-requires-2 Inv-loop μ-loop
+one-of-requires-2 c κs = search needs
+
+add-rows : tie.Need-add-rows Inv-loop μ-loop
+add-rows c = search needs
+
+mul-rows-2 : tie.Need-mul-rows-2 Inv-loop μ-loop
+mul-rows-2 c = search needs
+
+array-write-rows-2 : tie.Need-array-write-rows-2 Inv-loop μ-loop
+array-write-rows-2 c = search needs
+
+wrapping-add-u32-requires : tie.Need-wrapping-add-u32-requires Inv-loop μ-loop
+wrapping-add-u32-requires c κs = search needs
+
+word-requires-3 : tie.Need-word-requires-3 Inv-loop μ-loop
+word-requires-3 c κs = search needs
+
+one-of-requires-3 : tie.Need-one-of-requires-3 Inv-loop μ-loop
+one-of-requires-3 c κs = search needs
+
+wrapping-add-u32-requires-2 : tie.Need-wrapping-add-u32-requires-2 Inv-loop μ-loop
+wrapping-add-u32-requires-2 c κs = search needs
+
+add-row : tie.Need-add-row Inv-loop μ-loop
+add-row c = search needs
+
+loop-less : tie.Need-loop-less Inv-loop μ-loop
+loop-less c = search needs
+
+loop-again : tie.Need-loop-again Inv-loop μ-loop
+loop-again c = search needs
+
+returns : tie.Need-returns Inv-loop μ-loop
+returns c = search needs
+
+pub table-spec : {M : Type 1} → statement M
+table-spec =
+    tie.close
+    (tie.spec
+    Inv-loop
+    μ-loop
+    word-requires
+    one-of-requires
+    loop-holds
+    cast-at
+    mul-at
+    mul-rows
+    array-write-rows
+    word-requires-2
+    one-of-requires-2
+    add-rows
+    mul-rows-2
+    array-write-rows-2
+    wrapping-add-u32-requires
+    word-requires-3
+    one-of-requires-3
+    wrapping-add-u32-requires-2
+    add-row
+    loop-less
+    loop-again
+    returns)

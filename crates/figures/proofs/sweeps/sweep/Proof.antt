@@ -1,0 +1,45 @@
+use Prim.Native.Nat.{_-_, _≤_}
+use borrow.Author.Needs.{needs}
+use Rattle.figures.proofs.sweeps.sweep.Statement.{statement}
+use Rattle.figures.proofs.sweeps.sweep.Tie as tie
+
+abbrev Inv-loop : tie.InvT-loop
+Inv-loop s table n sum₀ i₀ sum i = i ≤ n
+
+abbrev μ-loop : tie.MeasureT-loop
+μ-loop s table n sum₀ i₀ sum i = n - i
+
+loop-holds : tie.Need-loop-holds Inv-loop μ-loop
+loop-holds c = search needs
+
+trial-at-requires : tie.Need-trial-at-requires Inv-loop μ-loop
+trial-at-requires c κs = search needs
+
+run-trial-requires : tie.Need-run-trial-requires Inv-loop μ-loop
+run-trial-requires c κs = search needs
+
+add-i : tie.Need-add-i Inv-loop μ-loop
+add-i c = search needs
+
+loop-less : tie.Need-loop-less Inv-loop μ-loop
+loop-less c = search needs
+
+loop-again : tie.Need-loop-again Inv-loop μ-loop
+loop-again c = search needs
+
+returns : tie.Need-returns Inv-loop μ-loop
+returns c = search needs
+
+pub sweep-spec : {M : Type 1} → statement M
+sweep-spec =
+    tie.close
+    (tie.spec
+    Inv-loop
+    μ-loop
+    loop-holds
+    trial-at-requires
+    run-trial-requires
+    add-i
+    loop-less
+    loop-again
+    returns)

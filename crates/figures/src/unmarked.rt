@@ -1,0 +1,97 @@
+// The cases of "House table by hand" that document 01 does not mark, and the limits of splitting.
+use crate::draw::list;
+use crate::plain::number;
+use crate::tally::Tally;
+use crate::tally::none;
+use crate::tally::print;
+use crate::trials::opened_word;
+use sessions::Shared;
+use shares::Opening;
+use shares::Sharing;
+use std::num::wrapping_sub_u32;
+
+// x = 0 under masks that add up to 2^31, in register 0.
+fn zero_shared(l1: u32) -> Shared {
+    let mut first = [0u32; 16];
+    let mut second = [0u32; 16];
+    let mut m = [0u32; 16];
+    first[0] = l1;
+    second[0] = wrapping_sub_u32(2147483648, l1);
+    m[0] = 2147483648;
+    Shared {
+        m,
+        l1: first,
+        l2: second,
+    }
+}
+
+fn lowest(o: Opening) -> bool {
+    match o {
+        Opening::Opened(z) => z == -2147483648,
+        Opening::Disagree => false,
+    }
+}
+
+// Kind 6 on it with k = 1.
+fn slack(l1: u32, t: Tally) -> Tally {
+    let a = list(51);
+    let mut deals = list(53);
+    let s = sessions::run(&[6, 0, 0, 1], &[], &a, &[], &mut deals, zero_shared(l1));
+    let o = sessions::opened(s, 0);
+    t.with(lowest(o), l1, opened_word(o), 2147483648)
+}
+
+// A reading that is split and opens again.
+fn accepted(reading: u32, t: Tally) -> Tally {
+    match shares::share(number(reading), 2654435769, 2246822519) {
+        Sharing::Shared(s) => {
+            let o = shares::reconstruct(s);
+            t.with(
+                crate::trials::opens(o, reading),
+                reading,
+                opened_word(o),
+                reading,
+            )
+        }
+        Sharing::OutOfRange => t.with(false, reading, 11, 0),
+    }
+}
+
+// Number 11.
+fn out_of_range(reading: u32, t: Tally) -> Tally {
+    match shares::share(number(reading), 2654435769, 2246822519) {
+        Sharing::Shared(_) => t.with(false, reading, 0, 11),
+        Sharing::OutOfRange => t.with(true, reading, 11, 11),
+    }
+}
+
+fn slacks() {
+    let t = slack(0, slack(1, slack(2147483648, slack(3735928559, none()))));
+    print(b"kind 6, x = 0, k = 1, L = 2^31 opens -2^31", t);
+}
+
+fn splits() {
+    let t = accepted(
+        0,
+        accepted(
+            4294967295,
+            accepted(3221225472, accepted(1073741823, none())),
+        ),
+    );
+    print(b"splitting -2^30, -1, 0 and 2^30 - 1, opened again", t);
+}
+
+fn refused_splits() {
+    let near = out_of_range(1073741824, out_of_range(3221225471, none()));
+    let t = out_of_range(2147483647, out_of_range(2147483648, near));
+    print(
+        b"refused 11, splitting 2^30, -2^30 - 1, 2^31 - 1 and -2^31",
+        t,
+    );
+}
+
+pub(crate) fn cases() {
+    slacks();
+    splits();
+    refused_splits();
+}
