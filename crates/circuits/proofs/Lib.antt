@@ -6,9 +6,5 @@ pub mod Truncations
 pub mod Curve
 pub mod Opens
 pub mod Costs
-pub mod Packing
-pub mod Indices
-pub mod Places
-pub mod ByKind
 pub mod Calibration
 pub mod Worked

@@ -2,5 +2,3 @@ pub mod Programs
 pub mod Orders
 pub mod Opens
 pub mod Costs
-pub mod Fetch
-pub mod Packed

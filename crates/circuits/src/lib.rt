@@ -1,13 +1,4 @@
-// The gate program of each kind of order, gate by gate: a walk asks for the gate at an index, and for the place of an
-// order's n-th product or refresh.
-mod curve_gates;
-mod fetching;
-mod seeking;
-mod templates;
-
-pub use fetching::fetch;
-use gates::Gate;
-pub use seeking::seek;
+// The gate program of each kind of order, what it opens and what it costs: definitions and laws.
 
 // An order's four words (document 01: kind, target, first source, fourth word).
 pub struct Order {
@@ -15,16 +6,4 @@ pub struct Order {
     pub target: u32,
     pub source: u32,
     pub fourth: u32,
-}
-
-// The gate at an index, or past the last one.
-pub enum Fetched {
-    At { gate: Gate },
-    Past,
-}
-
-// Where an order's n-th product or refresh stands: the gate's index, and the words of A and the deals that the order uses before it.
-pub enum Sought {
-    Found { gate: usize, a: usize, deals: usize },
-    Nowhere,
 }

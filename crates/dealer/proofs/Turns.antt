@@ -10,10 +10,10 @@ use Rattle.gates.specs.Speech.{shape}
 use Rattle.gates.specs.Meaning.{meaning, order-steps, job-steps}
 use Rattle.tables.specs.Table.{rows}
 use Rattle.circuits.specs.declared.Order.{Order}
-use Rattle.circuits.specs.declared.Fetched.{Fetched}
-use Rattle.circuits.specs.declared.Fetched.the-variants.{At, Past}
+use Rattle.lookup.specs.declared.Fetched.{Fetched}
+use Rattle.lookup.specs.declared.Fetched.the-variants.{At, Past}
 use Rattle.circuits.specs.Orders.{program}
-use Rattle.circuits.specs.Fetch.{fetched}
+use Rattle.lookup.specs.Fetch.{fetched}
 use Rattle.jobs.specs.Job.{job-gates, steps-of}
 use Rattle.jobs.specs.Walk.{order-at}
 use Rattle.jobs.proofs.Orders.{orders-from, no-more}

@@ -13,19 +13,19 @@ ghost use Rattle.parties.specs.Calls as Calls;
 ghost use Rattle.dealer.specs.Preparation.{answer, dealer, outset, Judged, with-deal, with-product, with-refresh, dealing, deal-all, Room};
 use crate::Masks;
 use crate::Prepared;
-use circuits::Fetched;
 use circuits::Order;
-use circuits::fetch;
 use gates::Gate;
 use gates::Shape;
-use gates::deal_word;
 use gates::put;
-use gates::shape_of;
 use gates::step_mask;
 use jobs::Checked;
 use jobs::check;
 use jobs::order_at;
+use lookup::Fetched;
+use lookup::fetch;
 use parties::fresh;
+use speech::deal_word;
+use speech::shape_of;
 
 // The words used of A and of B, and the deals written.
 pub struct Used {

@@ -1,20 +1,15 @@
-// The gates of a program on shares, and a party's steps through them: what a gate writes on a lane, and the word
-// that a party speaks at an exchange. A lane is a party's words of one kind, the masked values m or one of the masks:
-// slots 0 to 15 are the registers, 16 to 23 the temporaries (document 01's kept words).
+// The gates of a program on shares, and what a gate writes on a lane (what is dealt and spoken there: crate `speech`).
+// A lane is a party's words of one kind, the masked values m or one of the masks: slots 0 to 15 are the registers, 16
+// to 23 the temporaries (document 01's kept words).
 
 mod lane;
 mod parts;
-mod speech;
 
 pub use lane::at;
 pub use lane::put;
 pub use lane::step_m;
 pub use lane::step_mask;
-pub use speech::deal_word;
-pub use speech::met_word;
-pub use speech::shape_of;
-pub use speech::word1;
-pub use speech::word2;
+pub use parts::part_of;
 
 // A part of a word.
 pub enum Part {

@@ -1,10 +1,9 @@
-// Shifts, bits and floors of words, total in every argument; and the number that party 0 deals of two masks.
+// Shifts, bits and floors of words, total in every argument.
 ghost use mathlib.Core.Path.{_≡_};
 ghost use Prim.Native.Nat.{_%_, _^_};
-ghost use Rattle.words.specs.Words.{neg, bit, shl, shr};
+ghost use Rattle.words.specs.Words.{bit, shl, shr};
 ghost use Rattle.words.specs.Signed.{shr-signed};
-ghost use Rattle.gates.specs.Meaning.{part, dealt-of};
-use crate::Dealt;
+ghost use Rattle.gates.specs.Meaning.{part};
 use crate::Part;
 
 // x shifted up by n: the bits past the word drop out, so from 32 on nothing is left.
@@ -52,23 +51,5 @@ pub fn part_of(f: Part, x: u32) -> u32
     match f {
         Part::Field { k, j } => low_bits(shift_down(x, k), j),
         Part::Signed { k } => signed_floor(x, k),
-    }
-}
-
-// -x modulo 2^32.
-pub fn negated(x: u32) -> u32
-    ensures { λ r. ⌜ r ≡ neg 32 x ⌝ }
-{
-    std::num::wrapping_sub_u32(0, x)
-}
-
-// What party 0 deals of the masks l1 and l2.
-pub fn dealt_number(f: Dealt, l1: u32, l2: u32) -> u32
-    ensures { λ r. ⌜ r ≡ dealt-of 32 f l1 l2 ⌝ }
-{
-    match f {
-        Dealt::OfSum { part } => part_of(part, std::num::wrapping_add_u32(l1, l2)),
-        Dealt::OfNegated { part } => part_of(part, negated(std::num::wrapping_add_u32(l1, l2))),
-        Dealt::OfBits => l1 ^ l2,
     }
 }

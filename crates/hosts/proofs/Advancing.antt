@@ -10,10 +10,10 @@ use Rattle.gates.specs.Steps.{Lane, Step}
 use Rattle.gates.specs.Meaning.{meaning, order-steps, job-steps}
 use Rattle.gates.specs.Walk.{Exchanging}
 use Rattle.gates.specs.Parties.{Pair}
-use Rattle.circuits.specs.declared.Fetched.{Fetched}
-use Rattle.circuits.specs.declared.Fetched.the-variants.{At, Past}
+use Rattle.lookup.specs.declared.Fetched.{Fetched}
+use Rattle.lookup.specs.declared.Fetched.the-variants.{At, Past}
 use Rattle.circuits.specs.declared.Order.{Order}
-use Rattle.circuits.specs.Fetch.{fetched}
+use Rattle.lookup.specs.Fetch.{fetched}
 use Rattle.circuits.specs.Orders.{program}
 use Rattle.jobs.specs.Job.{job-gates}
 use Rattle.parties.specs.Calls.{word-at}

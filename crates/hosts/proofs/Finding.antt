@@ -15,11 +15,11 @@ use Rattle.gates.specs.Meaning.{meaning, order-steps, job-steps}
 use Rattle.gates.specs.Walk.{Exchanging}
 use Rattle.gates.specs.Costs.{Cost}
 use Rattle.circuits.specs.declared.Order.{Order}
-use Rattle.circuits.specs.declared.Sought.{Sought}
-use Rattle.circuits.specs.declared.Sought.the-variants.{Nowhere}
-use Rattle.circuits.specs.declared.Sought.the-variants as Sought
-use Rattle.circuits.specs.declared.Fetched.the-variants.{At}
-use Rattle.circuits.specs.Fetch.{fetched, sought}
+use Rattle.lookup.specs.declared.Sought.{Sought}
+use Rattle.lookup.specs.declared.Sought.the-variants.{Nowhere}
+use Rattle.lookup.specs.declared.Sought.the-variants as Sought
+use Rattle.lookup.specs.declared.Fetched.the-variants.{At}
+use Rattle.lookup.specs.Fetch.{fetched, sought}
 use Rattle.circuits.specs.Orders.{program}
 use Rattle.jobs.specs.Job.{Fault, job-fault, job-gates, steps-of}
 use Rattle.jobs.specs.Answers.{check-job}

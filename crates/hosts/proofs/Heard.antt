@@ -15,9 +15,9 @@ use Rattle.gates.specs.Walk.{Exchanging}
 use Rattle.gates.specs.Parties.{Pair}
 use Rattle.gates.specs.Speech.{shape}
 use Rattle.circuits.specs.declared.Order.{Order}
-use Rattle.circuits.specs.declared.Fetched.{Fetched}
-use Rattle.circuits.specs.declared.Fetched.the-variants.{At, Past}
-use Rattle.circuits.specs.Fetch.{fetched}
+use Rattle.lookup.specs.declared.Fetched.{Fetched}
+use Rattle.lookup.specs.declared.Fetched.the-variants.{At, Past}
+use Rattle.lookup.specs.Fetch.{fetched}
 use Rattle.circuits.specs.Orders.{program}
 use Rattle.jobs.specs.Job.{job-gates}
 use Rattle.parties.specs.Lent.{Party}

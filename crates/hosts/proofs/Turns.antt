@@ -13,9 +13,9 @@ use Rattle.gates.specs.Meaning.{meaning, order-steps}
 use Rattle.gates.specs.Walk.{Exchanging}
 use Rattle.gates.specs.Parties.{Pair, on-m, on-mask}
 use Rattle.gates.specs.Speech.{shape}
-use Rattle.circuits.specs.declared.Fetched.{Fetched}
-use Rattle.circuits.specs.declared.Fetched.the-variants.{At, Past}
-use Rattle.circuits.specs.Fetch.{fetched}
+use Rattle.lookup.specs.declared.Fetched.{Fetched}
+use Rattle.lookup.specs.declared.Fetched.the-variants.{At, Past}
+use Rattle.lookup.specs.Fetch.{fetched}
 use Rattle.parties.specs.Lent.{Party}
 use Rattle.hosts.specs.Walks.{cursor, host-of, deal-taken, reported, Halting, Walked}
 use Rattle.hosts.proofs.Walking.{never, of-gate, passes-local, passes-deal, at-gate, inside, acts}

@@ -14,8 +14,8 @@ use Rattle.gates.specs.Meaning.{meaning, order-steps}
 use Rattle.gates.specs.Walk.{walk, Exchanging}
 use Rattle.gates.specs.Parties.{Pair, on-m, on-mask, act1, act2}
 use Rattle.gates.specs.Speech.{shape}
-use Rattle.circuits.specs.declared.Fetched.the-variants.{At, Past}
-use Rattle.circuits.specs.Fetch.{fetched}
+use Rattle.lookup.specs.declared.Fetched.the-variants.{At, Past}
+use Rattle.lookup.specs.Fetch.{fetched}
 use Rattle.parties.specs.Lent.{Party, party1, party2, party-of}
 use Rattle.parties.specs.Calls.{word-at, spoken-at, report}
 use Rattle.hosts.specs.Walks.{cursor, host-of, deal-taken, reported}

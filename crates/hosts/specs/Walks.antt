@@ -12,9 +12,9 @@ use Rattle.gates.specs.Meaning.{meaning, order-steps, job-steps}
 use Rattle.gates.specs.Walk.{walk, Exchanging}
 use Rattle.gates.specs.Parties.{Pair}
 use Rattle.gates.specs.Speech.{met}
-use Rattle.circuits.specs.declared.Fetched.{Fetched}
-use Rattle.circuits.specs.declared.Fetched.the-variants.{At, Past}
-use Rattle.circuits.specs.Fetch.{fetched}
+use Rattle.lookup.specs.declared.Fetched.{Fetched}
+use Rattle.lookup.specs.declared.Fetched.the-variants.{At, Past}
+use Rattle.lookup.specs.Fetch.{fetched}
 use Rattle.circuits.specs.Orders.{program}
 use Rattle.tables.specs.Table.{rows}
 use Rattle.parties.specs.Lent.{Party, party-of}

@@ -19,15 +19,15 @@ use crate::lending::check_lent;
 use crate::speaking::Reach;
 use crate::speaking::meet;
 use crate::walk::advance;
-use circuits::Fetched;
-use circuits::Sought;
-use circuits::fetch;
-use circuits::seek;
 use gates::Gate;
 use gates::Shape;
-use gates::shape_of;
 use jobs::Checked;
 use jobs::order_at;
+use lookup::Fetched;
+use lookup::Sought;
+use lookup::fetch;
+use lookup::seek;
+use speech::shape_of;
 
 // Words used of A and B, and deals.
 pub struct Used {

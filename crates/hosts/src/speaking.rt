@@ -10,14 +10,14 @@ ghost use Rattle.parties.specs.Calls.{word-at};
 ghost use Rattle.hosts.specs.Walks.{cursor, host-of, deal-taken, new-mask, sum-of, heard-at};
 use gates::Gate;
 use gates::Shape;
-use gates::met_word;
 use gates::put;
-use gates::shape_of;
 use gates::step_m;
 use gates::step_mask;
-use gates::word1;
-use gates::word2;
 use jobs::word_at;
+use speech::met_word;
+use speech::shape_of;
+use speech::word1;
+use speech::word2;
 
 // Where a walk stands in an order: at a gate, with so many words of A and deals used.
 pub struct Reach {

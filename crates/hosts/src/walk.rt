@@ -13,12 +13,12 @@ use crate::answering::answered;
 use crate::speaking::Reach;
 use crate::speaking::say;
 use crate::speaking::step;
-use circuits::Fetched;
 use circuits::Order;
-use circuits::fetch;
 use gates::Shape;
-use gates::shape_of;
 use jobs::order_at;
+use lookup::Fetched;
+use lookup::fetch;
+use speech::shape_of;
 
 // Up to the order's next product or refresh, or past its last gate. Each gate writes its one slot in place.
 fn walk_order(

@@ -1,0 +1,4 @@
+pub mod Packing
+pub mod Indices
+pub mod Places
+pub mod ByKind

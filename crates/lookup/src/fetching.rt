@@ -1,0 +1,49 @@
+// The gate at an index of an order's program.
+ghost use mathlib.Core.Path.{_≡_};
+ghost use mathlib.Core.List.{[], _∷_};
+ghost use Rattle.tables.specs.Table.{rows};
+ghost use Rattle.circuits.specs.Orders.{program};
+ghost use Rattle.lookup.specs.Fetch.{fetched};
+use crate::Fetched;
+use crate::curve_gates::curve_gate;
+use crate::templates::exact_gate;
+use crate::templates::one_bit_gate;
+use crate::templates::relu_gate;
+use crate::templates::slack_gate;
+use circuits::Order;
+use gates::Gate;
+
+// A program of one gate.
+fn only(gate: Gate, i: usize) -> Fetched
+    ensures { λ f. ⌜ f ≡ fetched (gate ∷ []) i ⌝ }
+{
+    if i == 0 {
+        Fetched::At { gate }
+    } else {
+        Fetched::Past
+    }
+}
+
+// Nothing is asked of the order or of the table: a kind above 10 has no gates, and a shift out of range has its gates too.
+pub fn fetch(o: Order, table: &[u32], i: usize) -> Fetched
+    ensures { λ f. ⌜ f ≡ fetched (program 32 (rows (now (table .entry))) o) i ⌝ }
+{
+    let kind = o.kind;
+    let d = o.target;
+    let a = o.source;
+    let c = o.fourth;
+    match kind {
+        0 => only(Gate::Add { d, a, b: c }, i),
+        1 => only(Gate::Sub { d, a, b: c }, i),
+        2 => only(Gate::Plus { d, a, n: c }, i),
+        3 => only(Gate::Scale { d, a, n: c }, i),
+        4 => only(Gate::Mul { d, a, b: c }, i),
+        5 => only(Gate::Refresh { d, a }, i),
+        6 => slack_gate(c, a, d, i),
+        7 => one_bit_gate(c, a, d, i),
+        8 => exact_gate(c, a, d, i),
+        9 => relu_gate(a, d, i),
+        10 => curve_gate(c, a, d, table, i),
+        _ => Fetched::Past,
+    }
+}

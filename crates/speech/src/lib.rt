@@ -1,0 +1,166 @@
+// What is dealt and spoken at a gate: the formulas of document 01 on words, and for each gate which of them it takes.
+// The definitions stand with the gates (`Speech`, `Meaning`).
+ghost use mathlib.Core.Path.{_≡_};
+ghost use Rattle.words.specs.Words.{sub, neg, numbers, bits};
+ghost use Rattle.shares.specs.Gates.{product-deal, product-word1, product-word2, refresh-word1, refresh-word2};
+ghost use Rattle.gates.specs.Speech.{dealt-word, spoken1, spoken2, met, shape};
+ghost use Rattle.gates.specs.Meaning.{meaning, dealt-of};
+use gates::Dealt;
+use gates::Gate;
+use gates::Shape;
+use gates::at;
+use gates::part_of;
+
+// ---- numbers
+
+// -x modulo 2^32.
+fn negated(x: u32) -> u32
+    ensures { λ r. ⌜ r ≡ neg 32 x ⌝ }
+{
+    std::num::wrapping_sub_u32(0, x)
+}
+
+// What party 0 deals of the masks l1 and l2.
+fn dealt_number(f: Dealt, l1: u32, l2: u32) -> u32
+    ensures { λ r. ⌜ r ≡ dealt-of 32 f l1 l2 ⌝ }
+{
+    match f {
+        Dealt::OfSum { part } => part_of(part, std::num::wrapping_add_u32(l1, l2)),
+        Dealt::OfNegated { part } => part_of(part, negated(std::num::wrapping_add_u32(l1, l2))),
+        Dealt::OfBits => l1 ^ l2,
+    }
+}
+
+// The second mask of a deal of v, whose first is x: -x - v.
+fn second_mask(v: u32, x: u32) -> u32
+    ensures { λ r. ⌜ r ≡ sub 32 (neg 32 x) v ⌝ }
+{
+    std::num::wrapping_sub_u32(negated(x), v)
+}
+
+// g2 = La × Lb - g1.
+fn product_deal(a1: u32, a2: u32, b1: u32, b2: u32, g1: u32) -> u32
+    ensures { λ r. ⌜ r ≡ product-deal (numbers 32) a1 a2 b1 b2 g1 ⌝ }
+{
+    let a = std::num::wrapping_add_u32(a1, a2);
+    let b = std::num::wrapping_add_u32(b1, b2);
+    std::num::wrapping_sub_u32(words::wrapping_mul(a, b), g1)
+}
+
+// ma × mb - ma × Lb1 - mb × La1 + g1 + L1.
+fn product_word1(ma: u32, mb: u32, a1: u32, b1: u32, g1: u32, l1: u32) -> u32
+    ensures { λ r. ⌜ r ≡ product-word1 (numbers 32) ma mb a1 b1 g1 l1 ⌝ }
+{
+    let p = words::wrapping_mul(ma, mb);
+    let q = std::num::wrapping_sub_u32(p, words::wrapping_mul(ma, b1));
+    let r = std::num::wrapping_sub_u32(q, words::wrapping_mul(mb, a1));
+    std::num::wrapping_add_u32(std::num::wrapping_add_u32(r, g1), l1)
+}
+
+// g2 - ma × Lb2 - mb × La2 + L2.
+fn product_word2(ma: u32, mb: u32, a2: u32, b2: u32, g2: u32, l2: u32) -> u32
+    ensures { λ r. ⌜ r ≡ product-word2 (numbers 32) ma mb a2 b2 g2 l2 ⌝ }
+{
+    let q = std::num::wrapping_sub_u32(g2, words::wrapping_mul(ma, b2));
+    let r = std::num::wrapping_sub_u32(q, words::wrapping_mul(mb, a2));
+    std::num::wrapping_add_u32(r, l2)
+}
+
+// ma - La1 + L1.
+fn refresh_word1(ma: u32, a1: u32, l1: u32) -> u32
+    ensures { λ r. ⌜ r ≡ refresh-word1 (numbers 32) ma a1 l1 ⌝ }
+{
+    std::num::wrapping_add_u32(std::num::wrapping_sub_u32(ma, a1), l1)
+}
+
+// L2 - La2.
+fn refresh_word2(a2: u32, l2: u32) -> u32
+    ensures { λ r. ⌜ r ≡ refresh-word2 (numbers 32) a2 l2 ⌝ }
+{
+    std::num::wrapping_sub_u32(l2, a2)
+}
+
+// ---- bits: `and` for times, xor for plus and minus
+
+fn and_deal(a1: u32, a2: u32, b1: u32, b2: u32, g1: u32) -> u32
+    ensures { λ r. ⌜ r ≡ product-deal (bits 32) a1 a2 b1 b2 g1 ⌝ }
+{
+    ((a1 ^ a2) & (b1 ^ b2)) ^ g1
+}
+
+fn and_word1(ma: u32, mb: u32, a1: u32, b1: u32, g1: u32, l1: u32) -> u32
+    ensures { λ r. ⌜ r ≡ product-word1 (bits 32) ma mb a1 b1 g1 l1 ⌝ }
+{
+    (ma & mb) ^ (ma & b1) ^ (mb & a1) ^ g1 ^ l1
+}
+
+fn and_word2(ma: u32, mb: u32, a2: u32, b2: u32, g2: u32, l2: u32) -> u32
+    ensures { λ r. ⌜ r ≡ product-word2 (bits 32) ma mb a2 b2 g2 l2 ⌝ }
+{
+    g2 ^ (ma & b2) ^ (mb & a2) ^ l2
+}
+
+// ---- the gates
+
+// Party 0's deal; x is the A word of the first mask, or g1 of a product.
+pub fn deal_word(g: Gate, x: u32, l1: &[u32; 24], l2: &[u32; 24]) -> u32
+    ensures { λ r. ⌜ r ≡ dealt-word (meaning 32 g) x (now (l1 .entry)) (now (l2 .entry)) ⌝ }
+{
+    match g {
+        Gate::Mul { d: _, a, b } => product_deal(at(l1, a), at(l2, a), at(l1, b), at(l2, b), x),
+        Gate::And { d: _, a, b } => and_deal(at(l1, a), at(l2, a), at(l1, b), at(l2, b), x),
+        Gate::Deal { d: _, a, dealt } => second_mask(dealt_number(dealt, at(l1, a), at(l2, a)), x),
+        Gate::DealBits { d: _, a } => x ^ negated(std::num::wrapping_add_u32(at(l1, a), at(l2, a))),
+        _ => 0,
+    }
+}
+
+// The word that party 1 speaks, with its part g1 of a product and its new mask.
+pub fn word1(g: Gate, m: &[u32; 24], l: &[u32; 24], g1: u32, l1: u32) -> u32
+    ensures { λ r. ⌜ r ≡ spoken1 (meaning 32 g) (now (m .entry)) (now (l .entry)) g1 l1 ⌝ }
+{
+    match g {
+        Gate::Mul { d: _, a, b } => product_word1(at(m, a), at(m, b), at(l, a), at(l, b), g1, l1),
+        Gate::And { d: _, a, b } => and_word1(at(m, a), at(m, b), at(l, a), at(l, b), g1, l1),
+        Gate::Refresh { d: _, a } => refresh_word1(at(m, a), at(l, a), l1),
+        _ => 0,
+    }
+}
+
+// The word that party 2 speaks, with the deal g2 and its new mask.
+pub fn word2(g: Gate, m: &[u32; 24], l: &[u32; 24], g2: u32, l2: u32) -> u32
+    ensures { λ r. ⌜ r ≡ spoken2 (meaning 32 g) (now (m .entry)) (now (l .entry)) g2 l2 ⌝ }
+{
+    match g {
+        Gate::Mul { d: _, a, b } => product_word2(at(m, a), at(m, b), at(l, a), at(l, b), g2, l2),
+        Gate::And { d: _, a, b } => and_word2(at(m, a), at(m, b), at(l, a), at(l, b), g2, l2),
+        Gate::Refresh { d: _, a } => refresh_word2(at(l, a), l2),
+        _ => 0,
+    }
+}
+
+// The new m of an exchange: the sum of party 1's word and party 2's.
+pub fn met_word(g: Gate, v: u32, w: u32) -> u32
+    ensures { λ r. ⌜ r ≡ met (meaning 32 g) v w ⌝ }
+{
+    match g {
+        Gate::Mul { d: _, a: _, b: _ } => std::num::wrapping_add_u32(v, w),
+        Gate::And { d: _, a: _, b: _ } => v ^ w,
+        Gate::Refresh { d: _, a: _ } => std::num::wrapping_add_u32(v, w),
+        _ => 0,
+    }
+}
+
+// What a walk does at the gate.
+pub fn shape_of(g: Gate) -> Shape
+    ensures { λ r. ⌜ r ≡ shape (meaning 32 g) ⌝ }
+{
+    match g {
+        Gate::Mul { d, a: _, b: _ } => Shape::Product { d },
+        Gate::And { d, a: _, b: _ } => Shape::Product { d },
+        Gate::Refresh { d, a: _ } => Shape::Refreshing { d },
+        Gate::Deal { d, a: _, dealt: _ } => Shape::Dealing { d },
+        Gate::DealBits { d, a: _ } => Shape::Dealing { d },
+        _ => Shape::Local,
+    }
+}
