@@ -16,14 +16,14 @@ use crate::Prepared;
 use circuits::Order;
 use gates::Gate;
 use gates::Shape;
-use gates::put;
-use gates::step_mask;
 use jobs::Checked;
 use jobs::check;
 use jobs::order_at;
+use lanes::step_mask;
 use lookup::Fetched;
 use lookup::fetch;
 use parties::fresh;
+use slots::put;
 use speech::deal_word;
 use speech::shape_of;
 

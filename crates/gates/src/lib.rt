@@ -1,15 +1,6 @@
-// The gates of a program on shares, and what a gate writes on a lane (what is dealt and spoken there: crate `speech`).
-// A lane is a party's words of one kind, the masked values m or one of the masks: slots 0 to 15 are the registers, 16
-// to 23 the temporaries (document 01's kept words).
-
-mod lane;
-mod parts;
-
-pub use lane::at;
-pub use lane::put;
-pub use lane::step_m;
-pub use lane::step_mask;
-pub use parts::part_of;
+// The gates of a program on shares: definitions and laws of what a gate writes on a lane, deals and speaks (the code:
+// crates `slots`, `lanes`, `speech`). A lane is a party's words of one kind, the masked values m or one of the masks:
+// slots 0 to 15 are the registers, 16 to 23 the temporaries (document 01's kept words).
 
 // A part of a word.
 pub enum Part {

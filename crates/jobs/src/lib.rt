@@ -1,7 +1,6 @@
 // Jobs: lists of orders, four words to an order. Checking a job with its table, and the part of a mask list that it leaves unused.
 ghost use mathlib.Core.Path.{_≡_};
 ghost use Rattle.jobs.specs.Job.{ill-sized};
-ghost use Rattle.gates.specs.Steps.{at};
 ghost use Rattle.gates.specs.Costs.{cost-of};
 ghost use Rattle.jobs.specs.Walk.{order-at};
 ghost use Rattle.jobs.specs.Answers.{verdict, check-job, need, leftover-number, leftover-part};
@@ -11,6 +10,7 @@ use crate::cost::plus;
 use crate::cost::rows_of;
 use crate::faults::order_fault;
 use circuits::Order;
+use slots::word_at;
 
 mod cost;
 mod faults;
@@ -49,13 +49,6 @@ fn ill_sized(job: &[u32]) -> bool
         return true;
     }
     n % 4 != 0
-}
-
-// A word of a list; past the end stands 0, as in the definitions.
-pub fn word_at(words: &[u32], i: usize) -> u32
-    ensures { λ r. ⌜ r ≡ at (now (words .entry)) i ⌝ }
-{
-    if i < words.len() { words[i] } else { 0 }
 }
 
 // The order at an index of a job.

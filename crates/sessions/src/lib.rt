@@ -11,13 +11,13 @@ use hosts::Answer;
 use hosts::Registers;
 use hosts::State;
 use hosts::start;
-use jobs::word_at;
 use parties::fresh;
 use shares::DealerShare;
 use shares::Opening;
 use shares::Shares;
 use shares::WorkerShare;
 use shares::reconstruct;
+use slots::word_at;
 
 // A share of every register, on which the three hosts agree.
 pub struct Shared {

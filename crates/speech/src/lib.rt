@@ -8,8 +8,8 @@ ghost use Rattle.gates.specs.Meaning.{meaning, dealt-of};
 use gates::Dealt;
 use gates::Gate;
 use gates::Shape;
-use gates::at;
-use gates::part_of;
+use slots::at;
+use slots::part_of;
 
 // ---- numbers
 

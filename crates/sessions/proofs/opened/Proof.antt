@@ -5,7 +5,7 @@ use Rattle.sessions.proofs.opened.Statement.{statement}
 use Rattle.sessions.proofs.opened.Tie as tie
 use Rattle.sessions.proofs.opened.Reads as reads
 use Rattle.sessions.proofs.opened.Lts as lts
-use Rattle.jobs.proofs.word_at.Reads as word-at-reads
+use Rattle.slots.proofs.word_at.Reads as word-at-reads
 use Rattle.sessions.proofs.held.Reads as held-reads
 use Rattle.shares.proofs.reconstruct.Reads as reconstruct-reads
 

@@ -1,0 +1,20 @@
+use Rattle.words.specs.Words.{add}
+use borrow.Author.Needs.{needs}
+use Rattle.lanes.proofs.plus.Statement.{statement}
+use Rattle.lanes.proofs.plus.Tie as tie
+
+at-requires : tie.Need-at-requires
+at-requires c κs = search needs
+
+wrapping-add-u32-requires : tie.Need-wrapping-add-u32-requires
+wrapping-add-u32-requires c κs = search needs
+
+put-requires : tie.Need-put-requires
+put-requires c κs = search needs
+
+returns : tie.Need-returns
+unfolding add
+returns c = simp (c .put .ensures, c .before .before .wrapping-add-u32 .ensures, c .before .before .before .at .ensures)
+
+pub plus-spec : {M : Type 1} → statement M
+plus-spec = tie.close (tie.spec at-requires wrapping-add-u32-requires put-requires returns)

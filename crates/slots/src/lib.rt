@@ -1,0 +1,41 @@
+// A lane's slots, and what a word has in its parts. Reading past the last slot gives 0 and writing there does nothing,
+// so that every gate has a meaning on every lane.
+ghost use mathlib.Core.Path.{_≡_};
+ghost use lib.ListN.{set};
+ghost use Rattle.gates.specs.Steps as Steps;
+
+mod parts;
+
+pub use parts::bit_of;
+pub use parts::part_of;
+pub use parts::shift_up;
+
+// ---- the accessors go by a slice, whose length is there to test: no contract speaks of bounds
+
+// A word of a list; past the end stands 0, as in the definitions.
+pub fn word_at(words: &[u32], i: usize) -> u32
+    ensures { λ r. ⌜ r ≡ Steps.at (now (words .entry)) i ⌝ }
+{
+    if i < words.len() { words[i] } else { 0 }
+}
+
+fn put_word(words: &mut [u32], d: u32, v: u32)
+    ensures { λ r. ⌜ now (words .exit) ≡ set (now (words .entry)) d v ⌝ }
+{
+    let at = d as usize;
+    if at < words.len() {
+        words[at] = v;
+    }
+}
+
+pub fn at(lane: &[u32; 24], i: u32) -> u32
+    ensures { λ r. ⌜ r ≡ Steps.at (now (lane .entry)) i ⌝ }
+{
+    word_at(lane, i as usize)
+}
+
+pub fn put(lane: &mut [u32; 24], d: u32, v: u32)
+    ensures { λ r. ⌜ now (lane .exit) ≡ set (now (lane .entry)) d v ⌝ }
+{
+    put_word(lane, d, v);
+}
