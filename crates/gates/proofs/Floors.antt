@@ -1,14 +1,13 @@
--- What the machine's shifts, masks and differences of words give, for every distance. Assumes nothing.
+-- What the machine's shifts and masks of words give, for every distance. Assumes nothing.
 use mathlib.Core.Path.{_≡_, sym, ap, _∙_}
 use Prim.Native.Nat.{ℕ, suc, _+_, _-_, _*_, _/_, _%_, _^_, _≤_, _<_}
-use native.Mathlib.Nat.{mul-mod-left, mul-assoc, one-mul, zero-add, mod-eq-of-lt, div-eq-of-lt, div-le-self, lt-of-lt-of-le, lt-of-le-of-lt}
+use native.Mathlib.Nat.{mul-mod-left, mul-assoc, one-mul, mod-eq-of-lt, div-eq-of-lt, div-le-self, lt-of-lt-of-le, lt-of-le-of-lt}
 use native.Mathlib.Omega.{arith}
 use lib.Bits.{bitAnd, and-mask}
 use lib.IntN.{pos, negsuc}
 use lib.Pow.{pow-pos, pow-add, pow-mono, pow-lt}
-use Rattle.words.specs.Words.{add, sub, neg, shl, shr}
+use Rattle.words.specs.Words.{shl, shr}
 use Rattle.words.specs.Signed.{floor, wrap, shr-signed}
-use Rattle.words.proofs.Words.{sub-of}
 use Rattle.words.proofs.Integers.{sub-below}
 use Rattle.words.proofs.Signed.{signed-low, signed-high}
 
@@ -52,9 +51,3 @@ floor-negative w k x h l =
     let e : 2 ^ w - suc x ≡ 2 ^ w - 1 - x = omega arith in
     let q : (2 ^ w - 1 - x) / 2 ^ k ≤ 2 ^ w - 1 - x = div-le-self (2 ^ w - 1 - x) (2 ^ k) in
     rw (signed-high w x h, sub-below x (2 ^ w) l, e, mod-eq-of-lt {n = (2 ^ w - 1 - x) / 2 ^ k} {m = 2 ^ w} (omega arith)) (omega arith)
-
--- ---- 0 - x
-
-pub neg-of : (w r x : ℕ) → r < 2 ^ w → x < 2 ^ w → add w r x ≡ 0 → r ≡ neg w x
-unfolding sub neg
-neg-of w r x h l e = sub-of w r x h l e ∙ ap (λ (n : ℕ). n % 2 ^ w) (zero-add (2 ^ w - x))
