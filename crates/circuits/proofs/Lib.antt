@@ -8,3 +8,4 @@ pub mod Opens
 pub mod Costs
 pub mod Calibration
 pub mod Worked
+pub mod CurveGates

@@ -15,11 +15,12 @@ use Rattle.gates.specs.Meaning.{meaning, order-steps, job-steps}
 use Rattle.gates.specs.Walk.{Exchanging}
 use Rattle.gates.specs.Costs.{Cost}
 use Rattle.circuits.specs.declared.Order.{Order}
-use Rattle.lookup.specs.declared.Sought.{Sought}
-use Rattle.lookup.specs.declared.Sought.the-variants.{Nowhere}
-use Rattle.lookup.specs.declared.Sought.the-variants as Sought
+use Rattle.places.specs.declared.Sought.{Sought}
+use Rattle.places.specs.declared.Sought.the-variants.{Nowhere}
+use Rattle.places.specs.declared.Sought.the-variants as Sought
 use Rattle.lookup.specs.declared.Fetched.the-variants.{At}
-use Rattle.lookup.specs.Fetch.{fetched, sought}
+use Rattle.lookup.specs.Fetch.{fetched}
+use Rattle.places.specs.Seek.{sought}
 use Rattle.circuits.specs.Orders.{program}
 use Rattle.jobs.specs.Job.{Fault, job-fault, job-gates, steps-of}
 use Rattle.jobs.specs.Answers.{check-job}

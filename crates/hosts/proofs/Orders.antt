@@ -11,8 +11,8 @@ use Rattle.gates.specs.Meaning.{meaning, order-steps, job-steps}
 use Rattle.gates.specs.Walk.{far}
 use Rattle.gates.specs.Costs.{Cost, cost}
 use Rattle.gates.proofs.Needs.{Used, far-used}
-use Rattle.lookup.specs.declared.Sought.the-variants.{Nowhere}
-use Rattle.lookup.specs.Fetch.{sought}
+use Rattle.places.specs.declared.Sought.the-variants.{Nowhere}
+use Rattle.places.specs.Seek.{sought}
 use Rattle.parties.specs.Places.{nowhere, found, seek}
 use Rattle.hosts.specs.Walks.{cursor}
 use Rattle.hosts.proofs.Walking.{OfGate, of-gate}

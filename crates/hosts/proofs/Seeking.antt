@@ -13,10 +13,11 @@ use Rattle.gates.specs.Meaning.{meaning, order-steps}
 use Rattle.gates.specs.Walk.{Exchanging}
 use Rattle.gates.specs.Speech.{shape}
 use Rattle.lookup.specs.declared.Fetched.the-variants.{At}
-use Rattle.lookup.specs.declared.Sought.{Sought}
-use Rattle.lookup.specs.declared.Sought.the-variants.{Nowhere}
-use Rattle.lookup.specs.declared.Sought.the-variants as Sought
-use Rattle.lookup.specs.Fetch.{fetched, sought-at, sought}
+use Rattle.places.specs.declared.Sought.{Sought}
+use Rattle.places.specs.declared.Sought.the-variants.{Nowhere}
+use Rattle.places.specs.declared.Sought.the-variants as Sought
+use Rattle.lookup.specs.Fetch.{fetched}
+use Rattle.places.specs.Seek.{sought-at, sought}
 use Rattle.parties.specs.Places.{Found, nowhere, found, here, seek}
 use Rattle.hosts.proofs.Walking.{never, OfGate, of-gate}
 

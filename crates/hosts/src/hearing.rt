@@ -24,9 +24,9 @@ use gates::Shape;
 use jobs::Checked;
 use jobs::order_at;
 use lookup::Fetched;
-use lookup::Sought;
 use lookup::fetch;
-use lookup::seek;
+use places::Sought;
+use places::seek;
 use speech::shape_of;
 
 // Words used of A and B, and deals.

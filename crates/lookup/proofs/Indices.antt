@@ -19,10 +19,11 @@ use Rattle.tables.specs.Table.{Row, row, rows, row-at, slope, slopes}
 use Rattle.tables.specs.Curve.{slope-after, coefficient}
 use Rattle.tables.proofs.Wrapping.{wrap-minus}
 use Rattle.lookup.specs.declared.Fetched.the-variants.{At, Past}
-use Rattle.circuits.specs.Programs.{update-gates, rounds, adder, to-number, relu-program, one-bit-program, exact-program, row-program, rows-program, sum-program, curve-exact, curve-one-bit}
+use Rattle.circuits.specs.Programs.{update-gates, rounds, adder, to-number, relu-program, one-bit-program, exact-program, row-program, rows-program, sum-program}
 use Rattle.circuits.specs.Orders.{curve-program}
 use Rattle.lookup.specs.Fetch.{fetched}
 use Rattle.lookup.specs.Packed.{change}
+use Rattle.circuits.proofs.CurveGates.{rows-count, truncation, refreshed, curve-gates, sum-gates}
 use Rattle.lookup.proofs.Packing.{fetched-past}
 
 -- ---- one program after another
@@ -45,12 +46,6 @@ fetched-next g gs zero n = absurd (n refl)
 fetched-next g gs (suc i) n = let e : suc i - 1 ≡ i = omega arith in rw e
 
 -- ---- the words of a table
-
-pub rows-count : (ws : List ℕ) → length (rows ws) ≡ length ws / 2
-unfolding rows
-rows-count [] = refl
-rows-count (r ∷ []) = refl
-rows-count (r ∷ c ∷ ws) = omega (arith, rows-count ws)
 
 row-words : (ws : List ℕ) (j : ℕ) → j < length (rows ws) → row-at (rows ws) j ≡ row (getD ws (2 * j) 0) (getD ws (2 * j + 1) 0)
 unfolding rows
@@ -198,18 +193,13 @@ module _ (x : ℕ) (hs : List Gate) where
 
   -- ---- the sum, and what comes after it
 
-  pub sum-gates : (ps : List Row) → sum-program 32 x ps ≡ Const 22 (4096 * row-at ps 0 .c % 2 ^ 32) ∷ rows-program 32 x (pos 0) ps
-  unfolding sum-program rows-program
-  sum-gates [] = refl
-  sum-gates (p ∷ ps) = refl
-
   module _ (ps : List Row) where
     sum-first : At (Const 22 (4096 * row-at ps 0 .c % 2 ^ 32)) ≡ fetched (sum-program 32 x ps ++ hs) 0
     unfolding fetched
-    sum-first = rw (sum-gates ps)
+    sum-first = rw (sum-gates x ps)
 
     sum-next : (i : ℕ) → (i ≡ 0 → ⊥) → fetched (rows-program 32 x (pos 0) ps ++ hs) (i - 1) ≡ fetched (sum-program 32 x ps ++ hs) i
-    sum-next i n = rw (sum-gates ps) (fetched-next (Const 22 (4096 * row-at ps 0 .c % 2 ^ 32)) (rows-program 32 x (pos 0) ps ++ hs) i n)
+    sum-next i n = rw (sum-gates x ps) (fetched-next (Const 22 (4096 * row-at ps 0 .c % 2 ^ 32)) (rows-program 32 x (pos 0) ps ++ hs) i n)
 
     sum-row : (i : ℕ) → (i ≡ 0 → ⊥) → (i - 1) / 42 < length ps
         → fetched (row-program 32 x (row-at ps ((i - 1) / 42) .r) (change ps ((i - 1) / 42))) ((i - 1) % 42) ≡ fetched (sum-program 32 x ps ++ hs) i
@@ -220,21 +210,7 @@ module _ (x : ℕ) (hs : List Gate) where
     sum-rest : (i : ℕ) → (i ≡ 0 → ⊥) → length ps ≤ (i - 1) / 42 → fetched hs (i - 1 - 42 * length ps) ≡ fetched (sum-program 32 x ps ++ hs) i
     sum-rest i n h = rows-end ps (pos 0) (i - 1 - 42 * length ps) (i - 1) (omega arith) ∙ sum-next i n
 
--- ---- the curve's truncation, by its mode
-
-unfoldable pub truncation : (d mode : ℕ) → List Gate
-truncation d zero = exact-program 32 12 22 d
-truncation d (suc m) = Refresh 22 22 ∷ one-bit-program 32 12 22 d
-
-pub curve-gates : (x d : ℕ) (ps : List Row) (mode : ℕ) → sum-program 32 x ps ++ truncation d mode ≡ curve-program 32 x d ps mode
-unfolding truncation curve-program curve-exact curve-one-bit
-curve-gates x d ps zero = refl
-curve-gates x d ps (suc m) = refl
-
-pub refreshed : (d mode : ℕ) → (mode ≡ 0 → ⊥) → Refresh 22 22 ∷ one-bit-program 32 12 22 d ≡ truncation d mode
-unfolding truncation
-refreshed d zero f = absurd (f refl)
-refreshed d (suc m) f = refl
+-- ---- the curve, with the truncation of its mode
 
 module _ (x d : ℕ) (ps : List Row) (mode : ℕ) where
   to-curve : (i : ℕ) → fetched (sum-program 32 x ps ++ truncation d mode) i ≡ fetched (curve-program 32 x d ps mode) i

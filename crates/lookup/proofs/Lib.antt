@@ -1,4 +1,3 @@
 pub mod Packing
 pub mod Indices
-pub mod Places
 pub mod ByKind

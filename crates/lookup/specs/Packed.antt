@@ -1,7 +1,7 @@
--- How the code packs gates and places into constants, and the change of slope at a row. Assumes nothing.
+-- How the code packs gates into constants, and the change of slope at a row. Assumes nothing.
 use mathlib.Core.Bool.{cond}
 use mathlib.Core.List.{List, [], _∷_}
-use Prim.Native.Nat.{ℕ, _+_, _-_, _/_, _%_, _^_}
+use Prim.Native.Nat.{ℕ, _-_, _/_, _%_, _^_}
 use lib.Dec.{eqb, ltb}
 use lib.IntN.{pos, _-ℤ_}
 use lib.ListN.{getD}
@@ -13,8 +13,6 @@ use Rattle.gates.specs.declared.Dealt.the-variants.{OfSum, OfNegated, OfBits}
 use Rattle.gates.specs.declared.Gate.{Gate}
 use Rattle.gates.specs.declared.Gate.the-variants.{Add, Sub, Xor, Mul, And, Scale, Plus, Up, Bit, Const, Public, Deal, DealBits}
 use Rattle.tables.specs.Table.{Row, slopes}
-use Rattle.lookup.specs.declared.Sought.{Sought}
-use Rattle.lookup.specs.declared.Sought.the-variants.{Found, Nowhere}
 
 -- a slot, 24 for the source x and 25 for the target d
 unfoldable pub slot-of : (x d code : ℕ) → ℕ
@@ -52,15 +50,6 @@ gate-of k n t a b = cond (ltb n 5) (on-slots n t a b) (cond (ltb n 10) (with-con
 -- a packed gate, in decimal: operation, target, source and third field, two digits each
 unfoldable pub unpacked : (k x d packed : ℕ) → Gate
 unpacked k x d p = gate-of k (p / 1000000) (slot-of x d (p / 10000 % 100)) (slot-of x d (p / 100 % 100)) (p % 100)
-
--- a place further on by i gates, a words of A and k deals
-unfoldable pub moved : (i a k : ℕ) → Sought → Sought
-moved i a k (Found g b m) = Found (i + g) (a + b) (k + m)
-moved i a k Nowhere = Nowhere
-
--- a packed place, in decimal: gate, words of A and deals, two digits each
-unfoldable pub place-of : (packed : ℕ) → Sought
-place-of p = Found (p / 10000) (p / 100 % 100) (p % 100)
 
 -- the change of slope at a row, as a word: the slope of the segment after it less that of the segment before it
 unfoldable pub change : List Row → (row : ℕ) → ℕ

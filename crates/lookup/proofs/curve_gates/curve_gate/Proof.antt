@@ -2,7 +2,8 @@ use mathlib.Core.Path.{ap, _∙_}
 use Prim.Native.Nat.{ℕ}
 use native.Mathlib.Omega.{arith}
 use borrow.Author.Needs.{needs}
-use Rattle.lookup.proofs.Indices.{rows-count, curve-first, curve-row, exact-rest, refreshed-rest}
+use Rattle.circuits.proofs.CurveGates.{rows-count}
+use Rattle.lookup.proofs.Indices.{curve-first, curve-row, exact-rest, refreshed-rest}
 use Rattle.lookup.specs.declared.Fetched.the-variants.{At}
 use Rattle.gates.specs.declared.Gate.the-variants.{Const}
 use Rattle.lookup.proofs.curve_gates.curve_gate.Statement.{statement}

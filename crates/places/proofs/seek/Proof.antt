@@ -1,8 +1,8 @@
 use borrow.Author.Needs.{needs}
-use Rattle.lookup.proofs.ByKind.{no-exchange}
+use Rattle.places.proofs.ByKind.{no-exchange}
 use Rattle.circuits.specs.Orders.{program, kinds}
-use Rattle.lookup.proofs.seeking.seek.Statement.{statement}
-use Rattle.lookup.proofs.seeking.seek.Tie as tie
+use Rattle.places.proofs.seek.Statement.{statement}
+use Rattle.places.proofs.seek.Tie as tie
 
 at-once-requires : tie.Need-at-once-requires
 at-once-requires c κs = search needs

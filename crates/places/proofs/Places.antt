@@ -17,13 +17,13 @@ use Rattle.gates.specs.Meaning.{meaning}
 use Rattle.gates.specs.Speech.{shape}
 use Rattle.tables.specs.Table.{Row, rows}
 use Rattle.tables.specs.Curve.{slope-after, coefficient}
-use Rattle.lookup.specs.declared.Sought.{Sought}
-use Rattle.lookup.specs.declared.Sought.the-variants.{Found, Nowhere}
+use Rattle.places.specs.declared.Sought.{Sought}
+use Rattle.places.specs.declared.Sought.the-variants.{Found, Nowhere}
 use Rattle.circuits.specs.Programs.{update-gates, rounds, adder, to-number, relu-program, one-bit-program, exact-program, row-program, rows-program, sum-program}
 use Rattle.circuits.specs.Orders.{curve-program}
-use Rattle.lookup.specs.Fetch.{sought-at, sought}
-use Rattle.lookup.specs.Packed.{moved, place-of}
-use Rattle.lookup.proofs.Indices.{rows-count, truncation, refreshed, curve-gates, sum-gates}
+use Rattle.places.specs.Seek.{sought-at, sought}
+use Rattle.places.specs.Packed.{moved, place-of}
+use Rattle.circuits.proofs.CurveGates.{rows-count, truncation, refreshed, curve-gates, sum-gates}
 
 -- ---- the exchanges of a program, from gate i on, before which a words of A and k deals are used
 
@@ -283,7 +283,7 @@ module _ (x : ℕ) (hs : List Gate) where
   -- the first gate has no exchange
   sum-next : (ps : List Row) (n : ℕ) → sought 32 (rows-program 32 x (pos 0) ps ++ hs) n 1 0 0 ≡ sought 32 (sum-program 32 x ps ++ hs) n 0 0 0
   unfolding sought sought-at meaning shape
-  sum-next ps n = rw (sum-gates x hs ps)
+  sum-next ps n = rw (sum-gates x ps)
 
 -- ---- the curve, of a table's words
 

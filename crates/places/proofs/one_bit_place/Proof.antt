@@ -1,9 +1,9 @@
 use mathlib.Core.Path.{_∙_}
 use native.Mathlib.Omega.{arith}
 use borrow.Author.Needs.{needs}
-use Rattle.lookup.proofs.Places.{place-at, place-past, one-bit-place-table, one-bit-places}
-use Rattle.lookup.proofs.seeking.one_bit_place.Statement.{statement}
-use Rattle.lookup.proofs.seeking.one_bit_place.Tie as tie
+use Rattle.places.proofs.Places.{place-at, place-past, one-bit-place-table, one-bit-places}
+use Rattle.places.proofs.one_bit_place.Statement.{statement}
+use Rattle.places.proofs.one_bit_place.Tie as tie
 
 placed-requires : tie.Need-placed-requires
 placed-requires c κs = search needs

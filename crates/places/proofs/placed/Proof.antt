@@ -1,8 +1,8 @@
 use mathlib.Core.Path.{refl}
 use borrow.Author.Needs.{needs}
-use Rattle.lookup.specs.Packed.{moved, place-of}
-use Rattle.lookup.proofs.seeking.placed.Statement.{statement}
-use Rattle.lookup.proofs.seeking.placed.Tie as tie
+use Rattle.places.specs.Packed.{moved, place-of}
+use Rattle.places.proofs.placed.Statement.{statement}
+use Rattle.places.proofs.placed.Tie as tie
 
 add-t6 : tie.Need-add-t6
 add-t6 c = search needs

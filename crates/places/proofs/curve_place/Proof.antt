@@ -1,8 +1,8 @@
 use mathlib.Core.Path.{_∙_}
 use borrow.Author.Needs.{needs}
-use Rattle.lookup.proofs.Places.{curve-row-place, exact-rest-place, refreshed-rest-place}
-use Rattle.lookup.proofs.seeking.curve_place.Statement.{statement}
-use Rattle.lookup.proofs.seeking.curve_place.Tie as tie
+use Rattle.places.proofs.Places.{curve-row-place, exact-rest-place, refreshed-rest-place}
+use Rattle.places.proofs.curve_place.Statement.{statement}
+use Rattle.places.proofs.curve_place.Tie as tie
 
 mul-relu-place : tie.Need-mul-relu-place
 mul-relu-place c = search needs

@@ -2,10 +2,10 @@ use mathlib.Core.Path.{_∙_}
 use borrow.Author.Needs.{needs}
 use Rattle.gates.specs.Speech.{shape}
 use Rattle.gates.specs.Meaning.{meaning}
-use Rattle.lookup.specs.Fetch.{sought, sought-at}
-use Rattle.lookup.proofs.Places.{refresh-next}
-use Rattle.lookup.proofs.seeking.refreshed_place.Statement.{statement}
-use Rattle.lookup.proofs.seeking.refreshed_place.Tie as tie
+use Rattle.places.specs.Seek.{sought, sought-at}
+use Rattle.places.proofs.Places.{refresh-next}
+use Rattle.places.proofs.refreshed_place.Statement.{statement}
+use Rattle.places.proofs.refreshed_place.Tie as tie
 
 returns : tie.Need-returns
 unfolding sought sought-at meaning shape

@@ -1,6 +1,6 @@
-use Rattle.lookup.proofs.ByKind.{once, not-once}
-use Rattle.lookup.proofs.seeking.at_once.Statement.{statement}
-use Rattle.lookup.proofs.seeking.at_once.Tie as tie
+use Rattle.places.proofs.ByKind.{once, not-once}
+use Rattle.places.proofs.at_once.Statement.{statement}
+use Rattle.places.proofs.at_once.Tie as tie
 
 returns : tie.Need-returns
 returns c = once _ (c .if1 .taken)

@@ -7,10 +7,15 @@ ghost use Rattle.gates.specs.declared.Gate.the-variants.{Mul, Refresh};
 ghost use Rattle.tables.specs.Table.{rows};
 ghost use Rattle.circuits.specs.Programs.{relu-program, one-bit-program, exact-program};
 ghost use Rattle.circuits.specs.Orders.{curve-program, program};
-ghost use Rattle.lookup.specs.Fetch.{sought};
-ghost use Rattle.lookup.specs.Packed.{moved, place-of};
-use crate::Sought;
+ghost use Rattle.places.specs.Seek.{sought};
+ghost use Rattle.places.specs.Packed.{moved, place-of};
 use circuits::Order;
+
+// Where an order's n-th product or refresh stands: the gate's index, and the words of A and the deals that the order uses before it.
+pub enum Sought {
+    Found { gate: usize, a: usize, deals: usize },
+    Nowhere,
+}
 
 const RELU_PLACES: [usize; 12] = [
     02_01_01,

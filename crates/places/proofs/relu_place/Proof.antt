@@ -1,9 +1,9 @@
 use mathlib.Core.Path.{_∙_}
 use native.Mathlib.Omega.{arith}
 use borrow.Author.Needs.{needs}
-use Rattle.lookup.proofs.Places.{place-at, place-past, relu-place-table, relu-places}
-use Rattle.lookup.proofs.seeking.relu_place.Statement.{statement}
-use Rattle.lookup.proofs.seeking.relu_place.Tie as tie
+use Rattle.places.proofs.Places.{place-at, place-past, relu-place-table, relu-places}
+use Rattle.places.proofs.relu_place.Statement.{statement}
+use Rattle.places.proofs.relu_place.Tie as tie
 
 mul-placed : tie.Need-mul-placed
 mul-placed c = search needs
