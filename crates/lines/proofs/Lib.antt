@@ -1,6 +1,3 @@
 pub mod Reading
-pub mod Texts
-pub mod Decimals
 pub mod Signs
-pub mod Rows
 pub mod Worked

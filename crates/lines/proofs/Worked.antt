@@ -2,7 +2,7 @@
 use mathlib.Core.Path.{_≡_, refl}
 use mathlib.Core.List.{[], _∷_}
 use lib.IntN.{pos, negsuc}
-use Rattle.lines.specs.Lines.{malformed, asking, with-sign, digits, after-sign, after-space, after-letter, from-letter, parsed, decimal, shown, signed-shown, letter, answered, refused}
+use Rattle.lines.specs.Lines.{malformed, asking, with-sign, digits, after-sign, after-space, after-letter, from-letter, parsed}
 
 -- "E 202"; "S 007" is 7; "E -0" is 0; "S -12"
 read : (parsed (69 ∷ 32 ∷ 50 ∷ 48 ∷ 50 ∷ []) ≡ asking 0 (pos 202))
@@ -19,9 +19,3 @@ not-read : (parsed [] ≡ malformed)
     × (parsed (69 ∷ 32 ∷ 49 ∷ 32 ∷ []) ≡ malformed)
 unfolding parsed from-letter after-letter after-space after-sign digits
 not-read = (refl, refl, refl, refl)
-
--- document 01's first line of output, "E 202 1 128 216", and its last, "refused 11"
-printed : (answered 0 (pos 202) (pos 1) 128 216 ≡ 69 ∷ 32 ∷ 50 ∷ 48 ∷ 50 ∷ 32 ∷ 49 ∷ 32 ∷ 49 ∷ 50 ∷ 56 ∷ 32 ∷ 50 ∷ 49 ∷ 54 ∷ 10 ∷ [])
-    × (refused 11 ≡ 114 ∷ 101 ∷ 102 ∷ 117 ∷ 115 ∷ 101 ∷ 100 ∷ 32 ∷ 49 ∷ 49 ∷ 10 ∷ [])
-unfolding answered refused letter signed-shown shown decimal
-printed = (refl, refl)

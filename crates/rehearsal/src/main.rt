@@ -1,7 +1,7 @@
 // The rehearsal (document 01, "House table by hand"): answers each line of standard input on standard output. What a line is answered
 // is proved of `rehearsals::rehearsed`; here bytes are read and written.
-use lines::Text;
 use lines::front;
+use prints::Text;
 use rehearsals::rehearsed;
 
 // A line as far as it is read. Its 65th byte is the last to be kept: a line over 64 bytes is answered alike whatever else it holds.

@@ -20,10 +20,11 @@ use Rattle.shares.specs.declared.Sharing.the-variants.{Shared, OutOfRange}
 use Rattle.shares.specs.declared.Opening.{Opening}
 use Rattle.shares.specs.declared.Opening.the-variants.{Opened, Disagree}
 use Rattle.hosts.specs.Answers.{state-of}
-use Rattle.lines.specs.Lines.{malformed, asking, parsed, answered, refused}
+use Rattle.lines.specs.Lines.{malformed, asking, parsed}
 use Rattle.lines.specs.Answers.{asked}
 use Rattle.lines.specs.declared.Asked.{Asked}
 use Rattle.lines.specs.declared.Asked.the-variants.{Reading, Malformed}
+use Rattle.prints.specs.Printed.{answered, refused}
 use Rattle.sessions.specs.declared.Session.{Session as Session′}
 use Rattle.sessions.specs.Sessions.{Session, session-of, opened-register}
 use Rattle.rehearsals.specs.Rehearsal as Spec

@@ -8,7 +8,8 @@ use Rattle.words.specs.Signed.{floor, wrap, in-range}
 use Rattle.words.specs.Truncation.{slip}
 use Rattle.tables.specs.Table.{rows, house}
 use Rattle.tables.specs.Curve.{scaled}
-use Rattle.lines.specs.Lines.{Parsed, malformed, asking, parsed, answered, refused}
+use Rattle.lines.specs.Lines.{Parsed, malformed, asking, parsed}
+use Rattle.prints.specs.Printed.{answered, refused}
 
 -- "Word j of A, from j = 1, is 2654435769 × j, of B 2246822519 × j"
 abbrev pub first-a : ℕ

@@ -2,15 +2,15 @@
 // house table.
 ghost use mathlib.Core.Path.{_≡_};
 ghost use Rattle.lines.specs.Lines.{asking};
-ghost use Rattle.lines.specs.Answers.{text-of};
+ghost use Rattle.prints.specs.Answers.{text-of};
 ghost use Rattle.rehearsals.specs.Rehearsal.{answer, answer-of};
 ghost use Rattle.rehearsals.specs.Trial.{mode-word, in-first, trial, Ran};
 use lines::Asked;
-use lines::Text;
-use lines::answer_text;
 use lines::parse;
-use lines::refusal_text;
 use masks::fill;
+use prints::Text;
+use prints::answer_text;
+use prints::refusal_text;
 use sessions::Session;
 use sessions::Shared;
 use sessions::opened;

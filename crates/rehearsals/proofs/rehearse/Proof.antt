@@ -11,8 +11,8 @@ use Rattle.rehearsals.proofs.rehearse.Statement.{statement}
 use Rattle.rehearsals.proofs.rehearse.Tie as tie
 use Rattle.rehearsals.proofs.rehearse.Reads as reads
 use Rattle.rehearsals.proofs.rehearse.Lts as lts
-use Rattle.lines.proofs.answer_text.Reads as answer-text-reads
-use Rattle.lines.proofs.refusal_text.Reads as refusal-text-reads
+use Rattle.prints.proofs.answer_text.Reads as answer-text-reads
+use Rattle.prints.proofs.refusal_text.Reads as refusal-text-reads
 use Rattle.rehearsals.proofs.curve.Reads as curve-reads
 use Rattle.sessions.proofs.opened.Reads as opened-reads
 use Rattle.shares.proofs.share.Reads as share-reads

@@ -7,7 +7,7 @@ use Rattle.rehearsals.proofs.rehearsed.Tie as tie
 use Rattle.rehearsals.proofs.rehearsed.Reads as reads
 use Rattle.rehearsals.proofs.rehearsed.Lts as lts
 use Rattle.lines.proofs.parse.Reads as parse-reads
-use Rattle.lines.proofs.refusal_text.Reads as refusal-text-reads
+use Rattle.prints.proofs.refusal_text.Reads as refusal-text-reads
 use Rattle.rehearsals.proofs.rehearse.Reads as rehearse-reads
 
 -- src/lib.rt:81:11

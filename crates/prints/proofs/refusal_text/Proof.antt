@@ -3,10 +3,10 @@ use mathlib.Core.Path.{ap, _∙_}
 use mathlib.Core.List.{List, _++_}
 use Prim.Native.Nat.{ℕ}
 use lib.ListN.{take}
-use Rattle.lines.specs.Lines.{refused-word}
-use Rattle.lines.proofs.Rows.{refusal}
-use Rattle.lines.proofs.printing.refusal_text.Statement.{statement}
-use Rattle.lines.proofs.printing.refusal_text.Tie as tie
+use Rattle.prints.specs.Printed.{refused-word}
+use Rattle.prints.proofs.Rows.{refusal}
+use Rattle.prints.proofs.refusal_text.Statement.{statement}
+use Rattle.prints.proofs.refusal_text.Tie as tie
 
 empty-requires : tie.Need-empty-requires
 empty-requires c κs = search needs

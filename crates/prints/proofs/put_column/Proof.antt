@@ -1,11 +1,11 @@
 use borrow.Author.Needs.{needs}
 use mathlib.Core.List.{List, [], _∷_}
 use Prim.Native.Nat.{ℕ}
-use Rattle.lines.specs.Answers.{text-of}
-use Rattle.lines.proofs.Signs.{turned-fits, turned-cast, turned-more, held-cast, shows-negative, shows-positive}
-use Rattle.lines.proofs.Texts.{behind}
-use Rattle.lines.proofs.printing.put_column.Statement.{statement}
-use Rattle.lines.proofs.printing.put_column.Tie as tie
+use Rattle.prints.specs.Answers.{text-of}
+use Rattle.prints.proofs.Signs.{turned-fits, turned-cast, turned-more, held-cast, shows-negative, shows-positive}
+use Rattle.prints.proofs.Texts.{behind}
+use Rattle.prints.proofs.put_column.Statement.{statement}
+use Rattle.prints.proofs.put_column.Tie as tie
 
 put-requires : tie.Need-put-requires
 put-requires c κs = search needs

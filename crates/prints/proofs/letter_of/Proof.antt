@@ -1,7 +1,7 @@
 use borrow.Author.Tests.{eq-eqb, ne-eqb}
-use Rattle.lines.specs.Lines.{letter}
-use Rattle.lines.proofs.printing.letter_of.Statement.{statement}
-use Rattle.lines.proofs.printing.letter_of.Tie as tie
+use Rattle.prints.specs.Printed.{letter}
+use Rattle.prints.proofs.letter_of.Statement.{statement}
+use Rattle.prints.proofs.letter_of.Tie as tie
 
 returns : tie.Need-returns
 unfolding letter

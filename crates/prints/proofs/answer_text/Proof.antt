@@ -5,10 +5,10 @@ use Prim.Native.Nat.{ℕ}
 use lib.ListN.{take}
 use mir.Syntax.{w64}
 use mir.ValLaws.{toZ-ofZ}
-use Rattle.lines.proofs.Signs.{shows-word}
-use Rattle.lines.proofs.Rows.{answer}
-use Rattle.lines.proofs.printing.answer_text.Statement.{statement}
-use Rattle.lines.proofs.printing.answer_text.Tie as tie
+use Rattle.prints.proofs.Signs.{shows-word}
+use Rattle.prints.proofs.Rows.{answer}
+use Rattle.prints.proofs.answer_text.Statement.{statement}
+use Rattle.prints.proofs.answer_text.Tie as tie
 
 empty-requires : tie.Need-empty-requires
 empty-requires c κs = search needs

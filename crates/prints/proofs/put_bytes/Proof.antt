@@ -8,10 +8,10 @@ use native.Mathlib.Omega.{arith}
 use Prim.Native.Nat.{ℕ, _-_, _≤_}
 use lib.ListN.{length, take}
 use lib.Seq.{take-all}
-use Rattle.lines.specs.Answers.{text-of}
-use Rattle.lines.proofs.Texts.{same, more}
-use Rattle.lines.proofs.printing.put_bytes.Statement.{statement}
-use Rattle.lines.proofs.printing.put_bytes.Tie as tie
+use Rattle.prints.specs.Answers.{text-of}
+use Rattle.prints.proofs.Texts.{same, more}
+use Rattle.prints.proofs.put_bytes.Statement.{statement}
+use Rattle.prints.proofs.put_bytes.Tie as tie
 
 abbrev Inv-loop : tie.InvT-loop
 Inv-loop s longer₀ i₀ longer i = (i ≤ length s) × (text-of longer ≡ take 80 (text-of longer₀ ++ take i s))

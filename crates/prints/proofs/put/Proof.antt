@@ -2,9 +2,9 @@ use borrow.Author.Needs.{needs}
 use mathlib.Core.Path.{_≡_}
 use mathlib.Core.List.{[], _∷_}
 use lib.ListN.{length}
-use Rattle.lines.proofs.Texts.{full, room}
-use Rattle.lines.proofs.printing.put.Statement.{statement}
-use Rattle.lines.proofs.printing.put.Tie as tie
+use Rattle.prints.proofs.Texts.{full, room}
+use Rattle.prints.proofs.put.Statement.{statement}
+use Rattle.prints.proofs.put.Tie as tie
 
 returns : tie.Need-returns
 returns c =

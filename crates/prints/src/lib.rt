@@ -1,10 +1,16 @@
-// Writing a line. What does not fit in 80 bytes is cut off, so that no step asks for room; no line is longer than 66.
+// The lines that the rehearsal program prints (document 01, "House table by hand"), as short texts. What does not fit in
+// 80 bytes is cut off, so that no step asks for room; no line is longer than 66.
 ghost use mathlib.Core.Path.{_≡_};
 ghost use mathlib.Core.List.{[], _∷_, _++_};
 ghost use lib.ListN.{take};
-ghost use Rattle.lines.specs.Lines.{letter, shown, signed-shown, answered, refused};
-ghost use Rattle.lines.specs.Answers.{text-of};
-use crate::Text;
+ghost use Rattle.prints.specs.Printed.{letter, shown, signed-shown, answered, refused};
+ghost use Rattle.prints.specs.Answers.{text-of};
+
+// A short text: the first `len` of its bytes.
+pub struct Text {
+    pub bytes: [u8; 80],
+    pub len: usize,
+}
 
 pub fn answer_text(mode: u32, reading: i64, value: i64, deals: u32, words: u32) -> Text
     ensures { λ t. ⌜ text-of t ≡ answered mode reading value deals words ⌝ }

@@ -2,17 +2,17 @@
 use borrow.Author.Needs.{needs}
 use native.Mathlib.Nat.{div-lt-self}
 use native.Mathlib.Omega.{arith}
-use Rattle.lines.specs.Answers.{text-of}
-use Rattle.lines.proofs.Decimals.{shown-digit, last-digit}
+use Rattle.prints.specs.Answers.{text-of}
+use Rattle.prints.proofs.Decimals.{shown-digit, last-digit}
 use Prim.Native.Nat.{ℕ, _<_}
 use borrow.Fn.Kinds.{In}
 use borrow.Fn.PlainCycle.{Measures, is, falls, and}
-use Rattle.lines.proofs.printing.put_number.Reads as put-number
-use Rattle.lines.proofs.printing.put_number.Kinds as put-number-kinds
-use Rattle.lines.proofs.printing.+put_number.Lts-put_number as put-number-lts
-use Rattle.lines.proofs.printing.put.Reads as put-reads
-use Rattle.lines.proofs.printing.+put_number.{statement}
-use Rattle.lines.proofs.printing.+put_number.Tie.{close}
+use Rattle.prints.proofs.put_number.Reads as put-number
+use Rattle.prints.proofs.put_number.Kinds as put-number-kinds
+use Rattle.prints.proofs.+put_number.Lts-put_number as put-number-lts
+use Rattle.prints.proofs.put.Reads as put-reads
+use Rattle.prints.proofs.+put_number.{statement}
+use Rattle.prints.proofs.+put_number.Tie.{close}
 
 abbrev μ-put-number : Measures 0 put-number-kinds.ps ℕ
 μ-put-number κs a = a .1 .0

@@ -8,10 +8,10 @@ use lib.ListN.{length, take, length-append}
 use lib.Seq.{take-all}
 use mir.Syntax.{w32, w64}
 use mir.Val.{Fits, SFits}
-use Rattle.lines.specs.Lines.{letter, shown, signed-shown, answered, refused-word, refused}
-use Rattle.lines.proofs.Texts.{behind}
-use Rattle.lines.proofs.Decimals.{shown-length}
-use Rattle.lines.proofs.Signs.{signed-length}
+use Rattle.prints.specs.Printed.{letter, shown, signed-shown, answered, refused-word, refused}
+use Rattle.prints.proofs.Texts.{behind}
+use Rattle.prints.proofs.Decimals.{shown-length}
+use Rattle.prints.proofs.Signs.{signed-length}
 
 word-length : (n : ℕ) → Fits w32 n → length (shown n) ≤ 10
 word-length n h = shown-length 9 n (omega arith)

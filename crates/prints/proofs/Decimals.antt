@@ -8,8 +8,8 @@ use native.Mathlib.Decide.{decLt}
 use native.Mathlib.Omega.{arith}
 use borrow.Author.Tests.{lt-ltb, le-ltb}
 use lib.ListN.{length, take, length-append}
-use Rattle.lines.specs.Lines.{decimal, shown}
-use Rattle.lines.proofs.Texts.{behind}
+use Rattle.prints.specs.Printed.{decimal, shown}
+use Rattle.prints.proofs.Texts.{behind}
 
 less-or-not : (n m : ℕ) → (n < m) ⊎ (m ≤ n)
 less-or-not n m = elim (decLt n m) [ yes h ↦ inl h | no f ↦ inr (omega arith) ]

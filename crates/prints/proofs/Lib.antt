@@ -1,0 +1,5 @@
+pub mod Texts
+pub mod Decimals
+pub mod Signs
+pub mod Rows
+pub mod Worked
