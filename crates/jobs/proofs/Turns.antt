@@ -1,11 +1,13 @@
--- `check`'s walk over the orders of a job, on plain values: what holds at its head, a turn, and its ends. Assumes nothing.
+-- `survey`'s walk over the orders of a job, on plain values: what holds at its head, a turn, and its ends. Assumes nothing.
 use mathlib.Core.Path.{_≡_, refl, sym, ap, _∙_}
 use mathlib.Core.Bool.{Bool, true, false, cond}
 use mathlib.Core.List.{List}
 use Prim.Native.Nat.{ℕ, zero, suc, _+_, _*_, _/_, _%_, _≤_}
 use native.Mathlib.Numerals.{add-one}
 use native.Mathlib.Omega.{arith}
-use lib.ListN.{length, drop}
+use borrow.Author.Tests.{ne-eqb, eqb-false}
+use lib.Dec.{eqb}
+use lib.ListN.{length, take, drop}
 use Rattle.tables.specs.Table.{rows, keeps-rules}
 use Rattle.gates.specs.Costs.{Cost, cost-of, plus}
 use Rattle.gates.proofs.Needs.{cost-path}
@@ -13,29 +15,57 @@ use Rattle.circuits.specs.declared.Order.{Order}
 use Rattle.jobs.specs.declared.cost.Counts.{Counts}
 use Rattle.jobs.specs.Job.{Fault, orders, ill-sized, order-fault, fault-at, orders-fault, job-fault, job-cost}
 use Rattle.jobs.specs.Walk.{order-at, counted, Small, kind-cost}
-use Rattle.jobs.specs.Answers.{refusal, judged, check-job}
+use Rattle.jobs.specs.Answers.{Verdict, refusal, judged, check-job, numbered, counts-before}
 use Rattle.jobs.proofs.Orders.{orders-from, no-more}
 use Rattle.jobs.proofs.Sums.{orders-cost, whole-job, no-orders, one-more, rows-right, Below, few, rows-few}
 use Rattle.jobs.proofs.Conditions.{sized}
 
 -- ---- from a fault to the answer
 
-answered : (w : ℕ) (job table : List ℕ) (p : Fault) → job-fault w job table ≡ p → check-job w job table ≡ judged (p .0) p (job-cost w job table)
-unfolding check-job
-answered w job table p e = ap (λ (q : Fault). judged (q .0) q (job-cost w job table)) e
+module _ (w : ℕ) (job table : List ℕ) (place : ℕ) where
+  answered : (p : Fault) → job-fault w job table ≡ p → check-job w job table ≡ judged (p .0) p (job-cost w job table)
+  unfolding check-job
+  answered p e = ap (λ (q : Fault). judged (q .0) q (job-cost w job table)) e
 
-refused : (n : ℕ) (p : Fault) (k : Cost) → (n ≡ 0 → ⊥) → judged n p k ≡ refusal p
-unfolding judged
-refused zero p k h = absurd (h refl)
-refused (suc n) p k h = refl
+  marked : (p : Fault) → job-fault w job table ≡ p → counts-before w job table place ≡ judged (p .0) p (job-cost w (take (place * 4) job) table) .counts
+  unfolding counts-before
+  marked p e = ap (λ (q : Fault). judged (q .0) q (job-cost w (take (place * 4) job) table) .counts) e
+
+  pub refused : (n i : ℕ) → job-fault w job table ≡ (n, i) → (n ≡ 0 → ⊥) → (numbered n i ≡ check-job w job table) × (cost-of 0 0 0 0 ≡ counts-before w job table place)
+  unfolding judged
+  refused zero i e ne = absurd (ne refl)
+  refused (suc n) i e ne = (ap (λ (b : Bool). record { accepted = b; number = suc n; index = i; counts = cost-of 0 0 0 0 }) (ne-eqb (suc n) 0 ne) ∙ sym (answered (suc n, i) e), sym (marked (suc n, i) e))
+
+  pub accepted : (k b : Cost) → job-fault w job table ≡ (0, 0) → job-cost w job table ≡ k → b ≡ job-cost w (take (place * 4) job) table
+      → (record { accepted = true; number = 0; index = 0; counts = k } ≡ check-job w job table) × (b ≡ counts-before w job table place)
+  unfolding judged
+  accepted k b e c m = (sym (answered (0, 0) e ∙ ap (judged 0 (0, 0)) c), m ∙ sym (marked (0, 0) e))
+
+-- a verdict in numbers, as the variants say it
+module _ (n i : ℕ) (k : Cost) (w : ℕ) (job table : List ℕ) (e : record { accepted = eqb n 0; number = n; index = i; counts = k } ≡ check-job w job table) where
+  pub as-refusal : (n ≡ 0 → ⊥) → refusal (n, i) ≡ check-job w job table
+  unfolding check-job judged
+  as-refusal ne = go (job-fault w job table .0) (job-fault w job table) (job-cost w job table) e
+    where
+      go : (m : ℕ) (f : Fault) (c : Cost) → record { accepted = eqb n 0; number = n; index = i; counts = k } ≡ judged m f c → refusal (n, i) ≡ judged m f c
+      go zero f c p = absurd (ne (ap (λ (v : Verdict). v .number) p))
+      go (suc m) f c p = ap refusal (λ j. (p j .number, p j .index))
+
+  pub as-counts : n ≡ 0 → record { accepted = true; number = 0; index = 0; counts = k } ≡ check-job w job table
+  unfolding check-job judged
+  as-counts z = go (job-fault w job table .0) (job-fault w job table) (job-cost w job table) e
+    where
+      go : (m : ℕ) (f : Fault) (c : Cost) → record { accepted = eqb n 0; number = n; index = i; counts = k } ≡ judged m f c → record { accepted = true; number = 0; index = 0; counts = k } ≡ judged m f c
+      go zero f c p = ap (λ (x : Cost). record { accepted = true; number = 0; index = 0; counts = x }) (ap (λ (v : Verdict). v .counts) p)
+      go (suc m) f c p = let a : eqb n 0 ≡ false = ap (λ (v : Verdict). v .accepted) p in absurd (eqb-false n 0 a z)
 
 sized-fault : (w : ℕ) (job table : List ℕ) → ill-sized job ≡ false → job-fault w job table ≡ orders-fault w (keeps-rules table) (orders job) 0
 unfolding job-fault
 sized-fault w job table e = rw e
 
-pub ill : (w : ℕ) (job table : List ℕ) → ill-sized job ≡ true → refusal (2, 0) ≡ check-job w job table
+pub ill : (w : ℕ) (job table : List ℕ) → ill-sized job ≡ true → job-fault w job table ≡ (2, 0)
 unfolding job-fault
-ill w job table e = sym (answered w job table (2, 0) (rw e) ∙ refused 2 (2, 0) (job-cost w job table) (λ z. omega arith))
+ill w job table e = rw e
 
 -- ---- one order
 
@@ -86,24 +116,20 @@ module _ (job table : List ℕ) where
   }
 
   module _ {i : ℕ} {sum : Counts} (g : Going job table i sum) {ruled : Bool} {n : ℕ} (t : Given job table ruled n) where
-    pub done : length job / 4 ≤ i → record { accepted = true; number = 0; index = 0; counts = counted sum } ≡ check-job 32 job table
-    unfolding orders-fault judged plus
+    pub done : length job / 4 ≤ i → (job-fault 32 job table ≡ (0, 0)) × (job-cost 32 job table ≡ counted sum)
+    unfolding orders-fault plus
     done h =
         let left = no-more job i h in
         let fine : orders-fault 32 (keeps-rules table) (orders job) 0 ≡ (0, 0) = sym (g .faults) ∙ rw left in
-        let same : job-cost 32 job table ≡ counted sum =
-        sym (g .costs) ∙ rw (left, no-orders (rows table)) (cost-path (omega arith) (omega arith) (omega arith) (omega arith)) in
-        sym (answered 32 job table (0, 0) (sized-fault 32 job table (t .size) ∙ fine) ∙ ap (judged 0 (0, 0)) same)
+        (sized-fault 32 job table (t .size) ∙ fine, sym (g .costs) ∙ rw (left, no-orders (rows table)) (cost-path (omega arith) (omega arith) (omega arith) (omega arith)))
 
     module _ (h : i * 4 + 4 ≤ length job) {o : Order} (eo : o ≡ order-at job i) {f : ℕ} (ef : f ≡ order-fault 32 ruled o) where
       fault-here : orders-fault 32 (keeps-rules table) (orders (drop (i * 4) job)) i ≡ fault-at f i (orders-fault 32 (keeps-rules table) (orders (drop ((i + 1) * 4) job)) (suc i))
       unfolding orders-fault
       fault-here = rw (orders-from job i h, ef, eo, t .rule)
 
-      pub faulty : (f ≡ 0 → ⊥) → refusal (f, i) ≡ check-job 32 job table
-      faulty ne =
-          let found : orders-fault 32 (keeps-rules table) (orders job) 0 ≡ (f, i) = sym (g .faults) ∙ fault-here ∙ stop f i _ ne in
-          sym (answered 32 job table (f, i) (sized-fault 32 job table (t .size) ∙ found) ∙ refused f (f, i) (job-cost 32 job table) ne)
+      pub faulty : (f ≡ 0 → ⊥) → job-fault 32 job table ≡ (f, i)
+      faulty ne = sized-fault 32 job table (t .size) ∙ sym (g .faults) ∙ fault-here ∙ stop f i _ ne
 
       module _ (e : f ≡ 0) {k : Counts} (ek : counted k ≡ kind-cost (o .kind) (o .fourth) n) where
         cost-here : counted k ≡ kind-cost (o .kind) (o .fourth) (length (rows table))

@@ -1,13 +1,16 @@
 -- The answers of checking a job and of asking for unused masks: whole, as functions of every input. Assumes nothing.
 use mathlib.Core.Bool.{Bool, true, false, cond}
 use mathlib.Core.List.{List}
-use Prim.Native.Nat.{ℕ, zero, suc}
-use lib.ListN.{drop}
+use Prim.Native.Nat.{ℕ, zero, suc, _*_}
+use lib.Dec.{eqb}
+use lib.ListN.{take, drop}
 use Rattle.gates.specs.Costs.{Cost, cost-of}
 use Rattle.jobs.specs.declared.Checked.{Checked}
 use Rattle.jobs.specs.declared.Checked.the-variants.{Accepted, Refused}
 use Rattle.jobs.specs.declared.Which.{Which}
 use Rattle.jobs.specs.declared.Which.the-variants.{ListA, ListB}
+use Rattle.jobs.specs.declared.surveying.Findings.{Findings}
+use Rattle.jobs.specs.Walk.{counted}
 use Rattle.jobs.specs.Job.{Fault, job-fault, job-cost, short-a, short-b}
 
 -- accepted or refused; a number, 0 for none; the order's index; the counts, 0 where refused
@@ -33,6 +36,17 @@ judged (suc n) f k = refusal f
 -- checking a job with its table
 unfoldable pub check-job : (w : ℕ) (job table : List ℕ) → Verdict
 check-job w job table = judged (job-fault w job table .0) (job-fault w job table) (job-cost w job table)
+
+-- a survey says the same in numbers
+abbrev pub surveyed : Findings → Verdict
+surveyed s = record { accepted = eqb (s .number) 0; number = s .number; index = s .index; counts = counted (s .whole) }
+
+abbrev pub numbered : (number index : ℕ) → Verdict
+numbered n i = record { accepted = eqb n 0; number = n; index = i; counts = cost-of 0 0 0 0 }
+
+-- the counts of the orders before a place of the job, 0 where the job is refused
+unfoldable pub counts-before : (w : ℕ) (job table : List ℕ) (place : ℕ) → Cost
+counts-before w job table place = judged (job-fault w job table .0) (job-fault w job table) (job-cost w (take (place * 4) job) table) .counts
 
 -- ---- unused masks: "2 to 6 for the one list"; "the whole list if refused"
 

@@ -1,19 +1,18 @@
 // Jobs: lists of orders, four words to an order. Checking a job with its table, and the part of a mask list that it leaves unused.
 ghost use mathlib.Core.Path.{_≡_};
-ghost use Rattle.jobs.specs.Job.{ill-sized};
 ghost use Rattle.gates.specs.Costs.{cost-of};
 ghost use Rattle.jobs.specs.Walk.{order-at};
 ghost use Rattle.jobs.specs.Answers.{verdict, check-job, need, leftover-number, leftover-part};
-use crate::cost::none;
-use crate::cost::order_counts;
-use crate::cost::plus;
-use crate::cost::rows_of;
-use crate::faults::order_fault;
 use circuits::Order;
 use slots::word_at;
 
 mod cost;
 mod faults;
+mod surveying;
+
+pub use cost::Counts;
+pub use surveying::Findings;
+pub use surveying::survey;
 
 // What checking a job with its table finds.
 pub enum Checked {
@@ -35,20 +34,6 @@ pub enum Checked {
 pub enum Which {
     ListA,
     ListB,
-}
-
-// Whether the words are no list of 1 to 64 orders.
-fn ill_sized(job: &[u32]) -> bool
-    ensures { λ b. ⌜ b ≡ ill-sized (now (job .entry)) ⌝ }
-{
-    let n = job.len();
-    if n == 0 {
-        return true;
-    }
-    if 256 < n {
-        return true;
-    }
-    n % 4 != 0
 }
 
 // The order at an index of a job.
@@ -80,35 +65,18 @@ pub fn order_at(job: &[u32], i: usize) -> Order
 pub fn check(job: &[u32], table: &[u32]) -> Checked
     ensures { λ r. ⌜ verdict r ≡ check-job 32 (now (job .entry)) (now (table .entry)) ⌝ }
 {
-    if ill_sized(job) {
+    let found = survey(job, table, 0);
+    if found.number != 0 {
         return Checked::Refused {
-            number: 2,
-            index: 0,
+            number: found.number,
+            index: found.index,
         };
     }
-    let ruled = tables::keeps_rules(table);
-    let rows = rows_of(table, ruled);
-    let n = job.len() / 4;
-    let mut sum = none();
-    let mut i = 0;
-    while i < n {
-        let order = order_at(job, i);
-        let fault = order_fault(order, ruled);
-        if fault != 0 {
-            let index = i as u32;
-            return Checked::Refused {
-                number: fault,
-                index,
-            };
-        }
-        sum = plus(sum, order_counts(order, rows));
-        i += 1;
-    }
     Checked::Accepted {
-        deals: sum.deals,
-        words: sum.words,
-        a: sum.a,
-        b: sum.b,
+        deals: found.whole.deals,
+        words: found.whole.words,
+        a: found.whole.a,
+        b: found.whole.b,
     }
 }
 

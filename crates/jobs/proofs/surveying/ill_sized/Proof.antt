@@ -1,6 +1,6 @@
 use Rattle.jobs.proofs.Conditions.{no-words, too-many, by-fours}
-use Rattle.jobs.proofs.ill_sized.Statement.{statement}
-use Rattle.jobs.proofs.ill_sized.Tie as tie
+use Rattle.jobs.proofs.surveying.ill_sized.Statement.{statement}
+use Rattle.jobs.proofs.surveying.ill_sized.Tie as tie
 
 returns : tie.Need-returns
 returns c = no-words _ (c .if1 .taken)

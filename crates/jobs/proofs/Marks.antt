@@ -1,0 +1,85 @@
+-- The counts of the orders before a place, taken on the walk over a job's orders. Assumes nothing.
+use mathlib.Core.Path.{_≡_, refl, sym, ap, _∙_}
+use mathlib.Core.Logic.{_⊎_, inl, inr, ⊎-elim}
+use mathlib.Core.List.{List, [], _∷_}
+use Prim.Native.Nat.{ℕ, zero, suc, _+_, _*_, _/_, _≤_, _<_}
+use native.Mathlib.Omega.{arith}
+use lib.ListN.{length, take, drop}
+use lib.Seq.{take-all}
+use Rattle.words.proofs.Integers.{le-or-lt}
+use Rattle.tables.specs.Table.{Row, rows}
+use Rattle.gates.specs.Costs.{Cost, cost-of, plus}
+use Rattle.gates.proofs.Needs.{cost-path}
+use Rattle.circuits.specs.declared.Order.{Order}
+use Rattle.jobs.specs.declared.cost.Counts.{Counts}
+use Rattle.jobs.specs.Job.{orders, job-cost}
+use Rattle.jobs.specs.Walk.{counted}
+use Rattle.jobs.proofs.Sums.{orders-cost, whole-job, no-orders, one-more}
+use Rattle.jobs.proofs.Turns.{Going}
+
+-- ---- the orders before an index and those from it on have the job's counts
+
+split : (ps : List Row) (ws : List ℕ) (i : ℕ) → i * 4 ≤ length ws → plus (orders-cost ps (orders (take (i * 4) ws))) (orders-cost ps (orders (drop (i * 4) ws))) ≡ orders-cost ps (orders ws)
+unfolding orders plus
+split ps ws zero h = rw (no-orders ps) (cost-path (omega arith) (omega arith) (omega arith) (omega arith))
+split ps [] (suc i) h = absurd (omega arith)
+split ps (k ∷ []) (suc i) h = absurd (omega arith)
+split ps (k ∷ d ∷ []) (suc i) h = absurd (omega arith)
+split ps (k ∷ d ∷ a ∷ []) (suc i) h = absurd (omega arith)
+split ps (k ∷ d ∷ a ∷ c ∷ ws) (suc i) h =
+    let e : suc i * 4 ≡ suc (suc (suc (suc (i * 4)))) = omega arith in
+    let o : Order = record { kind = k; target = d; source = a; fourth = c } in
+    rw (e, one-more ps o (orders (take (i * 4) ws)), one-more ps o (orders ws), ← split ps ws i (omega arith))
+    (cost-path (omega arith) (omega arith) (omega arith) (omega arith))
+
+cancel : (x y r : Cost) → plus x r ≡ plus y r → x ≡ y
+unfolding plus
+cancel x y r e =
+    let d : x .deals + r .deals ≡ y .deals + r .deals = ap (λ (k : Cost). k .deals) e in
+    let w : x .words + r .words ≡ y .words + r .words = ap (λ (k : Cost). k .words) e in
+    let a : x .a + r .a ≡ y .a + r .a = ap (λ (k : Cost). k .a) e in
+    let b : x .b + r .b ≡ y .b + r .b = ap (λ (k : Cost). k .b) e in
+    cost-path (omega arith) (omega arith) (omega arith) (omega arith)
+
+-- ---- on the way
+
+-- the counts kept: those so far while the place lies ahead, and those before the place from then on
+pub record Marked (job table : List ℕ) (place i : ℕ) (before : Counts) : Type 0 where
+  pub ahead : i ≤ place → counted before ≡ job-cost 32 (take (i * 4) job) table
+  pub behind : place ≤ i → counted before ≡ job-cost 32 (take (place * 4) job) table
+
+module _ (job table : List ℕ) where
+  so-far : {i : ℕ} {sum : Counts} → Going job table i sum → i * 4 ≤ length job → counted sum ≡ job-cost 32 (take (i * 4) job) table
+  so-far {i} {sum} g h =
+      cancel (counted sum) (orders-cost (rows table) (orders (take (i * 4) job))) (orders-cost (rows table) (orders (drop (i * 4) job)))
+      (g .costs ∙ sym (whole-job job table) ∙ sym (split (rows table) job i h))
+      ∙ whole-job (take (i * 4) job) table
+
+  none-yet : {sum : Counts} → counted sum ≡ cost-of 0 0 0 0 → counted sum ≡ job-cost 32 (take 0 job) table
+  unfolding orders
+  none-yet e = e ∙ sym (no-orders (rows table)) ∙ whole-job [] table
+
+  module _ (place : ℕ) where
+    pub unmarked : (before : Counts) → counted before ≡ cost-of 0 0 0 0 → Marked job table place 0 before
+    unmarked before e = record {
+      ahead = λ h. none-yet e;
+      behind = λ h. let z : place ≡ 0 = omega arith in rw z (none-yet e);
+    }
+
+    module _ {i : ℕ} {before : Counts} (m : Marked job table place i before) where
+      pub next-mark : {s b : Counts} → Going job table (i + 1) s → (i + 1) * 4 ≤ length job → ((i < place) × (b ≡ s)) ⊎ ((place ≤ i) × (b ≡ before)) → Marked job table place (i + 1) b
+      next-mark g h (inl (l, e)) =
+          let n = ap counted e ∙ so-far g h in record {
+            ahead = λ k. n;
+            behind = λ k. let z : place ≡ i + 1 = omega arith in rw z n;
+          }
+      next-mark g h (inr (l, e)) = record {
+        ahead = λ k. absurd (omega arith);
+        behind = λ k. ap counted e ∙ m .behind l;
+      }
+
+      pub all-marked : length job ≤ i * 4 → counted before ≡ job-cost 32 (take (place * 4) job) table
+      all-marked h =
+          ⊎-elim (λ (k : place ≤ i). m .behind k)
+          (λ (k : i < place). m .ahead (omega arith) ∙ ap (λ (l : List ℕ). job-cost 32 l table) (take-all (i * 4) job h ∙ sym (take-all (place * 4) job (omega arith))))
+          (le-or-lt place i)
