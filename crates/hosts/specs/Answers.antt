@@ -1,14 +1,10 @@
 -- The code's structs as the records of the definitions. Assumes nothing.
-use mathlib.Core.List.{List, []}
 use Prim.Native.Nat.{ℕ}
 use Rattle.gates.specs.Steps.{Lane}
 use Rattle.gates.specs.Parties.{Pair}
-use Rattle.jobs.specs.Job as Job
 use Rattle.hosts.specs.declared.State.{State}
 use Rattle.hosts.specs.declared.Registers.{Registers}
 use Rattle.hosts.specs.declared.Answer.{Answer}
-use Rattle.hosts.specs.declared.lending.Fault.{Fault}
-use Rattle.parties.specs.Lent.{Lent}
 use Rattle.parties.specs.Calls as Calls
 
 -- a host's registers are two lanes of sixteen words
@@ -24,14 +20,3 @@ answer-of a = record { number = a .number; index = a .index; spoken = a .spoken;
 -- an answer that is no refusal
 abbrev pub going-on : (spoken word : ℕ) (m mask : Lane) (order turn : ℕ) → Calls.Answer
 going-on n v m l o x = record { number = 0; index = 0; spoken = n; word = v; state = record { m = m; mask = l; order = o; turn = x } }
-
--- what a call is lent
-abbrev pub lent : (host : ℕ) (job table masks deals : List ℕ) → Lent
-lent h J T M D = record { host = h; job = J; table = T; masks = M; deals = D }
-
-abbrev pub fault-of : Fault → Job.Fault
-fault-of f = (f .number, f .index)
-
--- the host's number and its lists alone
-abbrev pub lists : (host : ℕ) (masks deals : List ℕ) → Lent
-lists h M D = lent h [] [] M D

@@ -1,11 +1,11 @@
 -- What a call is lent, and the checks 1 to 7. Assumes nothing.
 use mathlib.Core.Bool.{_||_, cond}
-use mathlib.Core.List.{List}
-use Prim.Native.Nat.{ℕ}
+use mathlib.Core.List.{List, []}
+use Prim.Native.Nat.{ℕ, zero, suc}
 use lib.Dec.{eqb}
 use Rattle.gates.specs.Steps.{Step, Exchange, Cursor}
 use Rattle.gates.specs.Parties.{Pair, act1, word-of1, hear1, act2, word-of2, hear2}
-use Rattle.gates.specs.Costs.{Cost}
+use Rattle.gates.specs.Costs.{Cost, cost-of}
 use Rattle.jobs.specs.Job.{Fault, job-fault, job-cost, steps-of, short-a, short-b, short-deals}
 
 -- starting and hearing: the host's number, the job, its table, the host's own mask list (host 1: A; host 2: B), and the deals, of which host 1 takes no notice
@@ -15,6 +15,13 @@ pub record Lent : Type 0 where
   pub table : List ℕ
   pub masks : List ℕ
   pub deals : List ℕ
+
+abbrev pub lent : (host : ℕ) (job table masks deals : List ℕ) → Lent
+lent h J T M D = record { host = h; job = J; table = T; masks = M; deals = D }
+
+-- the host's number and its lists alone
+abbrev pub lists : (host : ℕ) (masks deals : List ℕ) → Lent
+lists h M D = lent h [] [] M D
 
 -- a host's steps, its word at a product or refresh, and its lanes when it has heard the other's
 pub record Party : Type 0 where
@@ -47,6 +54,11 @@ lists-fault k L =
 unfoldable pub lent-fault : ℕ → Lent → Fault
 lent-fault w L =
     cond (eqb (L .host) 1 || eqb (L .host) 2) (or-else (job-fault w (L .job) (L .table)) (lists-fault (job-cost w (L .job) (L .table)) L)) (1, 0)
+
+-- by the number found: the counts so far, or where the call is turned down none
+unfoldable pub passed : (number : ℕ) → Cost → Cost
+passed zero k = k
+passed (suc n) k = cost-of 0 0 0 0
 
 -- preparation: 2 to 7 of host 0
 unfoldable pub dealer-lists-fault : Cost → (A B buffer : List ℕ) → ℕ

@@ -1,6 +1,11 @@
-// Preparation, starting and hearing: their definitions, and the lane that each of them begins with.
+// Preparation, starting and hearing: their definitions, and what they begin with: the lane of each, and the checks of hosts 1 and 2.
 ghost use mathlib.Core.Path.{_≡_};
 ghost use Rattle.parties.specs.Calls as Calls;
+
+mod lending;
+
+pub use lending::Lending;
+pub use lending::check_lent;
 
 // Sixteen registers, and kept words that are 0.
 pub fn fresh(registers: [u32; 16]) -> [u32; 24]

@@ -2,17 +2,16 @@
 use mathlib.Core.Path.{_≡_, refl, ap}
 use mathlib.Core.Bool.{Bool, true, false, _||_, cond}
 use mathlib.Core.List.{List}
-use Prim.Native.Nat.{ℕ, zero, suc, _≤_, _<_}
+use Prim.Native.Nat.{ℕ, zero, suc, _*_, _≤_, _<_}
 use native.Mathlib.Omega.{arith}
 use borrow.Author.Tests.{eq-eqb, ne-eqb, lt-ltb, le-ltb}
 use lib.Dec.{eqb, ltb}
-use lib.ListN.{length}
+use lib.ListN.{length, take}
 use Rattle.gates.specs.Costs.{Cost, cost-of}
 use Rattle.jobs.specs.declared.Checked.the-variants.{Accepted, Refused}
 use Rattle.jobs.specs.Job.{Fault, job-fault, job-cost, short-a, short-b, short-deals}
-use Rattle.jobs.specs.Answers.{Verdict, refusal, verdict, judged, check-job}
-use Rattle.parties.specs.Lent.{Lent, or-else, lists-fault, lent-fault}
-use Rattle.hosts.specs.Answers.{lent, lists}
+use Rattle.jobs.specs.Answers.{Verdict, refusal, verdict, judged, check-job, counts-before}
+use Rattle.parties.specs.Lent.{Lent, lent, lists, or-else, lists-fault, lent-fault, passed}
 
 -- ---- the lists
 
@@ -78,6 +77,27 @@ module _ (J T : List ℕ) (L : Lent) where
       → (r, 0) ≡ or-else (job-fault 32 J T) (lists-fault (job-cost 32 J T) L)
   unfolding check-job
   job-accepted n s a b r e p = accepted-by L (job-cost 32 J T) n s a b (job-fault 32 J T .0) (job-fault 32 J T .1) r e p
+
+-- ---- the counts of the orders before a place
+
+pub none-passed : (n : ℕ) (k : Cost) → (n ≡ 0 → ⊥) → cost-of 0 0 0 0 ≡ passed n k
+unfolding passed
+none-passed zero k h = absurd (h refl)
+none-passed (suc n) k h = refl
+
+pub all-passed : (k : Cost) → k ≡ passed 0 k
+unfolding passed
+all-passed k = refl
+
+pub counts-passed : (J T : List ℕ) (place : ℕ) (k : Cost) → record { accepted = true; number = 0; index = 0; counts = k } ≡ check-job 32 J T
+    → counts-before 32 J T place ≡ job-cost 32 (take (place * 4) J) T
+unfolding check-job counts-before judged
+counts-passed J T place k e = go (job-fault 32 J T .0) (job-fault 32 J T) refl e
+  where
+    go : (m : ℕ) (f : Fault) → f .0 ≡ m → record { accepted = true; number = 0; index = 0; counts = k } ≡ judged m f (job-cost 32 J T)
+        → judged m f (job-cost 32 (take (place * 4) J) T) .counts ≡ job-cost 32 (take (place * 4) J) T
+    go zero f q p = refl
+    go (suc m) f q p = let z : 0 ≡ f .0 = ap (λ (v : Verdict). v .number) p in absurd (omega arith)
 
 -- ---- the host
 

@@ -1,6 +1,6 @@
-use Rattle.hosts.proofs.Faults.{short-1, enough-1, short-2, few-deals, enough-2}
-use Rattle.hosts.proofs.lending.lists_fault.Statement.{statement}
-use Rattle.hosts.proofs.lending.lists_fault.Tie as tie
+use Rattle.parties.proofs.Faults.{short-1, enough-1, short-2, few-deals, enough-2}
+use Rattle.parties.proofs.lending.lists_fault.Statement.{statement}
+use Rattle.parties.proofs.lending.lists_fault.Tie as tie
 
 returns : tie.Need-returns
 returns c = short-1 _ _ _ _ _ _ (c .before .if1 .taken) (c .if2 .taken)
