@@ -18,9 +18,10 @@ use Rattle.circuits.specs.Orders.{program}
 use Rattle.jobs.specs.Job.{job-gates}
 use Rattle.parties.specs.Calls.{word-at}
 use Rattle.jobs.specs.Walk.{order-at}
-use Rattle.hosts.specs.Walks.{cursor, host-of, reported, steps-from, Halting, Walked}
+use Rattle.exchanges.specs.Exchanges.{cursor, host-of}
+use Rattle.hosts.specs.Walks.{reported, steps-from, Halting, Walked}
 use Rattle.hosts.proofs.Walking.{at-gate, past-gates, passes-end, stops, ends, acts-end}
-use Rattle.hosts.proofs.Shapes.{word-by}
+use Rattle.exchanges.proofs.Shapes.{word-by}
 use Rattle.hosts.proofs.Jobs.{gates-drop, gates-over}
 
 -- ---- a turn

@@ -7,10 +7,10 @@ use lib.ListN.{drop}
 use Rattle.gates.specs.Steps.{Lane}
 use Rattle.gates.specs.Parties.{Pair}
 use Rattle.jobs.specs.Job.{Fault, job-gates, steps-of}
-use Rattle.parties.specs.Lent.{party-of, lent-fault, lent-steps}
+use Rattle.parties.specs.Lent.{party-of, lent-fault, lent-steps, lent}
 use Rattle.parties.specs.Calls.{State, Answer, refused, fresh, unless, given, start-walk, start}
-use Rattle.hosts.specs.Answers.{lent}
-use Rattle.hosts.specs.Walks.{cursor, host-of, reported, steps-from}
+use Rattle.exchanges.specs.Exchanges.{cursor, host-of}
+use Rattle.hosts.specs.Walks.{reported, steps-from}
 use Rattle.hosts.proofs.Advancing.{first-gate}
 
 -- ---- the fault's refusal, or the answer

@@ -22,21 +22,19 @@ use Rattle.lookup.specs.declared.Fetched.the-variants.{At}
 use Rattle.lookup.specs.Fetch.{fetched}
 use Rattle.places.specs.Seek.{sought}
 use Rattle.circuits.specs.Orders.{program}
-use Rattle.jobs.specs.Job.{Fault, job-fault, job-gates, steps-of}
-use Rattle.jobs.specs.Answers.{check-job}
-use Rattle.parties.specs.Lent.{party-of, lent-fault, lent-steps}
+use Rattle.jobs.specs.Job.{Fault, job-fault, job-gates, job-cost, steps-of}
+use Rattle.parties.specs.Lent.{party-of, lent-fault, lent-steps, lent, passed}
 use Rattle.parties.specs.Places.{Found, nowhere, found, seek}
 use Rattle.parties.specs.Calls.{State, refused, report, unless, hear-walk, place-fault, found-of, resume, hear}
-use Rattle.hosts.specs.Answers.{lent}
 use Rattle.jobs.specs.Walk.{order-at}
-use Rattle.hosts.specs.Walks.{cursor, host-of, steps-from, Sized, Standing}
+use Rattle.exchanges.specs.Exchanges.{cursor, host-of}
+use Rattle.hosts.specs.Walks.{steps-from, Sized, Standing}
 use Rattle.hosts.proofs.Walking.{inside}
 use Rattle.hosts.proofs.Seeking.{Placed, placed}
 use Rattle.hosts.proofs.Orders.{before, past-end, at-end, no-turn, no-place, at-place}
 use Rattle.hosts.proofs.Bounds.{Below, orders-below}
-use Rattle.hosts.proofs.Jobs.{gates-count, gates-at, sized}
-use Rattle.hosts.proofs.Faults.{no-fault}
-use Rattle.hosts.proofs.Prefix.{counts-before}
+use Rattle.hosts.proofs.Jobs.{gates-count, gates-at, cost-before, sized}
+use Rattle.parties.proofs.Faults.{no-fault}
 use Rattle.hosts.proofs.Heard.{steps-there}
 use Rattle.hosts.proofs.Answered.{is-refused, is-answered}
 
@@ -140,11 +138,6 @@ module _ (h : ℕ) (J T M D : List ℕ) (n i : ℕ) (e : (n, i) ≡ lent-fault 3
   pub accepted : job-fault 32 J T .0 ≡ 0
   accepted = no-fault h J T M D (ap (λ (f : Fault). f .0) (sym e) ∙ z)
 
-  pub record Counted (o a b k : ℕ) : Type 0 where
-    pub is-a : a ≡ check-job 32 (take (o * 4) J) T .counts .a
-    pub is-b : b ≡ check-job 32 (take (o * 4) J) T .counts .b
-    pub is-k : k ≡ check-job 32 (take (o * 4) J) T .counts .deals
-
   module _ (o x : ℕ) (l : o < length J / 4) (ord : Order) (eo : ord ≡ order-at J o) (f : Sought) (ef : f ≡ sought 32 (program 32 (rows T) ord) x 0 0 0) where
     sought-there : f ≡ sought 32 (program 32 (rows T) (order-at J o)) x 0 0 0
     sought-there = ef ∙ ap (λ (r : Order). sought 32 (program 32 (rows T) r) x 0 0 0) eo
@@ -152,11 +145,9 @@ module _ (h : ℕ) (J T M D : List ℕ) (n i : ℕ) (e : (n, i) ≡ lent-fault 3
     pub none-there : f ≡ Nowhere → seek o x (job-steps 32 (job-gates 32 J T)) origin ≡ nowhere
     none-there p = nowhere-here J T (sized J T accepted) o x l (sym sought-there ∙ p)
 
-    pub found-there : (g a k : ℕ) → f ≡ Sought.Found g a k → (ua ub uk : ℕ) → Counted o ua ub uk → There J T o x g (ua + a) (ub + x) (uk + k)
-    found-there g a k p ua ub uk u =
+    pub found-there : (g a k : ℕ) → f ≡ Sought.Found g a k → (u : Cost) → u ≡ passed n (job-cost 32 (take (o * 4) J) T) → There J T o x g (u .a + a) (u .b + x) (u .deals + k)
+    unfolding passed before
+    found-there g a k p u eu =
         let H = found-here J T (sized J T accepted) o x l g a k (sym sought-there ∙ p) in
-        let b : check-job 32 (take (o * 4) J) T .counts ≡ before 32 (job-gates 32 J T) o = counts-before J T accepted (sized J T accepted) o (omega arith) in
-        let ea : ua ≡ before 32 (job-gates 32 J T) o .a = u .is-a ∙ ap (λ (r : Cost). r .a) b in
-        let eb : ub ≡ before 32 (job-gates 32 J T) o .b = u .is-b ∙ ap (λ (r : Cost). r .b) b in
-        let ek : uk ≡ before 32 (job-gates 32 J T) o .deals = u .is-k ∙ ap (λ (r : Cost). r .deals) b in
-        rw (ea, eb, ek) H
+        let b : u ≡ before 32 (job-gates 32 J T) o = eu ∙ ap (λ (m : ℕ). passed m (job-cost 32 (take (o * 4) J) T)) z ∙ cost-before 32 J T o (omega arith) in
+        subst (λ (r : Cost). There J T o x g (r .a + a) (r .b + x) (r .deals + k)) (sym b) H

@@ -24,9 +24,10 @@ use Rattle.parties.specs.Lent.{Party}
 use Rattle.parties.specs.Places.{found}
 use Rattle.parties.specs.Calls.{State, report, hear-walk}
 use Rattle.jobs.specs.Walk.{order-at}
-use Rattle.hosts.specs.Walks.{cursor, host-of, heard-at, reported, steps-from, Standing}
+use Rattle.exchanges.specs.Exchanges.{cursor, host-of, heard-at}
+use Rattle.hosts.specs.Walks.{reported, steps-from, Standing}
 use Rattle.hosts.proofs.Walking.{at-gate}
-use Rattle.hosts.proofs.Shapes.{heard-as}
+use Rattle.exchanges.proofs.Shapes.{heard-as}
 use Rattle.hosts.proofs.Advancing.{word-any}
 use Rattle.hosts.proofs.Jobs.{gates-drop}
 

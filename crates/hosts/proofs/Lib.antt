@@ -2,13 +2,10 @@ pub mod Walking
 pub mod Seeking
 pub mod Orders
 pub mod Sizes
-pub mod Shapes
-pub mod Faults
 pub mod Turns
 pub mod Jobs
 pub mod Advancing
 pub mod Answered
 pub mod Heard
 pub mod Bounds
-pub mod Prefix
 pub mod Finding

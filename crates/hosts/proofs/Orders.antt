@@ -14,7 +14,7 @@ use Rattle.gates.proofs.Needs.{Used, far-used}
 use Rattle.places.specs.declared.Sought.the-variants.{Nowhere}
 use Rattle.places.specs.Seek.{sought}
 use Rattle.parties.specs.Places.{nowhere, found, seek}
-use Rattle.hosts.specs.Walks.{cursor}
+use Rattle.exchanges.specs.Exchanges.{cursor}
 use Rattle.hosts.proofs.Walking.{OfGate, of-gate}
 use Rattle.hosts.proofs.Seeking.{not-here, just-here, not-yet, Placed, not-placed}
 

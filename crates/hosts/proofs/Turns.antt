@@ -17,7 +17,8 @@ use Rattle.lookup.specs.declared.Fetched.{Fetched}
 use Rattle.lookup.specs.declared.Fetched.the-variants.{At, Past}
 use Rattle.lookup.specs.Fetch.{fetched}
 use Rattle.parties.specs.Lent.{Party}
-use Rattle.hosts.specs.Walks.{cursor, host-of, deal-taken, reported, Halting, Walked}
+use Rattle.exchanges.specs.Exchanges.{cursor, host-of, deal-taken}
+use Rattle.hosts.specs.Walks.{reported, Halting, Walked}
 use Rattle.hosts.proofs.Walking.{never, of-gate, passes-local, passes-deal, at-gate, inside, acts}
 
 -- a walk on its way

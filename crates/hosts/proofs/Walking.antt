@@ -18,7 +18,8 @@ use Rattle.lookup.specs.declared.Fetched.the-variants.{At, Past}
 use Rattle.lookup.specs.Fetch.{fetched}
 use Rattle.parties.specs.Lent.{Party, party1, party2, party-of}
 use Rattle.parties.specs.Calls.{word-at, spoken-at, report}
-use Rattle.hosts.specs.Walks.{cursor, host-of, deal-taken, reported}
+use Rattle.exchanges.specs.Exchanges.{cursor, host-of, deal-taken}
+use Rattle.hosts.specs.Walks.{reported}
 
 -- ---- the trail
 

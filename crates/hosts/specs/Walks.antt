@@ -1,54 +1,22 @@
 -- What the functions behind starting and hearing do: gate by gate within an order, and from an order on. Assumes nothing.
-use Rattle.jobs.specs.Walk.{order-at}
 use mathlib.Core.Path.{_≡_}
-use mathlib.Core.Bool.{cond}
 use mathlib.Core.List.{List, [], _∷_}
 use Prim.Native.Nat.{ℕ, _+_, _*_, _/_, _≤_, _<_}
-use lib.Dec.{eqb}
 use lib.ListN.{length, drop}
 use Rattle.gates.specs.declared.Gate.{Gate}
-use Rattle.gates.specs.Steps.{Step, local, deal, exchange, end, at, new-at, Cursor}
+use Rattle.gates.specs.Steps.{Step, Cursor}
 use Rattle.gates.specs.Meaning.{meaning, order-steps, job-steps}
 use Rattle.gates.specs.Walk.{walk, Exchanging}
 use Rattle.gates.specs.Parties.{Pair}
-use Rattle.gates.specs.Speech.{met}
 use Rattle.lookup.specs.declared.Fetched.{Fetched}
 use Rattle.lookup.specs.declared.Fetched.the-variants.{At, Past}
 use Rattle.lookup.specs.Fetch.{fetched}
 use Rattle.circuits.specs.Orders.{program}
 use Rattle.tables.specs.Table.{rows}
-use Rattle.parties.specs.Lent.{Party, party-of}
-use Rattle.hosts.specs.Answers.{lists}
+use Rattle.jobs.specs.Walk.{order-at}
+use Rattle.parties.specs.Lent.{Party}
 use Rattle.parties.specs.Calls.{Answer, report}
-
-abbrev pub cursor : (order turn a b k : ℕ) → Cursor
-cursor o x a b k = record { order = o; turn = x; a = a; b = b; k = k }
-
--- the host by its number and its lists alone
-unfoldable pub host-of : (host : ℕ) (masks deals : List ℕ) → Party
-host-of h M D = party-of (lists h M D)
-
--- its word of a deal: host 1 takes the next word of A, host 2 the next deal
-unfoldable pub deal-taken : (host : ℕ) (masks deals : List ℕ) (a k : ℕ) → ℕ
-deal-taken h M D a k = cond (eqb h 1) (at M a) (at D k)
-
--- its new mask of a product or refresh: host 1's from A, after g1, host 2's from B
-unfoldable pub new-mask : (host : ℕ) (masks : List ℕ) → Step → (a b : ℕ) → ℕ
-new-mask h M (local d m l) a b = 0
-new-mask h M (deal d f) a b = 0
-new-mask h M (exchange d e) a b = cond (eqb h 1) (at M (new-at e a)) (at M b)
-new-mask h M end a b = 0
-
--- the new m from the host's own word and the other's
-unfoldable pub sum-of : (host : ℕ) → Step → (own heard : ℕ) → ℕ
-sum-of h y v w = cond (eqb h 1) (met y v w) (met y w v)
-
--- the lanes when the other's word v is heard at a step
-unfoldable pub heard-at : Party → Step → Cursor → Pair → (v : ℕ) → Pair
-heard-at P (local d m l) c s v = s
-heard-at P (deal d f) c s v = s
-heard-at P (exchange d e) c s v = P .hear d e c s v
-heard-at P end c s v = s
+use Rattle.exchanges.specs.Exchanges.{cursor}
 
 -- the answer of a walk from here to the next product or refresh, or to the end
 unfoldable pub reported : Party → List Step → Cursor → Pair → Answer

@@ -1,64 +1,33 @@
 // Hearing: the place of a state is found, its own word worked out again, and the walk goes on with both.
 ghost use mathlib.Core.Path.{_≡_};
 ghost use mathlib.Core.Bool.{_&&_, cond};
-ghost use Prim.Native.Nat.{_*_, _+_, _^_, _≤_, _<_};
+ghost use Prim.Native.Nat.{_+_, _^_, _<_};
 ghost use lib.Dec.{eqb};
-ghost use lib.ListN.{length, take, drop};
+ghost use lib.ListN.{drop};
 ghost use Rattle.gates.specs.Steps.{past};
 ghost use Rattle.gates.specs.Meaning.{meaning};
 ghost use Rattle.jobs.specs.Job.{job-gates};
-ghost use Rattle.jobs.specs.Answers.{check-job};
 ghost use Rattle.parties.specs.Places.{found};
 ghost use Rattle.parties.specs.Calls as Calls;
-ghost use Rattle.hosts.specs.Answers.{answer-of, state-of, lent};
-ghost use Rattle.hosts.specs.Walks.{cursor, host-of, steps-from, Sized, Standing};
+ghost use Rattle.parties.specs.Lent.{lent};
+ghost use Rattle.hosts.specs.Answers.{answer-of, state-of};
+ghost use Rattle.exchanges.specs.Exchanges.{cursor, host-of};
+ghost use Rattle.hosts.specs.Walks.{steps-from, Sized, Standing};
 use crate::Answer;
 use crate::State;
 use crate::answering::refused;
-use crate::lending::check_lent;
-use crate::speaking::Reach;
-use crate::speaking::meet;
 use crate::walk::advance;
+use exchanges::Reach;
+use exchanges::meet;
 use gates::Gate;
 use gates::Shape;
-use jobs::Checked;
 use jobs::order_at;
 use lookup::Fetched;
 use lookup::fetch;
+use parties::check_lent;
 use places::Sought;
 use places::seek;
 use speech::shape_of;
-
-// Words used of A and B, and deals.
-pub struct Used {
-    pub a: usize,
-    pub b: usize,
-    pub k: usize,
-}
-
-// What the orders before one use: a job that ends there has these counts, and one without orders, which is refused, has none.
-fn used_before(job: &[u32], table: &[u32], order: usize) -> Used
-    requires { ⌜ order * 4 ≤ length (now job) ⌝ }
-    ensures { λ r. ⌜ (r .a ≡ check-job 32 (take (order * 4) (now (job .entry))) (now (table .entry)) .counts .a) × (r .b ≡ check-job 32 (take (order * 4) (now (job .entry))) (now (table .entry)) .counts .b) × (r .k ≡ check-job 32 (take (order * 4) (now (job .entry))) (now (table .entry)) .counts .deals) ⌝ }
-{
-    let end = order * 4;
-    match jobs::check(&job[..end], table) {
-        Checked::Accepted {
-            deals,
-            words: _,
-            a,
-            b,
-        } => Used {
-            a: a as usize,
-            b: b as usize,
-            k: deals as usize,
-        },
-        Checked::Refused {
-            number: _,
-            index: _,
-        } => Used { a: 0, b: 0, k: 0 },
-    }
-}
 
 // Conditions 8 and 9 past the last order: the end is the number of orders and 0.
 fn end_fault(order: usize, n: usize, turn: u32) -> u32
@@ -144,11 +113,11 @@ impl State {
         ensures { λ r. ⌜ answer-of r ≡ Calls.hear 32 (lent host (now (job .entry)) (now (table .entry)) (now (masks .entry)) (now (deals .entry))) (state-of self) heard ⌝ }
     {
         let s = self;
-        let fault = check_lent(host, job, table, masks, deals);
-        if fault.number != 0 {
-            return refused(fault.number, fault.index, s);
-        }
         let order = s.order as usize;
+        let lent = check_lent(host, job, table, masks, deals, order);
+        if lent.number != 0 {
+            return refused(lent.number, lent.index, s);
+        }
         let turn = s.turn as usize;
         let n = job.len() / 4;
         if n <= order {
@@ -157,13 +126,14 @@ impl State {
         match seek(order_at(job, order), table, s.turn) {
             Sought::Nowhere => refused(8, 0, s),
             Sought::Found { gate, a, deals: k } => {
-                let used = used_before(job, table, order);
+                let used = lent.before;
                 let at = Reach {
                     gate,
-                    a: used.a + a,
-                    k: used.k + k,
+                    a: used.a as usize + a,
+                    k: used.deals as usize + k,
                 };
-                resume(host, job, table, masks, deals, s, heard, at, used.b + turn)
+                let b = used.b as usize + turn;
+                resume(host, job, table, masks, deals, s, heard, at, b)
             }
         }
     }

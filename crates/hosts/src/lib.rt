@@ -1,8 +1,6 @@
 // Starting and hearing: hosts 1 and 2 stepped word by word through a job's gates.
 mod answering;
 mod hearing;
-mod lending;
-mod speaking;
 mod starting;
 mod walk;
 

@@ -1,14 +1,15 @@
 // Starting host 1 or 2: from its registers to the first product or refresh, or to the end.
 ghost use mathlib.Core.Path.{_≡_};
 ghost use Rattle.parties.specs.Calls as Calls;
-ghost use Rattle.hosts.specs.Answers.{answer-of, lanes-of, lent};
+ghost use Rattle.parties.specs.Lent.{lent};
+ghost use Rattle.hosts.specs.Answers.{answer-of, lanes-of};
 use crate::Answer;
 use crate::Registers;
 use crate::State;
 use crate::answering::refused;
-use crate::lending::check_lent;
-use crate::speaking::Reach;
 use crate::walk::advance;
+use exchanges::Reach;
+use parties::check_lent;
 use parties::fresh;
 
 // Checks 1 to 7 come first, and a refusal gives the registers back.
@@ -32,9 +33,9 @@ pub fn start(
         order: 0,
         turn: 0,
     };
-    let fault = check_lent(host, job, table, masks, deals);
-    if fault.number != 0 {
-        return refused(fault.number, fault.index, s);
+    let lent = check_lent(host, job, table, masks, deals, 0);
+    if lent.number != 0 {
+        return refused(lent.number, lent.index, s);
     }
     let from = Reach {
         gate: 0,

@@ -2,6 +2,7 @@ use mathlib.Core.Path.{_∙_}
 use denote.Ref.{now}
 use native.Mathlib.Omega.{arith}
 use Prim.Native.Nat.{_+_}
+use Rattle.jobs.specs.Walk.{counted}
 use Rattle.hosts.specs.Answers.{state-of}
 use Rattle.hosts.proofs.Jobs.{sized}
 use Rattle.hosts.proofs.Heard.{steps-at}
@@ -11,17 +12,22 @@ use Rattle.hosts.proofs.State.hear.Statement.{statement}
 use Rattle.hosts.proofs.State.hear.Tie as tie
 
 -- the place that was found, with the words and deals that the orders before it use
-there : (c : tie.After-used-before)
-    → let a = c .before .before .before .before .before .before .before .before .before .before .before .before .before .before .before .before .args in
+there : (c : tie.After-used)
+    → let k = c .before .before .before .before .before .before .before .before in
+    let a = k .before .before .before .before .before .before .before .before .args in
     let f = c .before .before .gate .given .0 in
-    There (now (a .job)) (now (a .table)) (a .self .order) (a .self .turn) (f .0) (c .used-before .result .a + f .1 .0) (c .used-before .result .b + a .self .turn) (c .used-before .result .k + f .1 .1 .0)
+    let u = k .before .before .check-lent .result .before in
+    There (now (a .job)) (now (a .table)) (a .self .order) (a .self .turn) (f .0) (u .a + f .1 .0) (u .b + a .self .turn) (u .deals + f .1 .1 .0)
 there c =
     let q = c .before .before .before .before in
-    let k = q .before .before .before .before .before in
-    let a = k .before .before .before .before .before .before .before .args in
-    let u = c .used-before .ensures in
-    found-there (a .host) (now (a .job)) (now (a .table)) (now (a .masks)) (now (a .deals)) _ _ (k .before .before .check-lent .ensures) (k .if1 .left) (a .self .order) (a .self .turn)
-    (q .before .before .if2 .left) _ (q .before .order-at .ensures) _ (q .seek .ensures) _ _ _ (c .before .before .gate .given .1) _ _ _ (record { is-a = u .0; is-b = u .1; is-k = u .2 })
+    let k = q .before .before .before .before in
+    let a = k .before .before .before .before .before .before .before .before .args in
+    let u = k .before .before .check-lent in
+    found-there (a .host) (now (a .job)) (now (a .table)) (now (a .masks)) (now (a .deals)) _ _ (k .before .before .check-lent .ensures .0) (k .if1 .left) (a .self .order) (a .self .turn)
+    (q .before .before .if2 .left) _ (q .before .order-at .ensures) _ (q .seek .ensures) _ _ _ (c .before .before .gate .given .1) (counted (u .result .before)) (u .ensures .1)
+
+cast-order : tie.Need-cast-order
+cast-order c = search needs
 
 check-lent-requires : tie.Need-check-lent-requires
 check-lent-requires c κs = search needs
@@ -31,11 +37,8 @@ refused-requires c κs = search needs
 
 returns : tie.Need-returns
 returns c =
-    let a = c .before .before .before .before .before .before .before .before .args in
-    c .refused .ensures ∙ hear-refused (a .host) (now (a .job)) (now (a .table)) (now (a .masks)) (now (a .deals)) (state-of (a .self)) (a .heard) _ _ (c .before .before .before .check-lent .ensures) (c .before .if1 .taken)
-
-cast-order : tie.Need-cast-order
-cast-order c = search needs
+    let a = c .before .before .before .before .before .before .before .before .before .args in
+    c .refused .ensures ∙ hear-refused (a .host) (now (a .job)) (now (a .table)) (now (a .masks)) (now (a .deals)) (state-of (a .self)) (a .heard) _ _ (c .before .before .before .check-lent .ensures .0) (c .before .if1 .taken)
 
 cast-turn : tie.Need-cast-turn
 cast-turn c = search needs
@@ -48,9 +51,9 @@ refused-requires-2 c κs = search needs
 
 returns-2 : tie.Need-returns-2
 returns-2 c =
-    let k = c .before .before .before .before .before in
-    let a = k .before .before .before .before .before .before .before .args in
-    c .refused2 .ensures ∙ past-orders (a .host) (now (a .job)) (now (a .table)) (now (a .masks)) (now (a .deals)) (state-of (a .self)) (a .heard) _ _ (k .before .before .check-lent .ensures) (k .if1 .left) _ (c .before .before .if2 .taken) (c .before .end-fault .ensures)
+    let k = c .before .before .before .before in
+    let a = k .before .before .before .before .before .before .before .before .args in
+    c .refused2 .ensures ∙ past-orders (a .host) (now (a .job)) (now (a .table)) (now (a .masks)) (now (a .deals)) (state-of (a .self)) (a .heard) _ _ (k .before .before .check-lent .ensures .0) (k .if1 .left) _ (c .before .before .if2 .taken) (c .before .end-fault .ensures)
 
 order-at-requires : tie.Need-order-at-requires
 order-at-requires c κs = search needs
@@ -67,24 +70,30 @@ refused-requires-3 c κs = search needs
 enum-known-gate : tie.Need-enum-known-gate
 enum-known-gate c = search needs
 
-used-before-requires : tie.Need-used-before-requires
-used-before-requires c κs = search needs
+cast-t25 : tie.Need-cast-t25
+cast-t25 c = search needs
 
-add-resume : tie.Need-add-resume
-add-resume c = omega (arith, there (c .before) .few-a)
+add-t26 : tie.Need-add-t26
+add-t26 c = omega (arith, there (c .before) .few-a)
 
-add-t25 : tie.Need-add-t25
-add-t25 c = omega (arith, there (c .before .before) .few-k)
+cast-t27 : tie.Need-cast-t27
+cast-t27 c = search needs
 
-add-resume-2 : tie.Need-add-resume-2
-add-resume-2 c = omega (arith, there (c .before .before .before) .few-b)
+add-t28 : tie.Need-add-t28
+add-t28 c = omega (arith, there (c .before .before) .few-k)
+
+cast-b : tie.Need-cast-b
+cast-b c = search needs
+
+add-b : tie.Need-add-b
+add-b c = search needs
 
 resume-requires : tie.Need-resume-requires
 resume-requires c κs =
-    let k = c .before .before .before .before .before .before .before .before .before .before .before .before in
-    let a = k .before .before .before .before .before .before .before .args in
+    let k = c .before .before .before .before .before .before .before .before .before .before .before in
+    let a = k .before .before .before .before .before .before .before .before .args in
     let h = there (c .before .before .before) in (
-      sized (now (a .job)) (now (a .table)) (accepted (a .host) (now (a .job)) (now (a .table)) (now (a .masks)) (now (a .deals)) _ _ (k .before .before .check-lent .ensures) (k .if1 .left)),
+      sized (now (a .job)) (now (a .table)) (accepted (a .host) (now (a .job)) (now (a .table)) (now (a .masks)) (now (a .deals)) _ _ (k .before .before .check-lent .ensures .0) (k .if1 .left)),
       h .standing,
       h .few-gates,
       h .few-turns,
@@ -96,29 +105,29 @@ resume-requires c κs =
 returns-3 : tie.Need-returns-3
 returns-3 c =
     let q = c .before .before .before in
-    let k = q .before .before .before .before .before in
-    let a = k .before .before .before .before .before .before .before .args in
+    let k = q .before .before .before .before in
+    let a = k .before .before .before .before .before .before .before .before .args in
     c .refused3 .ensures
-    ∙ at-nowhere (a .host) (now (a .job)) (now (a .table)) (now (a .masks)) (now (a .deals)) (state-of (a .self)) (a .heard) _ _ (k .before .before .check-lent .ensures) (k .if1 .left)
-    (none-there (a .host) (now (a .job)) (now (a .table)) (now (a .masks)) (now (a .deals)) _ _ (k .before .before .check-lent .ensures) (k .if1 .left) (a .self .order) (a .self .turn) (q .before .before .if2 .left) _ (q .before .order-at .ensures) _ (q .seek .ensures) (c .before .enum-told .given .1))
+    ∙ at-nowhere (a .host) (now (a .job)) (now (a .table)) (now (a .masks)) (now (a .deals)) (state-of (a .self)) (a .heard) _ _ (k .before .before .check-lent .ensures .0) (k .if1 .left)
+    (none-there (a .host) (now (a .job)) (now (a .table)) (now (a .masks)) (now (a .deals)) _ _ (k .before .before .check-lent .ensures .0) (k .if1 .left) (a .self .order) (a .self .turn) (q .before .before .if2 .left) _ (q .before .order-at .ensures) _ (q .seek .ensures) (c .before .enum-told .given .1))
 
 returns-4 : tie.Need-returns-4
 returns-4 c =
-    let k = c .before .before .before .before .before .before .before .before .before .before .before .before .before in
-    let a = k .before .before .before .before .before .before .before .args in
+    let k = c .before .before .before .before .before .before .before .before .before .before .before .before in
+    let a = k .before .before .before .before .before .before .before .before .args in
     let h = there (c .before .before .before .before) in
     let s = h .standing in
     c .resume .ensures
-    ∙ at-exchange (a .host) (now (a .job)) (now (a .table)) (now (a .masks)) (now (a .deals)) (state-of (a .self)) (a .heard) _ _ (k .before .before .check-lent .ensures) (k .if1 .left) _ _ _ _ (s .speaks) (steps-at (a .host) (now (a .job)) (now (a .table)) (now (a .masks)) (now (a .deals)) (a .self .order) _ (s .in-job) (s .held) (s .there)) (h .is)
+    ∙ at-exchange (a .host) (now (a .job)) (now (a .table)) (now (a .masks)) (now (a .deals)) (state-of (a .self)) (a .heard) _ _ (k .before .before .check-lent .ensures .0) (k .if1 .left) _ _ _ _ (s .speaks) (steps-at (a .host) (now (a .job)) (now (a .table)) (now (a .masks)) (now (a .deals)) (a .self .order) _ (s .in-job) (s .held) (s .there)) (h .is)
 
 pub hear-spec : {M : Type 1} → statement M
 hear-spec =
     tie.close
     (tie.spec
+    cast-order
     check-lent-requires
     refused-requires
     returns
-    cast-order
     cast-turn
     end-fault-requires
     refused-requires-2
@@ -128,10 +137,12 @@ hear-spec =
     enum-told
     refused-requires-3
     enum-known-gate
-    used-before-requires
-    add-resume
-    add-t25
-    add-resume-2
+    cast-t25
+    add-t26
+    cast-t27
+    add-t28
+    cast-b
+    add-b
     resume-requires
     returns-3
     returns-4)

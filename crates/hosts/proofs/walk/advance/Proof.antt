@@ -8,7 +8,8 @@ use Rattle.tables.specs.Table.{rows}
 use Rattle.circuits.specs.Orders.{program}
 use Rattle.circuits.specs.declared.Order.{Order}
 use Rattle.jobs.specs.Job.{job-gates}
-use Rattle.hosts.specs.Walks.{cursor, host-of, steps-from, reported}
+use Rattle.exchanges.specs.Exchanges.{cursor, host-of}
+use Rattle.hosts.specs.Walks.{steps-from, reported}
 use Rattle.hosts.proofs.Advancing.{finished, halted, next-order}
 use Rattle.hosts.proofs.walk.advance.Statement.{statement}
 use Rattle.hosts.proofs.walk.advance.Tie as tie

@@ -4,7 +4,7 @@ use native.Mathlib.Omega.{arith}
 use Prim.Native.Nat.{_-_}
 use Rattle.tables.specs.Table.{rows}
 use Rattle.circuits.specs.Orders.{program}
-use Rattle.hosts.specs.Walks.{host-of}
+use Rattle.exchanges.specs.Exchanges.{host-of}
 use Rattle.hosts.proofs.Turns.{Going, going-from, ran-out, at-product, at-refresh, passed-local, passed-deal}
 use Rattle.hosts.proofs.walk.walk_order.Statement.{statement}
 use Rattle.hosts.proofs.walk.walk_order.Tie as tie

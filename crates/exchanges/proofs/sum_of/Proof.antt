@@ -1,8 +1,8 @@
 use borrow.Author.Tests.{eq-eqb, ne-eqb}
-use Rattle.hosts.specs.Walks.{sum-of}
+use Rattle.exchanges.specs.Exchanges.{sum-of}
 use borrow.Author.Needs.{needs}
-use Rattle.hosts.proofs.speaking.sum_of.Statement.{statement}
-use Rattle.hosts.proofs.speaking.sum_of.Tie as tie
+use Rattle.exchanges.proofs.sum_of.Statement.{statement}
+use Rattle.exchanges.proofs.sum_of.Tie as tie
 
 met-word-requires : tie.Need-met-word-requires
 met-word-requires c κs = search needs

@@ -14,7 +14,7 @@ use Rattle.gates.specs.Parties.{Pair, word-of1, word-of2, hear1, hear2}
 use Rattle.gates.specs.Speech.{spoken1, spoken2, met, shape}
 use Rattle.parties.specs.Lent.{Party, party1, party2, party-of}
 use Rattle.parties.specs.Calls.{word-at}
-use Rattle.hosts.specs.Walks.{cursor, host-of, new-mask, sum-of, heard-at}
+use Rattle.exchanges.specs.Exchanges.{cursor, host-of, new-mask, sum-of, heard-at}
 
 -- the new mask: after g1 of a product
 abbrev pub new-by : Shape → (h : ℕ) (M : List ℕ) (a b : ℕ) → ℕ

@@ -2,12 +2,12 @@
 // what it writes when it has heard the other's.
 ghost use mathlib.Core.Path.{_≡_};
 ghost use mathlib.Core.List.{[], _∷_};
-ghost use Prim.Native.Nat.{_^_, _<_};
+ghost use Prim.Native.Nat.{_+_};
 ghost use Rattle.gates.specs.Steps as Steps;
 ghost use Rattle.gates.specs.Meaning.{meaning};
 ghost use Rattle.gates.specs.Parties.{on-m, on-mask};
 ghost use Rattle.parties.specs.Calls.{word-at};
-ghost use Rattle.hosts.specs.Walks.{cursor, host-of, deal-taken, new-mask, sum-of, heard-at};
+ghost use Rattle.exchanges.specs.Exchanges.{cursor, host-of, deal-taken, new-mask, sum-of, heard-at};
 use gates::Gate;
 use gates::Shape;
 use lanes::step_m;
@@ -38,7 +38,7 @@ fn deal_taken(host: u32, masks: &[u32], deals: &[u32], a: usize, k: usize) -> u3
 }
 
 // A gate at which no word is exchanged.
-pub(crate) fn step(
+pub fn step(
     host: u32,
     g: Gate,
     masks: &[u32],
@@ -54,15 +54,25 @@ pub(crate) fn step(
     step_mask(g, deal_taken(host, masks, deals, a, k), mask);
 }
 
+// The word after the i-th of a list, for every i.
+fn word_after(words: &[u32], i: usize) -> u32
+    ensures { λ r. ⌜ r ≡ Steps.at (now (words .entry)) (i + 1) ⌝ }
+{
+    if i < words.len() {
+        word_at(words, i + 1)
+    } else {
+        0
+    }
+}
+
 // Where a new mask stands in A: after g1 of a product.
 fn new_mask(host: u32, g: Gate, masks: &[u32], a: usize, b: usize) -> u32
-    requires { ⌜ a < 2 ^ 62 ⌝ }
     ensures { λ r. ⌜ r ≡ new-mask host (now (masks .entry)) (meaning 32 g) a b ⌝ }
 {
     match shape_of(g) {
         Shape::Product { d: _ } => {
             if host == 1 {
-                word_at(masks, a + 1)
+                word_after(masks, a)
             } else {
                 word_at(masks, b)
             }
@@ -80,7 +90,7 @@ fn new_mask(host: u32, g: Gate, masks: &[u32], a: usize, b: usize) -> u32
 }
 
 // The word that the host speaks at a product or refresh, with b words spoken before.
-pub(crate) fn say(
+pub fn say(
     host: u32,
     g: Gate,
     masks: &[u32],
@@ -90,7 +100,6 @@ pub(crate) fn say(
     m: &[u32; 24],
     mask: &[u32; 24],
 ) -> u32
-    requires { ⌜ at .a < 2 ^ 62 ⌝ }
     ensures { λ r. ⌜ r ≡ word-at (host-of host (now (masks .entry)) (now (deals .entry)) .say) (meaning 32 g ∷ []) (cursor 0 0 (at .a) b (at .k)) (now (m .entry), now (mask .entry)) ⌝ }
 {
     let new = new_mask(host, g, masks, at.a, b);
@@ -113,7 +122,7 @@ fn sum_of(host: u32, g: Gate, own: u32, heard: u32) -> u32
 }
 
 // The other's word is heard at a product or refresh: the host works its own word out again, and writes their sum and its new mask.
-pub(crate) fn meet(
+pub fn meet(
     host: u32,
     g: Gate,
     masks: &[u32],
@@ -124,7 +133,6 @@ pub(crate) fn meet(
     m: &mut [u32; 24],
     mask: &mut [u32; 24],
 )
-    requires { ⌜ at .a < 2 ^ 62 ⌝ }
     ensures { λ r. ⌜ (now (m .exit), now (mask .exit)) ≡ heard-at (host-of host (now (masks .entry)) (now (deals .entry))) (meaning 32 g) (cursor 0 0 (at .a) b (at .k)) (now (m .entry), now (mask .entry)) heard ⌝ }
 {
     let own = say(host, g, masks, deals, at, b, m, mask);

@@ -3,11 +3,11 @@ use denote.Ref.{now}
 use Rattle.gates.specs.Meaning.{meaning}
 use Rattle.gates.specs.declared.Shape.{Shape}
 use Rattle.gates.specs.declared.Shape.the-variants.{Local, Dealing, Product, Refreshing}
-use Rattle.hosts.specs.Walks.{cursor, host-of, heard-at}
-use Rattle.hosts.proofs.Shapes.{heard-by, hears}
+use Rattle.exchanges.specs.Exchanges.{cursor, host-of, heard-at}
+use Rattle.exchanges.proofs.Shapes.{heard-by, hears}
 use borrow.Author.Needs.{needs}
-use Rattle.hosts.proofs.speaking.meet.Statement.{statement}
-use Rattle.hosts.proofs.speaking.meet.Tie as tie
+use Rattle.exchanges.proofs.meet.Statement.{statement}
+use Rattle.exchanges.proofs.meet.Tie as tie
 
 -- the lanes by the gate's shape, with the words that the code has worked out
 at-shape : (c : tie.After-shape-of) (t : Shape) → c .shape-of .result ≡ t

@@ -4,8 +4,8 @@ use Prim.Native.Nat.{ℕ}
 use Rattle.gates.specs.Meaning.{meaning}
 use Rattle.gates.specs.Parties.{on-mask}
 use borrow.Author.Needs.{needs}
-use Rattle.hosts.proofs.speaking.step.Statement.{statement}
-use Rattle.hosts.proofs.speaking.step.Tie as tie
+use Rattle.exchanges.proofs.step.Statement.{statement}
+use Rattle.exchanges.proofs.step.Tie as tie
 
 step-m-requires : tie.Need-step-m-requires
 step-m-requires c κs = search needs

@@ -1,8 +1,8 @@
 use borrow.Author.Tests.{eq-eqb, ne-eqb}
-use Rattle.hosts.specs.Walks.{deal-taken}
+use Rattle.exchanges.specs.Exchanges.{deal-taken}
 use borrow.Author.Needs.{needs}
-use Rattle.hosts.proofs.speaking.deal_taken.Statement.{statement}
-use Rattle.hosts.proofs.speaking.deal_taken.Tie as tie
+use Rattle.exchanges.proofs.deal_taken.Statement.{statement}
+use Rattle.exchanges.proofs.deal_taken.Tie as tie
 
 word-at-requires : tie.Need-word-at-requires
 word-at-requires c κs = search needs

@@ -1,10 +1,10 @@
 use mathlib.Core.Path.{_∙_}
 use denote.Ref.{now}
 use Rattle.gates.specs.Meaning.{meaning}
-use Rattle.hosts.proofs.Shapes.{says-1, says-2}
+use Rattle.exchanges.proofs.Shapes.{says-1, says-2}
 use borrow.Author.Needs.{needs}
-use Rattle.hosts.proofs.speaking.say.Statement.{statement}
-use Rattle.hosts.proofs.speaking.say.Tie as tie
+use Rattle.exchanges.proofs.say.Statement.{statement}
+use Rattle.exchanges.proofs.say.Tie as tie
 
 new-mask-requires : tie.Need-new-mask-requires
 new-mask-requires c κs = search needs
