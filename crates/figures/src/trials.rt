@@ -16,11 +16,11 @@ use crate::plain::product;
 use crate::tally::Tally;
 use crate::tally::none;
 use hosts::Answer;
-use sessions::Session;
-use sessions::Shared;
 use shares::Opening;
 use std::num::wrapping_add_u32;
 use std::num::wrapping_sub_u32;
+use trio::Shared;
+use trio::Trio;
 
 // An order, what its source opens, and the seed of everything else.
 pub(crate) struct Trial {
@@ -191,12 +191,12 @@ pub(crate) fn opens(o: Opening, due: u32) -> bool {
     }
 }
 
-fn changed(s: Session, before: Shared, r: u32) -> bool {
-    !opens(sessions::opened(s, r as usize), value(before, r))
+fn changed(s: Trio, before: Shared, r: u32) -> bool {
+    !opens(trio::opened(s, r as usize), value(before, r))
 }
 
 // The first register beside the target that opens something else than before, or 16.
-fn changed_register(s: Session, before: Shared, target: u32) -> u32 {
+fn changed_register(s: Trio, before: Shared, target: u32) -> u32 {
     let mut r: u32 = 0;
     while r < 16 {
         if changed(s, before, r) && r != target {
@@ -213,13 +213,13 @@ fn ended(a: Answer, spoken: u32) -> bool {
 }
 
 // Nothing refused, and both hosts have spoken half the words.
-fn finished(s: Session, words: u32) -> bool {
+fn finished(s: Trio, words: u32) -> bool {
     let one = s.one;
     let two = s.two;
     s.number == 0 && ended(one, words / 2) && ended(two, words / 2)
 }
 
-fn with_counts(t: Tally, c: Trial, rows: u32, s: Session, rest_kept: bool) -> Tally {
+fn with_counts(t: Tally, c: Trial, rows: u32, s: Trio, rest_kept: bool) -> Tally {
     let deals = due_deals(c.kind, c.fourth, rows);
     let right = s.deals == deals && finished(s, due_words(c.kind, c.fourth, rows)) && rest_kept;
     t.with(right, c.x, s.deals, deals)
@@ -227,7 +227,7 @@ fn with_counts(t: Tally, c: Trial, rows: u32, s: Session, rest_kept: bool) -> Ta
 
 // The hosts after a trial's order, and whether the deal buffer has kept its later words.
 struct Outcome {
-    session: Session,
+    trio: Trio,
     rest_kept: bool,
 }
 
@@ -242,9 +242,9 @@ fn run_lent(
     written: usize,
 ) -> Outcome {
     let job = [c.kind, c.target, c.source, c.fourth];
-    let session = sessions::run(&job, table, a, b, deals, drawn_shares(c));
+    let trio = trio::run(&job, table, a, b, deals, drawn_shares(c));
     let rest_kept = first_difference(deals, lent, written) == deals.len();
-    Outcome { session, rest_kept }
+    Outcome { trio, rest_kept }
 }
 
 // The lists are drawn from the trial's seed.
@@ -261,8 +261,8 @@ fn drawn_run(c: Trial, table: &[u32]) -> Outcome {
 // What the engine opens at a trial's target.
 pub(crate) fn opened_by(c: Trial, table: &[u32]) -> Opening {
     let o = drawn_run(c, table);
-    let s = o.session;
-    sessions::opened(s, c.target as usize)
+    let s = o.trio;
+    trio::opened(s, c.target as usize)
 }
 
 // A trial run and compared.
@@ -270,9 +270,9 @@ pub(crate) fn run_trial(c: Trial, table: &[u32], t: Tallies) -> Tallies {
     let before = drawn_shares(c);
     let rows = row_count(table);
     let o = drawn_run(c, table);
-    let s = o.session;
+    let s = o.trio;
     let due = plain_value(c.kind, c.fourth, given(c, before, rows), table);
-    let result = sessions::opened(s, c.target as usize);
+    let result = trio::opened(s, c.target as usize);
     let found = opened_word(result);
     let other = changed_register(s, before, c.target);
     Tallies {

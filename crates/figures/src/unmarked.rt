@@ -5,10 +5,10 @@ use crate::tally::Tally;
 use crate::tally::none;
 use crate::tally::print;
 use crate::trials::opened_word;
-use sessions::Shared;
 use shares::Opening;
 use shares::Sharing;
 use std::num::wrapping_sub_u32;
+use trio::Shared;
 
 // x = 0 under masks that add up to 2^31, in register 0.
 fn zero_shared(l1: u32) -> Shared {
@@ -36,8 +36,8 @@ fn lowest(o: Opening) -> bool {
 fn slack(l1: u32, t: Tally) -> Tally {
     let a = list(51);
     let mut deals = list(53);
-    let s = sessions::run(&[6, 0, 0, 1], &[], &a, &[], &mut deals, zero_shared(l1));
-    let o = sessions::opened(s, 0);
+    let s = trio::run(&[6, 0, 0, 1], &[], &a, &[], &mut deals, zero_shared(l1));
+    let o = trio::opened(s, 0);
     t.with(lowest(o), l1, opened_word(o), 2147483648)
 }
 

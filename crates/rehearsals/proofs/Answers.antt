@@ -25,8 +25,8 @@ use Rattle.lines.specs.Answers.{asked}
 use Rattle.lines.specs.declared.Asked.{Asked}
 use Rattle.lines.specs.declared.Asked.the-variants.{Reading, Malformed}
 use Rattle.prints.specs.Printed.{answered, refused}
-use Rattle.sessions.specs.declared.Session.{Session as Session′}
-use Rattle.sessions.specs.Sessions.{Session, session-of, opened-register}
+use Rattle.trio.specs.declared.Trio.{Trio as Trio′}
+use Rattle.trio.specs.Together.{Trio, trio-of, opened-register}
 use Rattle.rehearsals.specs.Rehearsal as Spec
 use Rattle.rehearsals.specs.Rehearsal.{first-a, first-b, answer-of, answer}
 use Rattle.rehearsals.specs.Trial.{trial, Ran}
@@ -61,7 +61,7 @@ module _ (line : List ℕ) (v : Asked) (e : asked v ≡ parsed line) where
   unfolding answer answer-of
   nothing-asked h t g = g ∙ ap answer-of (sym (ap asked h) ∙ e)
 
--- ---- the session's answer
+-- ---- the three hosts' answer
 
 module _ (mode : ℕ) (z : ℤ) (v : Sharing) (e : sharing v ≡ split 32 z first-a first-b) where
   abbrev share-of : Share ℕ
@@ -98,20 +98,20 @@ module _ (mode : ℕ) (z : ℤ) (v : Sharing) (e : sharing v ≡ split 32 z firs
         (ap (signed 32) (ap (λ (x : Word 32). x .0) (numbers-open 32 .masked-opens (wrap 32 z, wrap-lt 32 z) (first-a, lit< tt) (first-b, lit< tt)))
         ∙ signed-wrap 32 z (lit≤ tt) (omega (arith, in-range-mag 32 z ranged)))
 
-    module _ (r : Session′) (R : Ran r (trial mode (s .p1 .m) (s .p1 .l) (s .p2 .l))) where
+    module _ (r : Trio′) (R : Ran r (trial mode (s .p1 .m) (s .p1 .l) (s .p2 .l))) where
       abbrev opens-of : ℕ × ℤ
       opens-of = opened-register 32 (r .masks .l1, r .masks .l2) (state-of (r .one .state)) (state-of (r .two .state)) 0
 
       opens-is : opens-of ≡ (0, Spec.value mode z)
       opens-is =
-          ap {B = ℕ × ℤ} (λ (x : Session). opened-register 32 (x .masks) (x .one .state) (x .two .state) 0) (R .is)
+          ap {B = ℕ × ℤ} (λ (x : Trio). opened-register 32 (x .masks) (x .one .state) (x .two .state) 0) (R .is)
           ∙ value-is mode (s .p1 .m) (s .p1 .l) (s .p2 .l) (rw m-is (add-lt 32 _ _)) (rw l1-is (lit< tt)) (rw l2-is (lit< tt)) z value-in ranged
 
       deals-is : r .deals ≡ Spec.deals mode
-      deals-is = ap (λ (x : Session). x .deals) (R .is) ∙ deals-are mode _ _ _
+      deals-is = ap (λ (x : Trio). x .deals) (R .is) ∙ deals-are mode _ _ _
 
       pub words-is : r .one .spoken + r .two .spoken ≡ Spec.words mode
-      words-is = ap (λ (x : Session). x .one .spoken + x .two .spoken) (R .is) ∙ words-are mode _ _ _
+      words-is = ap (λ (x : Trio). x .one .spoken + x .two .spoken) (R .is) ∙ words-are mode _ _ _
 
       module _ (o : Opening) (g : opening o ≡ opens-of) where
         -- opening never meets 10

@@ -1,4 +1,4 @@
--- What the rehearsal's session opens and counts: the curve's value of the reading, and document 01's table. Assumes nothing.
+-- What the rehearsal's three hosts open and count: the curve's value of the reading, and document 01's table. Assumes nothing.
 use mathlib.Core.Path.{_≡_, refl, sym, ap, ap₂, _∙_}
 use mathlib.Core.Bool.{Bool, true, false}
 use mathlib.Core.List.{List, [], _∷_}
@@ -36,10 +36,10 @@ use Rattle.runs.proofs.Opened.{order-leaves}
 use Rattle.masks.specs.Masks.{multiples}
 use Rattle.masks.proofs.Multiples.{multiples-length, multiples-at, multiples-fit}
 use Rattle.gates.specs.Parties.{Triple}
-use Rattle.sessions.specs.Sessions.{left, opened-register}
-use Rattle.sessions.proofs.Positions.{prepare-number, lent-of, given-of, P}
-use Rattle.sessions.proofs.Turns.{setting}
-use Rattle.sessions.proofs.Leaves.{left-one, register-opens, words-spoken, deals-dealt}
+use Rattle.trio.specs.Together.{left, opened-register}
+use Rattle.trio.proofs.Positions.{prepare-number, lent-of, given-of, P}
+use Rattle.trio.proofs.Turns.{setting}
+use Rattle.trio.proofs.Leaves.{left-one, register-opens, words-spoken, deals-dealt}
 use Rattle.rehearsals.specs.Rehearsal as Spec
 use Rattle.rehearsals.specs.Rehearsal.{first-a, first-b, refresh-L}
 use Rattle.rehearsals.specs.Trial.{mode-word, in-first, loan, trial}

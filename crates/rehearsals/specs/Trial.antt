@@ -1,12 +1,12 @@
--- The session that the rehearsal of a line runs: "one curve order on the house table". Assumes nothing.
+-- The job that the three hosts run for a line of the rehearsal: "one curve order on the house table". Assumes nothing.
 use mathlib.Core.Path.{_≡_}
 use mathlib.Core.List.{List, [], _∷_}
 use Prim.Native.Nat.{ℕ, zero, suc}
 use lib.ListN.{replicate}
 use Rattle.gates.specs.Steps.{Lane}
 use Rattle.tables.specs.Table.{house}
-use Rattle.sessions.specs.declared.Session.{Session as Session′}
-use Rattle.sessions.specs.Sessions.{Lending, lending, Session, session-of, session}
+use Rattle.trio.specs.declared.Trio.{Trio as Trio′}
+use Rattle.trio.specs.Together.{Lending, lending, Trio, trio-of, together}
 use Rattle.masks.specs.Masks.{multiples}
 use Rattle.rehearsals.specs.Rehearsal.{first-a, first-b}
 
@@ -23,10 +23,10 @@ in-first x = x ∷ replicate 15 0
 unfoldable pub loan : (mode : ℕ) → Lending
 loan mode = lending (10 ∷ 0 ∷ 0 ∷ mode-word mode ∷ []) house (multiples first-a 2 236) (multiples first-b 2 108)
 
-unfoldable pub trial : (mode m l1 l2 : ℕ) → Session
-trial mode m l1 l2 = session 32 (loan mode) (in-first m, in-first l1, in-first l2) (replicate 128 0)
+unfoldable pub trial : (mode m l1 l2 : ℕ) → Trio
+trial mode m l1 l2 = together 32 (loan mode) (in-first m, in-first l1, in-first l2) (replicate 128 0)
 
--- the code's session, whatever became of its buffer
-pub record Ran (r : Session′) (s : Session) : Type 0 where
+-- the code's three hosts, whatever became of its buffer
+pub record Ran (r : Trio′) (s : Trio) : Type 0 where
   pub buffer : List ℕ
-  pub is : session-of r buffer ≡ s
+  pub is : trio-of r buffer ≡ s

@@ -11,14 +11,14 @@ use masks::fill;
 use prints::Text;
 use prints::answer_text;
 use prints::refusal_text;
-use sessions::Session;
-use sessions::Shared;
-use sessions::opened;
-use sessions::run;
 use shares::Opening;
 use shares::Shares;
 use shares::Sharing;
 use shares::share;
+use trio::Shared;
+use trio::Trio;
+use trio::opened;
+use trio::run;
 
 // The first word of each mask list, which splits the reading; word j is j times it, and the job's lists begin at the second.
 const A: u32 = 2654435769;
@@ -42,7 +42,7 @@ fn in_first(word: u32) -> [u32; 16]
 }
 
 // The curve order on a share in register 0.
-fn curve(mode: u32, m: u32, l1: u32, l2: u32) -> Session
+fn curve(mode: u32, m: u32, l1: u32, l2: u32) -> Trio
     ensures { λ r. ⌜ Ran r (trial mode m l1 l2) ⌝ }
 {
     let mut a = [0u32; 236];

@@ -10,7 +10,7 @@ use crate::parsing::words_from;
 use crate::printing::Output;
 use crate::printing::put_line;
 use crate::running::run;
-use sessions::Shared;
+use trio::Shared;
 
 // What the lines so far have set, beside the table's words, and the output.
 pub struct Desk {

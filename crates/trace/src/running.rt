@@ -3,12 +3,12 @@ use crate::fronts::front;
 use crate::printing::Output;
 use crate::printing::put_line;
 use masks::fill;
-use sessions::Session;
-use sessions::Shared;
-use sessions::begin;
-use sessions::exchange;
-use sessions::opened;
 use shares::Opening;
+use trio::Shared;
+use trio::Trio;
+use trio::begin;
+use trio::exchange;
+use trio::opened;
 
 // The longest accepted job is 64 exact curve orders on 16 rows. One of them needs 444 words of A, 204 of B and
 // 240 deals, and each host speaks 204 words.
@@ -20,10 +20,10 @@ const DEALS: usize = 15360;
 
 const SPOKEN: usize = 13056;
 
-// The session at its end, and how many words each host spoke.
+// The trio at its end, and how many words each host spoke.
 struct Ended {
     count: usize,
-    session: Session,
+    trio: Trio,
 }
 
 // Carries the hosts' words to and fro until the job's end, and keeps them.
@@ -33,38 +33,38 @@ fn exchange_all(
     a: &[u32],
     b: &[u32],
     deals: &[u32],
-    begun: Session,
+    begun: Trio,
     one: &mut [u32; SPOKEN],
     two: &mut [u32; SPOKEN],
 ) -> Ended {
     let orders = job.len() / 4;
-    let mut session = begun;
+    let mut trio = begun;
     let mut count = 0;
     while count < SPOKEN {
-        if orders <= session.one.state.order as usize {
-            return Ended { count, session };
+        if orders <= trio.one.state.order as usize {
+            return Ended { count, trio };
         }
-        one[count] = session.one.word;
-        two[count] = session.two.word;
-        session = exchange(job, table, a, b, deals, session);
+        one[count] = trio.one.word;
+        two[count] = trio.two.word;
+        trio = exchange(job, table, a, b, deals, trio);
         count += 1;
     }
-    Ended { count, session }
+    Ended { count, trio }
 }
 
 // What a register opens, as a word. All hosts are given the same shares, so that these never disagree.
-fn opened_word(session: Session, register: usize) -> u32 {
-    match opened(session, register) {
+fn opened_word(trio: Trio, register: usize) -> u32 {
+    match opened(trio, register) {
         Opening::Opened(value) => words::word_of(value),
         Opening::Disagree => 0,
     }
 }
 
-fn opened_words(session: Session) -> [u32; 16] {
+fn opened_words(trio: Trio) -> [u32; 16] {
     let mut values = [0u32; 16];
     let mut i = 0;
     while i < 16 {
-        values[i] = opened_word(session, i);
+        values[i] = opened_word(trio, i);
         i += 1;
     }
     values
@@ -103,14 +103,9 @@ pub fn run(
     let mut two = [0u32; SPOKEN];
     let ended = exchange_all(job, table, &a, &b, &deals, begun, &mut one, &mut two);
     let count = ended.count;
-    let session = ended.session;
-    let dealt = put_line(
-        buffer,
-        output,
-        b"deals",
-        front(&deals, session.deals as usize),
-    );
+    let trio = ended.trio;
+    let dealt = put_line(buffer, output, b"deals", front(&deals, trio.deals as usize));
     let first = put_spoken(buffer, dealt, b"one", &one, count);
     let second = put_spoken(buffer, first, b"two", &two, count);
-    put_line(buffer, second, b"open", &opened_words(session))
+    put_line(buffer, second, b"open", &opened_words(trio))
 }

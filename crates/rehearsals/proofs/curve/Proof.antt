@@ -9,7 +9,7 @@ use Rattle.rehearsals.proofs.curve.Lts as lts
 use Rattle.masks.proofs.fill.Reads as fill-reads
 use Rattle.rehearsals.proofs.in_first.Reads as in-first-reads
 use Rattle.rehearsals.proofs.mode_word.Reads as mode-word-reads
-use Rattle.sessions.proofs.run.Reads as run-reads
+use Rattle.trio.proofs.run.Reads as run-reads
 
 -- src/lib.rt:48:10
 slice-aggregate-fill : tie.Need-slice-aggregate-fill

@@ -14,7 +14,7 @@ use Rattle.rehearsals.proofs.rehearse.Lts as lts
 use Rattle.prints.proofs.answer_text.Reads as answer-text-reads
 use Rattle.prints.proofs.refusal_text.Reads as refusal-text-reads
 use Rattle.rehearsals.proofs.curve.Reads as curve-reads
-use Rattle.sessions.proofs.opened.Reads as opened-reads
+use Rattle.trio.proofs.opened.Reads as opened-reads
 use Rattle.shares.proofs.share.Reads as share-reads
 
 -- src/lib.rt:67:30

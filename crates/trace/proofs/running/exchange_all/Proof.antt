@@ -5,10 +5,10 @@ use Rattle.trace.proofs.running.exchange_all.Statement.{statement}
 use Rattle.trace.proofs.running.exchange_all.Tie as tie
 
 abbrev Inv-loop : tie.InvT-loop
-Inv-loop job table a b deals one₀ two₀ orders session₀ count₀ one two session count = Unit {0}
+Inv-loop job table a b deals one₀ two₀ orders trio₀ count₀ one two trio count = Unit {0}
 
 abbrev μ-loop : tie.MeasureT-loop
-μ-loop job table a b deals one₀ two₀ orders session₀ count₀ one two session count = 13056 - count
+μ-loop job table a b deals one₀ two₀ orders trio₀ count₀ one two trio count = 13056 - count
 
 loop-holds : tie.Need-loop-holds Inv-loop μ-loop
 loop-holds c = search needs

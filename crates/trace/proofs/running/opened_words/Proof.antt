@@ -7,10 +7,10 @@ use Rattle.trace.proofs.running.opened_words.Statement.{statement}
 use Rattle.trace.proofs.running.opened_words.Tie as tie
 
 abbrev Inv-loop : tie.InvT-loop
-Inv-loop session values₀ i₀ values i = length values ≡ 16
+Inv-loop trio values₀ i₀ values i = length values ≡ 16
 
 abbrev μ-loop : tie.MeasureT-loop
-μ-loop session values₀ i₀ values i = 16 - i
+μ-loop trio values₀ i₀ values i = 16 - i
 
 loop-holds : tie.Need-loop-holds Inv-loop μ-loop
 loop-holds c = search needs

@@ -12,8 +12,8 @@ use Rattle.parties.specs.Lent.{Lent}
 use Rattle.parties.specs.Calls.{State, Answer, Prepared, fresh, given, unless, start, hear, prepare}
 use Rattle.hosts.specs.Answers.{answer-of}
 use Rattle.runs.specs.Runs.{six}
-use Rattle.sessions.specs.declared.Session.{Session as Session′}
-use Rattle.sessions.specs.declared.Shared.{Shared}
+use Rattle.trio.specs.declared.Trio.{Trio as Trio′}
+use Rattle.trio.specs.declared.Shared.{Shared}
 
 -- "every call is lent the same job, table and lists"
 pub record Lending : Type 0 where
@@ -26,7 +26,7 @@ abbrev pub lending : (job table A B : List ℕ) → Lending
 lending j t a b = record { job = j; table = t; A = a; B = b }
 
 -- the preparation's number, index, deals and masks, the last answers of hosts 1 and 2, and the buffer of deals
-pub record Session : Type 0 where
+pub record Trio : Type 0 where
   pub number : ℕ
   pub index : ℕ
   pub deals : ℕ
@@ -35,9 +35,9 @@ pub record Session : Type 0 where
   pub two : Answer
   pub buffer : List ℕ
 
--- the code's session, and the buffer lent to it
-abbrev pub session-of : Session′ → (buffer : List ℕ) → Session
-session-of s buf =
+-- the code's three hosts, and the buffer lent to them
+abbrev pub trio-of : Trio′ → (buffer : List ℕ) → Trio
+trio-of s buf =
     record {
       number = s .number;
       index = s .index;
@@ -63,8 +63,8 @@ module _ (w : ℕ) (L : Lending) where
   unfoldable pub preparation : Triple → (buffer : List ℕ) → Prepared
   preparation r buf = prepare w (L .job) (L .table) (L .A) (L .B) buf (of0 r)
 
-  -- a session after the preparation, with these answers of hosts 1 and 2; neither starts where the preparation is refused
-  unfoldable pub prepared : Triple → Prepared → (one two : Answer) → Session
+  -- the three hosts after the preparation, with these answers of hosts 1 and 2; neither starts where the preparation is refused
+  unfoldable pub prepared : Triple → Prepared → (one two : Answer) → Trio
   prepared r p a b =
       record {
         number = p .number;
@@ -77,12 +77,12 @@ module _ (w : ℕ) (L : Lending) where
       }
 
   -- preparation, then both startings
-  unfoldable pub begun : Triple → (buffer : List ℕ) → Session
+  unfoldable pub begun : Triple → (buffer : List ℕ) → Trio
   begun r buf =
       prepared r (preparation r buf) (start w (to1 L (preparation r buf .buffer)) (of1 r)) (start w (to2 L (preparation r buf .buffer)) (of2 r))
 
   -- each hears "the word the other host spoke"
-  unfoldable pub heard : Session → Session
+  unfoldable pub heard : Trio → Trio
   heard s =
       record {
         number = s .number;
@@ -110,8 +110,8 @@ module _ (w : ℕ) (L : Lending) where
       }
 
   -- the whole job
-  unfoldable pub session : Triple → (buffer : List ℕ) → Session
-  session r buf = prepared r (preparation r buf) (ended (of1 (left r))) (ended (of2 (left r)))
+  unfoldable pub together : Triple → (buffer : List ℕ) → Trio
+  together r buf = prepared r (preparation r buf) (ended (of1 (left r))) (ended (of2 (left r)))
 
 -- what opening gives on the six words of slot i that the three hosts hold
 unfoldable pub opened-register : ℕ → (masks : Pair) (one two : State) → ℕ → ℕ × ℤ

@@ -5,18 +5,18 @@ use lib.ListN.{length}
 use borrow.Author.Needs.{needs}
 use denote.Ref.{now}
 use Rattle.hosts.specs.Answers.{state-of}
-use Rattle.sessions.specs.Sessions.{Lending, lending, session-of}
-use Rattle.sessions.proofs.Ends.{ahead}
-use Rattle.sessions.proofs.Turns.{Sixteen, Going, few-words, going-in, going-on, nearer, arrived, refused-session}
-use Rattle.sessions.proofs.carry.Statement.{statement}
-use Rattle.sessions.proofs.carry.Tie as tie
-use Rattle.sessions.proofs.carry.Reads as reads
-use Rattle.sessions.proofs.carry.Lts as lts
-use Rattle.sessions.proofs.begin.Reads as begin-reads
-use Rattle.sessions.proofs.exchange.Reads as exchange-reads
+use Rattle.trio.specs.Together.{Lending, lending, trio-of}
+use Rattle.trio.proofs.Ends.{ahead}
+use Rattle.trio.proofs.Turns.{Sixteen, Going, few-words, going-in, going-on, nearer, arrived, refused-together}
+use Rattle.trio.proofs.carry.Statement.{statement}
+use Rattle.trio.proofs.carry.Tie as tie
+use Rattle.trio.proofs.carry.Reads as reads
+use Rattle.trio.proofs.carry.Lts as lts
+use Rattle.trio.proofs.begin.Reads as begin-reads
+use Rattle.trio.proofs.exchange.Reads as exchange-reads
 
 abbrev Inv-loop : tie.InvT-loop
-Inv-loop job table a b deals s₀ orders s = (orders ≡ length job / 4) × Going (lending job table a b) (session-of s₀ deals) (session-of s deals)
+Inv-loop job table a b deals s₀ orders s = (orders ≡ length job / 4) × Going (lending job table a b) (trio-of s₀ deals) (trio-of s deals)
 
 abbrev μ-loop : tie.MeasureT-loop
 μ-loop job table a b deals s₀ orders s = ahead 32 (lending job table a b) (state-of (s .one .state))
@@ -34,7 +34,7 @@ returns : tie.Need-returns Inv-loop μ-loop
 returns c =
     let b = c .before .before .before .before in
     let s = b .before .before .before .before .before .before .before .args in
-    refused-session 32 (lending (now (s .job)) (now (s .table)) (now (s .a)) (now (s .b))) (s .m, s .l1, s .l2) (now (s .deals)) _ (b .begin .ensures) (c .if1 .taken)
+    refused-together 32 (lending (now (s .job)) (now (s .table)) (now (s .a)) (now (s .b))) (s .m, s .l1, s .l2) (now (s .deals)) _ (b .begin .ensures) (c .if1 .taken)
 
 -- src/lib.rt:143:18
 cast-orders : tie.Need-cast-orders Inv-loop μ-loop

@@ -1,9 +1,9 @@
-use Rattle.sessions.specs.Sessions.{heard}
+use Rattle.trio.specs.Together.{heard}
 use borrow.Author.Needs.{needs}
-use Rattle.sessions.proofs.exchange.Statement.{statement}
-use Rattle.sessions.proofs.exchange.Tie as tie
-use Rattle.sessions.proofs.exchange.Reads as reads
-use Rattle.sessions.proofs.exchange.Lts as lts
+use Rattle.trio.proofs.exchange.Statement.{statement}
+use Rattle.trio.proofs.exchange.Tie as tie
+use Rattle.trio.proofs.exchange.Reads as reads
+use Rattle.trio.proofs.exchange.Lts as lts
 use Rattle.hosts.proofs.State.hear.Reads as hear-reads
 
 -- src/lib.rt:115:9

@@ -1,12 +1,12 @@
 use mathlib.Core.Path.{_∙_}
-use Rattle.sessions.specs.Sessions.{opened-register}
+use Rattle.trio.specs.Together.{opened-register}
 use borrow.Author.Needs.{needs}
-use Rattle.sessions.proofs.opened.Statement.{statement}
-use Rattle.sessions.proofs.opened.Tie as tie
-use Rattle.sessions.proofs.opened.Reads as reads
-use Rattle.sessions.proofs.opened.Lts as lts
+use Rattle.trio.proofs.opened.Statement.{statement}
+use Rattle.trio.proofs.opened.Tie as tie
+use Rattle.trio.proofs.opened.Reads as reads
+use Rattle.trio.proofs.opened.Lts as lts
 use Rattle.slots.proofs.word_at.Reads as word-at-reads
-use Rattle.sessions.proofs.held.Reads as held-reads
+use Rattle.trio.proofs.held.Reads as held-reads
 use Rattle.shares.proofs.reconstruct.Reads as reconstruct-reads
 
 -- src/lib.rt:171:25

@@ -1,4 +1,4 @@
--- The hosts of a session stand where the joint walk halts, and a word heard by each brings both to the next halt. Assumes nothing.
+-- The three hosts stand where the joint walk halts, and a word heard by each brings both to the next halt. Assumes nothing.
 use mathlib.Core.Path.{_≡_, refl, sym, ap, ap₂, _∙_}
 use mathlib.Core.Logic.{_⊎_, inl, inr}
 use mathlib.Core.List.{List, [], _++_}
@@ -21,9 +21,9 @@ use Rattle.runs.proofs.Ties.{shadow1, shadow2, joint, words, Went, starts, hear
 use Rattle.runs.proofs.Kept.{all, j₀, DealerOk, dealt-all, prepares-ok, supplied}
 use Rattle.runs.proofs.Started.{or-else-none}
 use Rattle.runs.proofs.Progress.{unless-zero, lent1-zero, lent2-zero}
-use Rattle.sessions.specs.Sessions.{Lending, lending, Session, prepared, preparation as sessions-preparation, begun, heard}
+use Rattle.trio.specs.Together.{Lending, lending, Trio, prepared, preparation as trio-preparation, begun, heard}
 
--- what a session is lent and given, as a run has it
+-- what the three are lent and given, as a run has it
 abbrev pub lent-of : Setting → Lending
 lent-of S = lending (S .job) (S .table) (S .A) (S .B)
 
@@ -60,8 +60,8 @@ module _ (w : ℕ) (S : Setting) (buf : List ℕ) where
         state = state-of (through h (at-n n));
       }
 
-  -- the session there
-  abbrev pub standing : ℕ → Session
+  -- the three hosts there
+  abbrev pub standing : ℕ → Trio
   standing n =
       record {
         number = P .number;
@@ -73,7 +73,7 @@ module _ (w : ℕ) (S : Setting) (buf : List ℕ) where
         buffer = D;
       }
 
-  pub record Standing (s : Session) : Type 0 where
+  pub record Standing (s : Trio) : Type 0 where
     pub n : ℕ
     pub halts : Halted (at-n n .rest)
     pub is : s ≡ standing n
@@ -133,15 +133,15 @@ module _ (w : ℕ) (S : Setting) (buf : List ℕ) where
     abbrev Went2 : ℕ → List Pair → Answer → List Pair → Type 0
     Went2 = Went (S .A) (S .B) (all w S) (j₀ w S) (party2 (S .B) D) of2 (joint2 (S .A) (S .B)) (joint1 (S .A) (S .B)) (Supplied (S .A) (S .B) D) (shadow2 (S .A) (S .B) D) supply
 
-    -- two answers that went on from position k leave the session standing
+    -- two answers that went on from position k leave the three standing
     both : (k : ℕ) (t1 t2 r1 r2 : List Pair) (a b : Answer) → Went1 k t1 a r1 → Went2 k t2 b r2
         → (x : Standing (record { number = P .number; index = P .index; deals = P .deals; masks = P .masks; one = a; two = b; buffer = D })) × (k ≤ x .n)
     both k t1 t2 r1 r2 a b X Y =
         let e : at-n (Y .to) ≡ at-n (X .to) = one-halt k (Y .to) (X .to) (Y .later) (X .later) (Y .halts) (X .halts) (Y .quietly) (X .quietly) in
         let f : b ≡ answer-at of2 (joint2 (S .A) (S .B)) (X .to) = Y .is ∙ ap {B = Answer} (λ (p : Conf Triple). answer-in p) e in
-        (record { n = X .to; halts = X .halts; is = ap₂ {C = Session} (λ (x y : Answer). with-answers x y) (X .is) f }, X .later)
+        (record { n = X .to; halts = X .halts; is = ap₂ {C = Trio} (λ (x y : Answer). with-answers x y) (X .is) f }, X .later)
       where
-        with-answers : Answer → Answer → Session
+        with-answers : Answer → Answer → Trio
         with-answers x y = record { number = P .number; index = P .index; deals = P .deals; masks = P .masks; one = x; two = y; buffer = D }
 
         answer-in : Conf Triple → Answer
@@ -159,7 +159,7 @@ module _ (w : ℕ) (S : Setting) (buf : List ℕ) where
 
     begun-is : begun w (lent-of S) (given-of S) buf
         ≡ record { number = P .number; index = P .index; deals = P .deals; masks = P .masks; one = start w (lent1 w S D) (S .rm, S .r1); two = start w (lent2 w S D) (S .rm, S .r2); buffer = D }
-    unfolding begun prepared sessions-preparation
+    unfolding begun prepared trio-preparation
     begun-is = rw (unless-zero (P .number) (P .number, P .index) (given (S .rm, S .r1)) (start w (lent1 w S D) (S .rm, S .r1)) done, unless-zero (P .number) (P .number, P .index) (given (S .rm, S .r2)) (start w (lent2 w S D) (S .rm, S .r2)) done)
 
     pub begun-stands : Standing (begun w (lent-of S) (given-of S) buf)

@@ -1,14 +1,14 @@
 use mathlib.Core.Path.{refl}
 use denote.Ref.{now}
-use Rattle.sessions.specs.Sessions.{lending, shared, preparation}
-use Rattle.sessions.proofs.Turns.{begins}
+use Rattle.trio.specs.Together.{lending, shared, preparation}
+use Rattle.trio.proofs.Turns.{begins}
 use borrow.Author.Needs.{needs}
-use Rattle.sessions.proofs.begin.Statement.{statement}
-use Rattle.sessions.proofs.begin.Tie as tie
-use Rattle.sessions.proofs.begin.Reads as reads
-use Rattle.sessions.proofs.begin.Lts as lts
+use Rattle.trio.proofs.begin.Statement.{statement}
+use Rattle.trio.proofs.begin.Tie as tie
+use Rattle.trio.proofs.begin.Reads as reads
+use Rattle.trio.proofs.begin.Lts as lts
 use Rattle.dealer.proofs.prepare.Reads as prepare-reads
-use Rattle.sessions.proofs.first.Reads as first-reads
+use Rattle.trio.proofs.first.Reads as first-reads
 
 -- src/lib.rt:85:9
 prepare-requires : tie.Need-prepare-requires

@@ -1,4 +1,4 @@
--- What the code's session is, call by call; and what the loop of `run` keeps. Assumes nothing.
+-- What the code's three hosts are, call by call; and what the loop of `run` keeps. Assumes nothing.
 use mathlib.Core.Path.{_≡_, refl, sym, ap, ap₂, _∙_}
 use mathlib.Core.Logic.{_≢_}
 use mathlib.Core.List.{List}
@@ -14,9 +14,9 @@ use Rattle.parties.specs.Lent.{dealer-fault}
 use Rattle.runs.specs.Runs.{Setting}
 use Rattle.runs.proofs.Started.{or-else-none}
 use Rattle.runs.proofs.Progress.{unless-zero}
-use Rattle.sessions.specs.Sessions.{Lending, lending, Session, to1, to2, preparation, prepared, left, ended, begun, heard, session}
-use Rattle.sessions.proofs.Positions.{lent-of, given-of, P, Standing, prepare-number, begun-stands}
-use Rattle.sessions.proofs.Ends.{ahead, Turn, turn, finish}
+use Rattle.trio.specs.Together.{Lending, lending, Trio, to1, to2, preparation, prepared, left, ended, begun, heard, together}
+use Rattle.trio.proofs.Positions.{lent-of, given-of, P, Standing, prepare-number, begun-stands}
+use Rattle.trio.proofs.Ends.{ahead, Turn, turn, finish}
 
 -- ---- a starting, or none
 
@@ -39,7 +39,7 @@ begins w L r buf D p a b e d f g = rw (f, g, ← d, e)
 
 -- ---- the loop
 
--- the registers of a session: sixteen shares
+-- the registers given: sixteen shares
 pub record Sixteen (r : Triple) : Type 0 where
   pub m : length (r .0) ≡ 16
   pub l1 : length (r .1) ≡ 16
@@ -60,49 +60,49 @@ setting L r h =
       r2-sixteen = h .l2;
     }
 
-prepared-none : (L : Lending) (r : Triple) (h : Sixteen r) (buf : List ℕ) (s : Session) → s ≡ begun 32 L r buf → s .number ≡ 0 → P 32 (setting L r h) buf .number ≡ 0
+prepared-none : (L : Lending) (r : Triple) (h : Sixteen r) (buf : List ℕ) (s : Trio) → s ≡ begun 32 L r buf → s .number ≡ 0 → P 32 (setting L r h) buf .number ≡ 0
 unfolding begun prepared preparation
-prepared-none L r h buf s e z = ap (λ (x : Session). x .number) (sym e) ∙ z
+prepared-none L r h buf s e z = ap (λ (x : Trio). x .number) (sym e) ∙ z
 
--- what the loop keeps of the session s, whatever registers and buffer the session began with
-abbrev pub Going : Lending → (first s : Session) → Type 0
+-- what the loop keeps of the three hosts s, whatever registers and buffer they began with
+abbrev pub Going : Lending → (first s : Trio) → Type 0
 Going L f s = (r : Triple) (h : Sixteen r) (buf : List ℕ) → f ≡ begun 32 L r buf → f .number ≡ 0 → Standing 32 (setting L r h) buf s
 
-pub going-in : (L : Lending) (s : Session) → Going L s s
+pub going-in : (L : Lending) (s : Trio) → Going L s s
 going-in L s r h buf e z = rw e (begun-stands 32 (setting L r h) buf (prepared-none L r h buf s e z))
 
-module _ (L : Lending) (f s : Session) (g : Going L f s) where
+module _ (L : Lending) (f s : Trio) (g : Going L f s) where
   turned : (r : Triple) (h : Sixteen r) (buf : List ℕ) (e : f ≡ begun 32 L r buf) (z : f .number ≡ 0) → s .one .state .order < length (L .job) / 4
       → Turn 32 (setting L r h) buf (prepared-none L r h buf f e z) s
   turned r h buf e z l = turn 32 (setting L r h) buf (prepared-none L r h buf f e z) s (g r h buf e z) (rw (order-count (L .job)) l)
 
-  pub going-on : (t : Session) → t ≡ heard 32 L s → s .one .state .order < length (L .job) / 4 → Going L f t
+  pub going-on : (t : Trio) → t ≡ heard 32 L s → s .one .state .order < length (L .job) / 4 → Going L f t
   going-on t p l r h buf e z = rw p (turned r h buf e z l .stands)
 
-  pub nearer : (r : Triple) (h : Sixteen r) (buf : List ℕ) (e : f ≡ begun 32 L r buf) (z : f .number ≡ 0) (t : Session) → t ≡ heard 32 L s → s .one .state .order < length (L .job) / 4
+  pub nearer : (r : Triple) (h : Sixteen r) (buf : List ℕ) (e : f ≡ begun 32 L r buf) (z : f .number ≡ 0) (t : Trio) → t ≡ heard 32 L s → s .one .state .order < length (L .job) / 4
       → ahead 32 L (t .one .state) < ahead 32 L (s .one .state)
   nearer r h buf e z t p l = rw p (turned r h buf e z l .fewer)
 
-  pub arrived : (r : Triple) (h : Sixteen r) (buf : List ℕ) (e : f ≡ begun 32 L r buf) (z : f .number ≡ 0) → length (L .job) / 4 ≤ s .one .state .order → s ≡ session 32 L r buf
+  pub arrived : (r : Triple) (h : Sixteen r) (buf : List ℕ) (e : f ≡ begun 32 L r buf) (z : f .number ≡ 0) → length (L .job) / 4 ≤ s .one .state .order → s ≡ together 32 L r buf
   arrived r h buf e z l = finish 32 (setting L r h) buf (prepared-none L r h buf f e z) s (g r h buf e z) (rw (order-count (L .job)) l)
 
 -- an accepted job is short
-pub few-words : (L : Lending) (r : Triple) (buf : List ℕ) (s : Session) → s ≡ begun 32 L r buf → s .number ≡ 0 → length (L .job) ≤ 256
+pub few-words : (L : Lending) (r : Triple) (buf : List ℕ) (s : Trio) → s ≡ begun 32 L r buf → s .number ≡ 0 → length (L .job) ≤ 256
 unfolding begun prepared preparation dealer-fault
 few-words L r buf s e z =
-    let f = prepare-number 32 (L .job) (L .table) (L .A) (L .B) buf (of0 r) ∙ ap (λ (x : Session). x .number) (sym e) ∙ z in
+    let f = prepare-number 32 (L .job) (L .table) (L .A) (L .B) buf (of0 r) ∙ ap (λ (x : Trio). x .number) (sym e) ∙ z in
     sized (L .job) (L .table) (or-else-none (job-fault 32 (L .job) (L .table)) _ f .0) .few-words
 
--- a refused preparation ends the session
+-- a refused preparation is the end
 ended-refused : (n i : ℕ) (s : State) (a b : Answer) → n ≢ 0 → unless n (n, i) s a ≡ unless n (n, i) s b
 unfolding unless
 ended-refused zero i s a b h = absurd (h refl)
 ended-refused (suc n) i s a b h = refl
 
-pub refused-session : (w : ℕ) (L : Lending) (r : Triple) (buf : List ℕ) (s : Session) → s ≡ begun w L r buf → s .number ≢ 0 → s ≡ session w L r buf
-unfolding begun session prepared
-refused-session w L r buf s e h =
-    let n : preparation w L r buf .number ≢ 0 = λ z. h (ap (λ (x : Session). x .number) e ∙ z) in
+pub refused-together : (w : ℕ) (L : Lending) (r : Triple) (buf : List ℕ) (s : Trio) → s ≡ begun w L r buf → s .number ≢ 0 → s ≡ together w L r buf
+unfolding begun together prepared
+refused-together w L r buf s e h =
+    let n : preparation w L r buf .number ≢ 0 = λ z. h (ap (λ (x : Trio). x .number) e ∙ z) in
     e ∙ rw (
       ended-refused (preparation w L r buf .number) (preparation w L r buf .index) (given (of1 r)) (start w (to1 L (preparation w L r buf .buffer)) (of1 r)) (ended w L (of1 (left w L r))) n,
       ended-refused (preparation w L r buf .number) (preparation w L r buf .index) (given (of2 r)) (start w (to2 L (preparation w L r buf .buffer)) (of2 r)) (ended w L (of2 (left w L r))) n,

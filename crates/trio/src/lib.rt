@@ -5,7 +5,7 @@ ghost use Rattle.shares.specs.Answers.{opening};
 ghost use Rattle.parties.specs.Calls as Calls;
 ghost use Rattle.parties.specs.Lent.{lent};
 ghost use Rattle.hosts.specs.Answers.{answer-of, state-of, lanes-of};
-ghost use Rattle.sessions.specs.Sessions.{session-of, shared, lending, begun, heard, session, opened-register};
+ghost use Rattle.trio.specs.Together.{trio-of, shared, lending, begun, heard, together, opened-register};
 use dealer::Masks;
 use dealer::prepare;
 use hosts::Answer;
@@ -28,7 +28,7 @@ pub struct Shared {
 }
 
 // The preparation's number, order's index, deals and masks, and the last answers of hosts 1 and 2.
-pub struct Session {
+pub struct Trio {
     pub number: u32,
     pub index: u32,
     pub deals: u32,
@@ -79,8 +79,8 @@ pub fn begin(
     b: &[u32],
     deals: &mut [u32],
     registers: Shared,
-) -> Session
-    ensures { λ r. ⌜ session-of r (now (deals .exit)) ≡ begun 32 (lending (now (job .entry)) (now (table .entry)) (now (a .entry)) (now (b .entry))) (shared registers) (now (deals .entry)) ⌝ }
+) -> Trio
+    ensures { λ r. ⌜ trio-of r (now (deals .exit)) ≡ begun 32 (lending (now (job .entry)) (now (table .entry)) (now (a .entry)) (now (b .entry))) (shared registers) (now (deals .entry)) ⌝ }
 {
     let m = registers.m;
     let l1 = registers.l1;
@@ -109,7 +109,7 @@ pub fn begin(
         deals,
         Registers { m, mask: l2 },
     );
-    Session {
+    Trio {
         number,
         index,
         deals: done.deals,
@@ -120,22 +120,15 @@ pub fn begin(
 }
 
 // Each host hears the word that the other spoke last.
-pub fn exchange(
-    job: &[u32],
-    table: &[u32],
-    a: &[u32],
-    b: &[u32],
-    deals: &[u32],
-    s: Session,
-) -> Session
-    ensures { λ r. ⌜ session-of r (now (deals .entry)) ≡ heard 32 (lending (now (job .entry)) (now (table .entry)) (now (a .entry)) (now (b .entry))) (session-of s (now (deals .entry))) ⌝ }
+pub fn exchange(job: &[u32], table: &[u32], a: &[u32], b: &[u32], deals: &[u32], s: Trio) -> Trio
+    ensures { λ r. ⌜ trio-of r (now (deals .entry)) ≡ heard 32 (lending (now (job .entry)) (now (table .entry)) (now (a .entry)) (now (b .entry))) (trio-of s (now (deals .entry))) ⌝ }
 {
     let first = s.one.state;
     let second = s.two.state;
     let masks = s.masks;
     let one = first.hear(1, job, table, a, deals, s.two.word);
     let two = second.hear(2, job, table, b, deals, s.one.word);
-    Session {
+    Trio {
         number: s.number,
         index: s.index,
         deals: s.deals,
@@ -155,8 +148,8 @@ fn carry(
     m: [u32; 16],
     l1: [u32; 16],
     l2: [u32; 16],
-) -> Session
-    ensures { λ r. ⌜ session-of r (now (deals .exit)) ≡ session 32 (lending (now (job .entry)) (now (table .entry)) (now (a .entry)) (now (b .entry))) (m, l1, l2) (now (deals .entry)) ⌝ }
+) -> Trio
+    ensures { λ r. ⌜ trio-of r (now (deals .exit)) ≡ together 32 (lending (now (job .entry)) (now (table .entry)) (now (a .entry)) (now (b .entry))) (m, l1, l2) (now (deals .entry)) ⌝ }
 {
     let mut s = begin(job, table, a, b, deals, Shared { m, l1, l2 });
     if s.number != 0 {
@@ -177,8 +170,8 @@ pub fn run(
     b: &[u32],
     deals: &mut [u32],
     registers: Shared,
-) -> Session
-    ensures { λ r. ⌜ session-of r (now (deals .exit)) ≡ session 32 (lending (now (job .entry)) (now (table .entry)) (now (a .entry)) (now (b .entry))) (shared registers) (now (deals .entry)) ⌝ }
+) -> Trio
+    ensures { λ r. ⌜ trio-of r (now (deals .exit)) ≡ together 32 (lending (now (job .entry)) (now (table .entry)) (now (a .entry)) (now (b .entry))) (shared registers) (now (deals .entry)) ⌝ }
 {
     let m = registers.m;
     let l1 = registers.l1;
@@ -199,7 +192,7 @@ fn held(s: State, register: usize) -> WorkerShare
 }
 
 // What a register, 0 to 15, opens on the three hosts' shares of it.
-pub fn opened(s: Session, register: usize) -> Opening
+pub fn opened(s: Trio, register: usize) -> Opening
     ensures { λ r. ⌜ opening r ≡ opened-register 32 (s .masks .l1, s .masks .l2) (state-of (s .one .state)) (state-of (s .two .state)) register ⌝ }
 {
     let l1 = s.masks.l1;

@@ -1,9 +1,9 @@
-use Rattle.sessions.proofs.Turns.{started, not-started}
+use Rattle.trio.proofs.Turns.{started, not-started}
 use borrow.Author.Needs.{needs}
-use Rattle.sessions.proofs.first.Statement.{statement}
-use Rattle.sessions.proofs.first.Tie as tie
-use Rattle.sessions.proofs.first.Reads as reads
-use Rattle.sessions.proofs.first.Lts as lts
+use Rattle.trio.proofs.first.Statement.{statement}
+use Rattle.trio.proofs.first.Tie as tie
+use Rattle.trio.proofs.first.Reads as reads
+use Rattle.trio.proofs.first.Lts as lts
 use Rattle.hosts.proofs.start.Reads as start-reads
 use Rattle.parties.proofs.fresh.Reads as fresh-reads
 

@@ -1,4 +1,4 @@
--- Where a session stands at the end of its job, its answers are those of the whole joint walk. Assumes nothing.
+-- Where the three hosts stand at the end of a job, their answers are those of the whole joint walk. Assumes nothing.
 use mathlib.Core.Path.{_≡_, refl, sym, ap, _∙_}
 use mathlib.Core.Logic.{_⊎_, inl, inr}
 use mathlib.Core.List.{List, [], _∷_}
@@ -23,8 +23,8 @@ use Rattle.runs.proofs.Chain.{orders-of}
 use Rattle.runs.proofs.Counts.{job-closed, far-at, stands}
 use Rattle.runs.proofs.Kept.{all, j₀}
 use Rattle.runs.proofs.Progress.{unless-zero}
-use Rattle.sessions.specs.Sessions.{Lending, Session, prepared, preparation as sessions-preparation, left, ended, heard, session}
-use Rattle.sessions.proofs.Positions.{lent-of, given-of, P, D, at-n, answer-at, standing, Standing, heard-at}
+use Rattle.trio.specs.Together.{Lending, Trio, prepared, preparation as trio-preparation, left, ended, heard, together}
+use Rattle.trio.proofs.Positions.{lent-of, given-of, P, D, at-n, answer-at, standing, Standing, heard-at}
 
 -- ---- a job ends with an order's end: "the end is the number of orders and 0"
 
@@ -93,7 +93,7 @@ module _ (w : ℕ) (S : Setting) (buf : List ℕ) (done : P w S buf .number ≡ 
   ahead-at : (n : ℕ) → Halted (walk-at n .rest) → ahead w (lent-of S) (standing w S buf n .one .state) ≡ length (walk-at n .rest)
   ahead-at n h = ap steps-in (seek-pos (act (S .A) (S .B)) (all w S) (j₀ w S) n h)
 
-  pub record Turn (s : Session) : Type 0 where
+  pub record Turn (s : Trio) : Type 0 where
     pub stands : Standing w S buf (heard w (lent-of S) s)
     pub fewer : ahead w (lent-of S) (heard w (lent-of S) s .one .state) < ahead w (lent-of S) (s .one .state)
 
@@ -102,10 +102,10 @@ module _ (w : ℕ) (S : Setting) (buf : List ℕ) (done : P w S buf .number ≡ 
       let x = live n h l in
       let r = heard-at w S buf done n h x in
       let m : ahead w (lent-of S) (heard w (lent-of S) (standing w S buf n) .one .state) ≡ length (walk-at (r .0 .n) .rest) =
-      ap (λ (s : Session). ahead w (lent-of S) (s .one .state)) (r .0 .is) ∙ ahead-at (r .0 .n) (r .0 .halts) in
+      ap (λ (s : Trio). ahead w (lent-of S) (s .one .state)) (r .0 .is) ∙ ahead-at (r .0 .n) (r .0 .halts) in
       record { stands = r .0; fewer = omega (arith, m, ahead-at n h, shrinks (act (S .A) (S .B)) (all w S) (j₀ w S) n (r .0 .n) x (r .1)) }
 
-  pub turn : (s : Session) → Standing w S buf s → s .one .state .order < length (orders (S .job)) → Turn s
+  pub turn : (s : Trio) → Standing w S buf s → s .one .state .order < length (orders (S .job)) → Turn s
   turn s Z l = rw (Z .is) (turn-at (Z .n) (Z .halts) (rw (Z .is) at l))
 
   -- ---- at the end
@@ -138,8 +138,8 @@ module _ (w : ℕ) (S : Setting) (buf : List ℕ) (done : P w S buf .number ≡ 
         last-answer h say (walk-at n .rest) (walk-at n .cur) (walk-at n .state) (walk-at n .trail) _ _ e b q t
         ∙ ap {B = Answer} (λ (j : Triple). ended w (lent-of S) (h j)) state-is
 
-    finish-at : standing w S buf n ≡ session w (lent-of S) (given-of S) buf
-    unfolding session prepared sessions-preparation
+    finish-at : standing w S buf n ≡ together w (lent-of S) (given-of S) buf
+    unfolding together prepared trio-preparation
     finish-at =
         rw (
           last-is of1 (joint1 (S .A) (S .B)),
@@ -148,7 +148,7 @@ module _ (w : ℕ) (S : Setting) (buf : List ℕ) (done : P w S buf .number ≡ 
           unless-zero (P w S buf .number) (P w S buf .number, P w S buf .index) (given (S .rm, S .r2)) (ended w (lent-of S) (of2 (left w (lent-of S) (given-of S)))) done,
         )
 
-  pub finish : (s : Session) → Standing w S buf s → length (orders (S .job)) ≤ s .one .state .order → s ≡ session w (lent-of S) (given-of S) buf
+  pub finish : (s : Trio) → Standing w S buf s → length (orders (S .job)) ≤ s .one .state .order → s ≡ together w (lent-of S) (given-of S) buf
   finish s Z l =
       let k : length (orders (S .job)) ≤ walk-at (Z .n) .cur .order = rw (Z .is) at l in
       Z .is ∙ finish-at (Z .n) (no-step (Z .n) (Z .halts) k)

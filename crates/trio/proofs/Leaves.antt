@@ -1,4 +1,4 @@
--- What a session leaves: a register opens what the joint walk holds in it, and the counts are the job's. Assumes nothing.
+-- What the three hosts leave: a register opens what the joint walk holds in it, and the counts are the job's. Assumes nothing.
 use mathlib.Core.Path.{_≡_, refl, sym, ap, _∙_, subst}
 use mathlib.Core.List.{List, [], _∷_, _++_}
 use Prim.Native.Nat.{ℕ, _<_}
@@ -21,8 +21,8 @@ use Rattle.runs.proofs.Chain.{mark-gate}
 use Rattle.runs.proofs.Demand2.{demand2}
 use Rattle.runs.proofs.Kept.{DealerOk, dealt-all, prepares-ok}
 use Rattle.runs.proofs.Progress.{unless-zero}
-use Rattle.sessions.specs.Sessions.{Session, prepared, preparation as sessions-preparation, left, ended, session, opened-register}
-use Rattle.sessions.proofs.Positions.{lent-of, given-of, P}
+use Rattle.trio.specs.Together.{Trio, prepared, preparation as trio-preparation, left, ended, together, opened-register}
+use Rattle.trio.proofs.Positions.{lent-of, given-of, P}
 
 -- ---- one order: it leaves what the walk ends with
 
@@ -42,14 +42,14 @@ left-one w S gs e =
     (sym (ap (λ (t : List Triple). getD t 0 (first S)) (order-whole w (S .A) (S .B) gs origin (first S) [])))
 
 module _ (w : ℕ) (S : Setting) (buf : List ℕ) (done : P w S buf .number ≡ 0) where
-  abbrev over : Session
-  over = session w (lent-of S) (given-of S) buf
+  abbrev over : Trio
+  over = together w (lent-of S) (given-of S) buf
 
   abbrev end-state : Triple
   end-state = left w (lent-of S) (given-of S)
 
   over-is : over ≡ record { number = P w S buf .number; index = P w S buf .index; deals = P w S buf .deals; masks = P w S buf .masks; one = ended w (lent-of S) (of1 end-state); two = ended w (lent-of S) (of2 end-state); buffer = P w S buf .buffer }
-  unfolding session prepared sessions-preparation
+  unfolding together prepared trio-preparation
   over-is =
       rw (
         unless-zero (P w S buf .number) (P w S buf .number, P w S buf .index) (given (S .rm, S .r1)) (ended w (lent-of S) (of1 end-state)) done,
@@ -72,5 +72,5 @@ module _ (w : ℕ) (S : Setting) (buf : List ℕ) (done : P w S buf .number ≡ 
   unfolding ended
   words-spoken = rw over-is (refl, refl)
 
-pub deals-dealt : (S : Setting) (buf : List ℕ) → P 32 S buf .number ≡ 0 → session 32 (lent-of S) (given-of S) buf .deals ≡ job-cost 32 (S .job) (S .table) .deals
-deals-dealt S buf done = ap (λ (s : Session). s .deals) (over-is 32 S buf done) ∙ demand2 .deals-counted S buf (S .r1, S .r2) done
+pub deals-dealt : (S : Setting) (buf : List ℕ) → P 32 S buf .number ≡ 0 → together 32 (lent-of S) (given-of S) buf .deals ≡ job-cost 32 (S .job) (S .table) .deals
+deals-dealt S buf done = ap (λ (s : Trio). s .deals) (over-is 32 S buf done) ∙ demand2 .deals-counted S buf (S .r1, S .r2) done
