@@ -14,6 +14,7 @@ ghost use Rattle.dealer.specs.Preparation.{answer, dealer, outset, Judge
 use crate::Masks;
 use crate::Prepared;
 use circuits::Order;
+use deals::deal_word;
 use gates::Gate;
 use gates::Shape;
 use jobs::Checked;
@@ -24,7 +25,6 @@ use lookup::Fetched;
 use lookup::fetch;
 use parties::fresh;
 use slots::put;
-use speech::deal_word;
 use speech::shape_of;
 
 // The words used of A and of B, and the deals written.

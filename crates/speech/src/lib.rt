@@ -1,47 +1,63 @@
-// What is dealt and spoken at a gate: which of document 01's formulas on words it takes (crate `formulas`).
-// The definitions stand with the gates (`Speech`, `Meaning`).
+// The words that are spoken at a gate, and what a walk does there: document 01's formulas on words. The definitions stand with the gates (`Speech`, `Meaning`).
 ghost use mathlib.Core.Path.{_≡_};
-ghost use Rattle.gates.specs.Speech.{dealt-word, spoken1, spoken2, met, shape};
-ghost use Rattle.gates.specs.Meaning.{meaning, dealt-of};
-use formulas::and_deal;
-use formulas::and_word1;
-use formulas::and_word2;
-use formulas::negated;
-use formulas::product_deal;
-use formulas::product_word1;
-use formulas::product_word2;
-use formulas::refresh_word1;
-use formulas::refresh_word2;
-use formulas::second_mask;
-use gates::Dealt;
+ghost use Rattle.words.specs.Words.{numbers, bits};
+ghost use Rattle.shares.specs.Gates.{product-word1, product-word2, refresh-word1, refresh-word2};
+ghost use Rattle.gates.specs.Speech.{spoken1, spoken2, met, shape};
+ghost use Rattle.gates.specs.Meaning.{meaning};
 use gates::Gate;
 use gates::Shape;
 use slots::at;
-use slots::part_of;
 
-// What party 0 deals of the masks l1 and l2.
-fn dealt_number(f: Dealt, l1: u32, l2: u32) -> u32
-    ensures { λ r. ⌜ r ≡ dealt-of 32 f l1 l2 ⌝ }
+// ---- numbers
+
+// ma × mb - ma × Lb1 - mb × La1 + g1 + L1.
+fn product_word1(ma: u32, mb: u32, a1: u32, b1: u32, g1: u32, l1: u32) -> u32
+    ensures { λ r. ⌜ r ≡ product-word1 (numbers 32) ma mb a1 b1 g1 l1 ⌝ }
 {
-    match f {
-        Dealt::OfSum { part } => part_of(part, std::num::wrapping_add_u32(l1, l2)),
-        Dealt::OfNegated { part } => part_of(part, negated(std::num::wrapping_add_u32(l1, l2))),
-        Dealt::OfBits => l1 ^ l2,
-    }
+    let p = words::wrapping_mul(ma, mb);
+    let q = std::num::wrapping_sub_u32(p, words::wrapping_mul(ma, b1));
+    let r = std::num::wrapping_sub_u32(q, words::wrapping_mul(mb, a1));
+    std::num::wrapping_add_u32(std::num::wrapping_add_u32(r, g1), l1)
 }
 
-// Party 0's deal; x is the A word of the first mask, or g1 of a product.
-pub fn deal_word(g: Gate, x: u32, l1: &[u32; 24], l2: &[u32; 24]) -> u32
-    ensures { λ r. ⌜ r ≡ dealt-word (meaning 32 g) x (now (l1 .entry)) (now (l2 .entry)) ⌝ }
+// g2 - ma × Lb2 - mb × La2 + L2.
+fn product_word2(ma: u32, mb: u32, a2: u32, b2: u32, g2: u32, l2: u32) -> u32
+    ensures { λ r. ⌜ r ≡ product-word2 (numbers 32) ma mb a2 b2 g2 l2 ⌝ }
 {
-    match g {
-        Gate::Mul { d: _, a, b } => product_deal(at(l1, a), at(l2, a), at(l1, b), at(l2, b), x),
-        Gate::And { d: _, a, b } => and_deal(at(l1, a), at(l2, a), at(l1, b), at(l2, b), x),
-        Gate::Deal { d: _, a, dealt } => second_mask(dealt_number(dealt, at(l1, a), at(l2, a)), x),
-        Gate::DealBits { d: _, a } => x ^ negated(std::num::wrapping_add_u32(at(l1, a), at(l2, a))),
-        _ => 0,
-    }
+    let q = std::num::wrapping_sub_u32(g2, words::wrapping_mul(ma, b2));
+    let r = std::num::wrapping_sub_u32(q, words::wrapping_mul(mb, a2));
+    std::num::wrapping_add_u32(r, l2)
 }
+
+// ma - La1 + L1.
+fn refresh_word1(ma: u32, a1: u32, l1: u32) -> u32
+    ensures { λ r. ⌜ r ≡ refresh-word1 (numbers 32) ma a1 l1 ⌝ }
+{
+    std::num::wrapping_add_u32(std::num::wrapping_sub_u32(ma, a1), l1)
+}
+
+// L2 - La2.
+fn refresh_word2(a2: u32, l2: u32) -> u32
+    ensures { λ r. ⌜ r ≡ refresh-word2 (numbers 32) a2 l2 ⌝ }
+{
+    std::num::wrapping_sub_u32(l2, a2)
+}
+
+// ---- bits: `and` for times, xor for plus and minus
+
+fn and_word1(ma: u32, mb: u32, a1: u32, b1: u32, g1: u32, l1: u32) -> u32
+    ensures { λ r. ⌜ r ≡ product-word1 (bits 32) ma mb a1 b1 g1 l1 ⌝ }
+{
+    (ma & mb) ^ (ma & b1) ^ (mb & a1) ^ g1 ^ l1
+}
+
+fn and_word2(ma: u32, mb: u32, a2: u32, b2: u32, g2: u32, l2: u32) -> u32
+    ensures { λ r. ⌜ r ≡ product-word2 (bits 32) ma mb a2 b2 g2 l2 ⌝ }
+{
+    g2 ^ (ma & b2) ^ (mb & a2) ^ l2
+}
+
+// ---- the gates
 
 // The word that party 1 speaks, with its part g1 of a product and its new mask.
 pub fn word1(g: Gate, m: &[u32; 24], l: &[u32; 24], g1: u32, l1: u32) -> u32

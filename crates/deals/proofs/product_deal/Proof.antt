@@ -2,8 +2,8 @@ use native.Mathlib.Omega.{arith}
 use Rattle.words.specs.Words.{add}
 use Rattle.words.proofs.Words.{sub-of}
 use borrow.Author.Needs.{needs}
-use Rattle.formulas.proofs.product_deal.Statement.{statement}
-use Rattle.formulas.proofs.product_deal.Tie as tie
+use Rattle.deals.proofs.product_deal.Statement.{statement}
+use Rattle.deals.proofs.product_deal.Tie as tie
 
 wrapping-add-u32-requires : tie.Need-wrapping-add-u32-requires
 wrapping-add-u32-requires c κs = search needs

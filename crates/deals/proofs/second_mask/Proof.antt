@@ -2,8 +2,8 @@ use native.Mathlib.Omega.{arith}
 use Rattle.words.specs.Words.{add}
 use Rattle.words.proofs.Words.{sub-of}
 use borrow.Author.Needs.{needs}
-use Rattle.formulas.proofs.second_mask.Statement.{statement}
-use Rattle.formulas.proofs.second_mask.Tie as tie
+use Rattle.deals.proofs.second_mask.Statement.{statement}
+use Rattle.deals.proofs.second_mask.Tie as tie
 
 negated-requires : tie.Need-negated-requires
 negated-requires c κs = search needs

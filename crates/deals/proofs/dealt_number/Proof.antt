@@ -1,8 +1,8 @@
 use Rattle.words.specs.Words.{add}
 use Rattle.gates.specs.Meaning.{dealt-of}
 use borrow.Author.Needs.{needs}
-use Rattle.speech.proofs.dealt_number.Statement.{statement}
-use Rattle.speech.proofs.dealt_number.Tie as tie
+use Rattle.deals.proofs.dealt_number.Statement.{statement}
+use Rattle.deals.proofs.dealt_number.Tie as tie
 
 enum-known-f : tie.Need-enum-known-f
 enum-known-f c = search needs

@@ -2,8 +2,8 @@ use native.Mathlib.Omega.{arith}
 use Rattle.words.specs.Words.{add}
 use Rattle.words.proofs.Words.{sub-of}
 use borrow.Author.Needs.{needs}
-use Rattle.formulas.proofs.refresh_word1.Statement.{statement}
-use Rattle.formulas.proofs.refresh_word1.Tie as tie
+use Rattle.speech.proofs.refresh_word1.Statement.{statement}
+use Rattle.speech.proofs.refresh_word1.Tie as tie
 
 wrapping-sub-u32-requires : tie.Need-wrapping-sub-u32-requires
 wrapping-sub-u32-requires c κs = search needs

@@ -4,8 +4,8 @@ use Rattle.gates.specs.Speech.{dealt-word}
 use Rattle.gates.specs.Steps.{part2}
 use Rattle.gates.proofs.Others.{undealt}
 use borrow.Author.Needs.{needs}
-use Rattle.speech.proofs.deal_word.Statement.{statement}
-use Rattle.speech.proofs.deal_word.Tie as tie
+use Rattle.deals.proofs.deal_word.Statement.{statement}
+use Rattle.deals.proofs.deal_word.Tie as tie
 
 enum-known-g : tie.Need-enum-known-g
 enum-known-g c = search needs

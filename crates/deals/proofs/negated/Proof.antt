@@ -5,8 +5,8 @@ use native.Mathlib.Omega.{arith}
 use Rattle.words.specs.Words.{add, sub, neg}
 use Rattle.words.proofs.Words.{sub-of}
 use borrow.Author.Needs.{needs}
-use Rattle.formulas.proofs.negated.Statement.{statement}
-use Rattle.formulas.proofs.negated.Tie as tie
+use Rattle.deals.proofs.negated.Statement.{statement}
+use Rattle.deals.proofs.negated.Tie as tie
 
 -- 0 - x
 neg-of : (w r x : ℕ) → r < 2 ^ w → x < 2 ^ w → add w r x ≡ 0 → r ≡ neg w x
