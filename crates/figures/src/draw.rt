@@ -18,38 +18,35 @@ pub(crate) fn word(seed: u32, i: u32) -> u32 {
     step(turned(step(turned(step(start)))))
 }
 
-pub(crate) fn registers(seed: u32) -> [u32; 16] {
-    let mut drawn = [0u32; 16];
+// The stream's words in a lent list of at most 512.
+fn fill(drawn: &mut [u32], seed: u32) {
     let mut i: u32 = 0;
-    while i < 16 {
+    while i < 512 {
         let at = i as usize;
-        drawn[at] = word(seed, i);
+        if at < drawn.len() {
+            drawn[at] = word(seed, i);
+        }
         i += 1;
     }
+}
+
+pub(crate) fn registers(seed: u32) -> [u32; 16] {
+    let mut drawn = [0u32; 16];
+    fill(&mut drawn, seed);
     drawn
 }
 
 // A host's lane of registers and kept words.
 pub(crate) fn lane(seed: u32) -> [u32; 24] {
     let mut drawn = [0u32; 24];
-    let mut i: u32 = 0;
-    while i < 24 {
-        let at = i as usize;
-        drawn[at] = word(seed, i);
-        i += 1;
-    }
+    fill(&mut drawn, seed);
     drawn
 }
 
 // Longer than any job of one order needs.
 pub(crate) fn list(seed: u32) -> [u32; 512] {
     let mut drawn = [0u32; 512];
-    let mut i: u32 = 0;
-    while i < 512 {
-        let at = i as usize;
-        drawn[at] = word(seed, i);
-        i += 1;
-    }
+    fill(&mut drawn, seed);
     drawn
 }
 

@@ -145,34 +145,37 @@ fn plain_value(kind: u32, fourth: u32, g: Inputs, table: &[u32]) -> u32 {
     }
 }
 
-// Document 01's table of costs.
-fn due_deals(kind: u32, fourth: u32, rows: u32) -> u32 {
-    match kind {
-        4 => 1,
-        6 => 1,
-        7 => 3,
-        8 => 16,
-        9 => 14,
-        10 => {
-            let shown = if fourth == 0 { 128 } else { 115 };
-            wrapping_add_u32(shown, product(14, wrapping_sub_u32(rows, 8)))
-        }
-        _ => 0,
-    }
+// What an order deals, and the words spoken at it.
+struct Cost {
+    deals: u32,
+    words: u32,
 }
 
-fn due_words(kind: u32, fourth: u32, rows: u32) -> u32 {
+fn cost_of(deals: u32, words: u32) -> Cost {
+    Cost { deals, words }
+}
+
+// As many more for each row over the house table's eight, or fewer.
+fn by_rows(shown: u32, each: u32, rows: u32) -> u32 {
+    wrapping_add_u32(shown, product(each, wrapping_sub_u32(rows, 8)))
+}
+
+// Document 01's table of costs.
+fn due_cost(kind: u32, fourth: u32, rows: u32) -> Cost {
     match kind {
-        4 => 2,
-        5 => 2,
-        7 => 2,
-        8 => 24,
-        9 => 24,
+        4 => cost_of(1, 2),
+        5 => cost_of(0, 2),
+        6 => cost_of(1, 0),
+        7 => cost_of(3, 2),
+        8 => cost_of(16, 24),
+        9 => cost_of(14, 24),
         10 => {
-            let shown = if fourth == 0 { 216 } else { 196 };
-            wrapping_add_u32(shown, product(24, wrapping_sub_u32(rows, 8)))
+            if fourth == 0 {
+                return cost_of(by_rows(128, 14, rows), by_rows(216, 24, rows));
+            }
+            cost_of(by_rows(115, 14, rows), by_rows(196, 24, rows))
         }
-        _ => 0,
+        _ => cost_of(0, 0),
     }
 }
 
@@ -220,9 +223,9 @@ fn finished(s: Trio, words: u32) -> bool {
 }
 
 fn with_counts(t: Tally, c: Trial, rows: u32, s: Trio, rest_kept: bool) -> Tally {
-    let deals = due_deals(c.kind, c.fourth, rows);
-    let right = s.deals == deals && finished(s, due_words(c.kind, c.fourth, rows)) && rest_kept;
-    t.with(right, c.x, s.deals, deals)
+    let due = due_cost(c.kind, c.fourth, rows);
+    let right = s.deals == due.deals && finished(s, due.words) && rest_kept;
+    t.with(right, c.x, s.deals, due.deals)
 }
 
 // The hosts after a trial's order, and whether the deal buffer has kept its later words.
@@ -249,7 +252,7 @@ fn run_lent(
 
 // The lists are drawn from the trial's seed.
 fn drawn_run(c: Trial, table: &[u32]) -> Outcome {
-    let written = due_deals(c.kind, c.fourth, row_count(table)) as usize;
+    let written = due_cost(c.kind, c.fourth, row_count(table)).deals as usize;
     let stream = word(c.seed, 6);
     let lent = list(stream);
     let mut deals = list(stream);
