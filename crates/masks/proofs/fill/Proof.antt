@@ -11,10 +11,6 @@ use Rattle.masks.specs.Masks.{multiples}
 use Rattle.masks.proofs.Multiples.{next-multiple, fill-more, filled}
 use Rattle.masks.proofs.fill.Statement.{statement}
 use Rattle.masks.proofs.fill.Tie as tie
-use Rattle.masks.proofs.fill.Reads as reads
-use Rattle.masks.proofs.fill.Lts as lts
-use Rattle.std.proofs.num.wrapping_add_u32.Reads as wrapping-add-u32-reads
-use Rattle.words.proofs.wrapping_mul.Reads as wrapping-mul-reads
 
 abbrev Inv-loop : tie.InvT-loop
 Inv-loop list₀ factor offset word₀ i₀ list word i =
@@ -23,36 +19,28 @@ Inv-loop list₀ factor offset word₀ i₀ list word i =
 abbrev μ-loop : tie.MeasureT-loop
 μ-loop list₀ factor offset word₀ i₀ list word i = length list₀ - i
 
--- src/lib.rt:11:9
 wrapping-mul-requires : tie.Need-wrapping-mul-requires Inv-loop μ-loop
 wrapping-mul-requires c κs = search needs
 
--- src/lib.rt:13:5
 loop-holds : tie.Need-loop-holds Inv-loop μ-loop
 unfolding mul
 loop-holds c = (omega arith, refl, c .wrapping-mul .ensures ∙ ap (λ (x : ℕ). c .before .before .args .factor * x % 2 ^ 32) (omega arith), refl)
 
--- src/lib.rt:14:9
 wrapping-add-u32-requires : tie.Need-wrapping-add-u32-requires Inv-loop μ-loop
 wrapping-add-u32-requires c κs = search needs
 
--- src/lib.rt:15:9
 mul-list : tie.Need-mul-list Inv-loop μ-loop
 mul-list c = omega arith
 
--- src/lib.rt:15:9
 slice-write-list : tie.Need-slice-write-list Inv-loop μ-loop
 slice-write-list c = omega arith
 
--- src/lib.rt:16:9
 add-i : tie.Need-add-i Inv-loop μ-loop
 add-i c = omega arith
 
--- src/lib.rt:13:5
 loop-less : tie.Need-loop-less Inv-loop μ-loop
 loop-less c = omega arith
 
--- src/lib.rt:13:5
 loop-again : tie.Need-loop-again Inv-loop μ-loop
 loop-again c =
     let l = c .before .before .loop in
@@ -64,11 +52,9 @@ loop-again c =
       ap (λ (x : List ℕ). set x (l .i) (c .wrapping-add-u32 .result)) (l .inv .3) ∙ fill-more (now (a .list)) (a .factor) (a .offset) (l .i) _ (omega arith) e,
     )
 
--- src/lib.rt:8:1
 same-length : tie.Need-same-length Inv-loop μ-loop
 same-length c = c .before .loop .inv .1
 
--- src/lib.rt:8:1
 returns : tie.Need-returns Inv-loop μ-loop
 returns c =
     let l = c .before .loop in

@@ -5,8 +5,6 @@ use Rattle.rehearsals.specs.Trial.{mode-word}
 use borrow.Author.Needs.{needs}
 use Rattle.rehearsals.proofs.mode_word.Statement.{statement}
 use Rattle.rehearsals.proofs.mode_word.Tie as tie
-use Rattle.rehearsals.proofs.mode_word.Reads as reads
-use Rattle.rehearsals.proofs.mode_word.Lts as lts
 
 other : (n : ℕ) → n ≢ 0 → 1 ≡ mode-word n
 other zero h = absurd (h refl)
@@ -15,7 +13,6 @@ other (suc n) h = refl
 returns : tie.Need-returns
 returns c = search needs
 
--- src/lib.rt:41:1
 returns-2 : tie.Need-returns-2
 returns-2 c = other (c .before .args .mode) (c .if1 .left)
 

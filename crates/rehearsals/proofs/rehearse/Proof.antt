@@ -9,65 +9,46 @@ use Rattle.rehearsals.proofs.Answers.{out-of-range, agreed, few, words-
 use borrow.Author.Needs.{needs}
 use Rattle.rehearsals.proofs.rehearse.Statement.{statement}
 use Rattle.rehearsals.proofs.rehearse.Tie as tie
-use Rattle.rehearsals.proofs.rehearse.Reads as reads
-use Rattle.rehearsals.proofs.rehearse.Lts as lts
-use Rattle.prints.proofs.answer_text.Reads as answer-text-reads
-use Rattle.prints.proofs.refusal_text.Reads as refusal-text-reads
-use Rattle.rehearsals.proofs.curve.Reads as curve-reads
-use Rattle.trio.proofs.opened.Reads as opened-reads
-use Rattle.shares.proofs.share.Reads as share-reads
 
--- src/lib.rt:67:30
 share-requires : tie.Need-share-requires
 share-requires c κs = search needs
 
--- src/lib.rt:67:25
 enum-known-s : tie.Need-enum-known-s
 enum-known-s c = search needs
 
--- src/lib.rt:68:9
 enum-told : tie.Need-enum-told
 enum-told c = search needs
 
--- src/lib.rt:68:9
 refusal-text-requires : tie.Need-refusal-text-requires
 refusal-text-requires c κs = search needs
 
--- src/lib.rt:68:9
 returns : tie.Need-returns
 returns c =
     let a = c .before .before .before .before .args in
     let k = ap (λ (y : ℤ). split 32 y first-a first-b) (toZ-ofZ w64 (a .reading) (c .before .before .before .before .fits .reading)) in
     out-of-range (a .mode) (a .reading) (c .before .before .before .share .result) (c .before .before .before .share .ensures ∙ k) (c .before .enum-told .given .1) _ (c .refusal-text .ensures)
 
--- src/lib.rt:70:9
 curve-requires : tie.Need-curve-requires
 curve-requires c κs = search needs
 
--- src/lib.rt:71:34
 opened-requires : tie.Need-opened-requires
 opened-requires c κs = search needs
 
--- src/lib.rt:71:25
 enum-known-value : tie.Need-enum-known-value
 enum-known-value c = search needs
 
--- src/lib.rt:72:9
 enum-told-2 : tie.Need-enum-told-2
 enum-told-2 c = search needs
 
--- src/lib.rt:72:9
 refusal-text-requires-2 : tie.Need-refusal-text-requires-2
 refusal-text-requires-2 c κs = search needs
 
--- src/lib.rt:72:9
 returns-2 : tie.Need-returns-2
 returns-2 c =
     let a = c .before .before .before .before .before .before .before .before .before .args in
     let k = ap (λ (y : ℤ). split 32 y first-a first-b) (toZ-ofZ w64 (a .reading) (c .before .before .before .before .before .before .before .before .before .fits .reading)) in
     absurd (agreed (a .mode) (a .reading) (c .before .before .before .before .before .before .before .before .share .result) (c .before .before .before .before .before .before .before .before .share .ensures ∙ k) _ (c .before .before .before .before .before .before .s .given .1) (c .before .before .before .before .curve .result) (c .before .before .before .before .curve .ensures) (c .before .before .before .opened .result) (c .before .before .before .opened .ensures) (c .before .enum-told2 .given .1))
 
--- src/lib.rt:74:51
 add-answer-text : tie.Need-add-answer-text
 add-answer-text c =
     let a = c .before .before .before .before .before .before .before .before .before .before .args in
@@ -75,11 +56,9 @@ add-answer-text c =
     let few-words = few (a .mode) _ (words-is (a .mode) (a .reading) (c .before .before .before .before .before .before .before .before .before .share .result) (c .before .before .before .before .before .before .before .before .before .share .ensures ∙ k) _ (c .before .before .before .before .before .before .before .s .given .1) (c .before .before .before .before .before .curve .result) (c .before .before .before .before .before .curve .ensures)) in
     omega (arith, few-words)
 
--- src/lib.rt:74:5
 answer-text-requires : tie.Need-answer-text-requires
 answer-text-requires c κs = search needs
 
--- src/lib.rt:64:1
 returns-3 : tie.Need-returns-3
 returns-3 c =
     let a = c .before .before .before .before .before .before .before .before .before .before .before .args in

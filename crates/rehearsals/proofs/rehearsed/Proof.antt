@@ -4,37 +4,25 @@ use Rattle.rehearsals.proofs.Answers.{reading-asked, nothing-asked}
 use borrow.Author.Needs.{needs}
 use Rattle.rehearsals.proofs.rehearsed.Statement.{statement}
 use Rattle.rehearsals.proofs.rehearsed.Tie as tie
-use Rattle.rehearsals.proofs.rehearsed.Reads as reads
-use Rattle.rehearsals.proofs.rehearsed.Lts as lts
-use Rattle.lines.proofs.parse.Reads as parse-reads
-use Rattle.prints.proofs.refusal_text.Reads as refusal-text-reads
-use Rattle.rehearsals.proofs.rehearse.Reads as rehearse-reads
 
--- src/lib.rt:81:11
 parse-requires : tie.Need-parse-requires
 parse-requires c κs = search needs
 
--- src/lib.rt:82:26
 enum-known-mode : tie.Need-enum-known-mode
 enum-known-mode c = search needs
 
--- src/lib.rt:82:45
 rehearse-requires : tie.Need-rehearse-requires
 rehearse-requires c κs = search needs
 
--- src/lib.rt:83:29
 enum-told : tie.Need-enum-told
 enum-told c = search needs
 
--- src/lib.rt:83:29
 refusal-text-requires : tie.Need-refusal-text-requires
 refusal-text-requires c κs = search needs
 
--- src/lib.rt:78:1
 returns : tie.Need-returns
 returns c = reading-asked (now (c .before .before .before .before .before .before .args .line)) (c .before .before .before .before .parse .result) (c .before .before .before .before .parse .ensures) _ _ (c .before .before .mode .given .1) _ (c .rehearse .ensures ∙ search needs)
 
--- src/lib.rt:78:1
 returns-2 : tie.Need-returns-2
 returns-2 c = nothing-asked (now (c .before .before .before .before .before .args .line)) (c .before .before .before .parse .result) (c .before .before .before .parse .ensures) (c .before .enum-told .given .1) _ (c .refusal-text .ensures)
 

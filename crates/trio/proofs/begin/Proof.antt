@@ -5,28 +5,19 @@ use Rattle.trio.proofs.Turns.{begins}
 use borrow.Author.Needs.{needs}
 use Rattle.trio.proofs.begin.Statement.{statement}
 use Rattle.trio.proofs.begin.Tie as tie
-use Rattle.trio.proofs.begin.Reads as reads
-use Rattle.trio.proofs.begin.Lts as lts
-use Rattle.dealer.proofs.prepare.Reads as prepare-reads
-use Rattle.trio.proofs.first.Reads as first-reads
 
--- src/lib.rt:85:9
 prepare-requires : tie.Need-prepare-requires
 prepare-requires c κs = search needs
 
--- src/lib.rt:89:9
 first-requires : tie.Need-first-requires
 first-requires c κs = search needs
 
--- src/lib.rt:90:9
 first-requires-2 : tie.Need-first-requires-2
 first-requires-2 c κs = search needs
 
--- src/lib.rt:72:1
 same-length : tie.Need-same-length
 same-length c = search needs
 
--- src/lib.rt:72:1
 returns : tie.Need-returns
 unfolding preparation
 returns c =

@@ -10,10 +10,6 @@ use Rattle.trio.proofs.Ends.{ahead}
 use Rattle.trio.proofs.Turns.{Sixteen, Going, few-words, going-in, going-on, nearer, arrived, refused-together}
 use Rattle.trio.proofs.carry.Statement.{statement}
 use Rattle.trio.proofs.carry.Tie as tie
-use Rattle.trio.proofs.carry.Reads as reads
-use Rattle.trio.proofs.carry.Lts as lts
-use Rattle.trio.proofs.begin.Reads as begin-reads
-use Rattle.trio.proofs.exchange.Reads as exchange-reads
 
 abbrev Inv-loop : tie.InvT-loop
 Inv-loop job table a b deals s₀ orders s = (orders ≡ length job / 4) × Going (lending job table a b) (trio-of s₀ deals) (trio-of s deals)
@@ -21,22 +17,18 @@ Inv-loop job table a b deals s₀ orders s = (orders ≡ length job / 4) × Goin
 abbrev μ-loop : tie.MeasureT-loop
 μ-loop job table a b deals s₀ orders s = ahead 32 (lending job table a b) (state-of (s .one .state))
 
--- src/lib.rt:139:9
 begin-requires : tie.Need-begin-requires Inv-loop μ-loop
 begin-requires c κs = search needs
 
--- src/lib.rt:141:9
 same-length : tie.Need-same-length Inv-loop μ-loop
 same-length c = search needs
 
--- src/lib.rt:141:9
 returns : tie.Need-returns Inv-loop μ-loop
 returns c =
     let b = c .before .before .before .before in
     let s = b .before .before .before .before .before .before .before .args in
     refused-together 32 (lending (now (s .job)) (now (s .table)) (now (s .a)) (now (s .b))) (s .m, s .l1, s .l2) (now (s .deals)) _ (b .begin .ensures) (c .if1 .taken)
 
--- src/lib.rt:143:18
 cast-orders : tie.Need-cast-orders Inv-loop μ-loop
 cast-orders c =
     let b = c .before .before .before .before in
@@ -44,32 +36,26 @@ cast-orders c =
     let k : length (now (s .job)) ≤ 256 = few-words (lending (now (s .job)) (now (s .table)) (now (s .a)) (now (s .b))) (s .m, s .l1, s .l2) (now (s .deals)) _ (b .begin .ensures) (c .if1 .left) in
     omega (arith, k)
 
--- src/lib.rt:144:5
 loop-holds : tie.Need-loop-holds Inv-loop μ-loop
 loop-holds c =
     (refl, going-in _ _)
 
--- src/lib.rt:145:9
 exchange-requires : tie.Need-exchange-requires Inv-loop μ-loop
 exchange-requires c κs = search needs
 
--- src/lib.rt:144:5
 loop-less : tie.Need-loop-less Inv-loop μ-loop
 loop-less c =
     let b = c .before .before .before .before .before .before .before .before .before in
     let s = b .before .before .before .before .before .before .before .args in
     nearer (lending (now (s .job)) (now (s .table)) (now (s .a)) (now (s .b))) _ _ (c .before .before .before .before .loop .inv .1) (s .m, s .l1, s .l2) (record { m = omega (arith, b .before .before .before .before .before .before .before .good); l1 = omega (arith, b .before .before .before .before .before .before .before .good); l2 = omega (arith, b .before .before .before .before .before .before .before .good) }) (now (s .deals)) (b .begin .ensures) (c .before .before .before .before .before .if1 .left) _ (c .exchange .ensures) (c .before .before .if2 .taken)
 
--- src/lib.rt:144:5
 loop-again : tie.Need-loop-again Inv-loop μ-loop
 loop-again c =
     (refl, going-on _ _ _ (c .before .before .before .before .loop .inv .1) _ (c .exchange .ensures) (c .before .before .if2 .taken))
 
--- src/lib.rt:129:1
 same-length-2 : tie.Need-same-length-2 Inv-loop μ-loop
 same-length-2 c = search needs
 
--- src/lib.rt:129:1
 returns-2 : tie.Need-returns-2 Inv-loop μ-loop
 returns-2 c =
     let b = c .before .before .before .before .before .before .before in

@@ -2,28 +2,19 @@ use Rattle.trio.proofs.Turns.{started, not-started}
 use borrow.Author.Needs.{needs}
 use Rattle.trio.proofs.first.Statement.{statement}
 use Rattle.trio.proofs.first.Tie as tie
-use Rattle.trio.proofs.first.Reads as reads
-use Rattle.trio.proofs.first.Lts as lts
-use Rattle.hosts.proofs.start.Reads as start-reads
-use Rattle.parties.proofs.fresh.Reads as fresh-reads
 
--- src/lib.rt:51:9
 start-requires : tie.Need-start-requires
 start-requires c κs = search needs
 
--- src/lib.rt:51:9
 returns : tie.Need-returns
 returns c = let a = c .before .before .before .before .before .before .args in started (a .number) (a .index) _ _ _ (c .before .if1 .taken) (c .start .ensures)
 
--- src/lib.rt:55:9
 fresh-requires : tie.Need-fresh-requires
 fresh-requires c κs = search needs
 
--- src/lib.rt:56:9
 fresh-requires-2 : tie.Need-fresh-requires-2
 fresh-requires-2 c κs = search needs
 
--- src/lib.rt:38:1
 returns-2 : tie.Need-returns-2
 returns-2 c =
     let a = c .before .before .before .before .before .before .before .before .before .args in
