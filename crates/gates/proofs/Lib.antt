@@ -4,3 +4,4 @@ pub mod Needs
 pub mod Duet
 pub mod Floors
 pub mod Others
+pub mod Spoken

@@ -1,8 +1,5 @@
-use Rattle.words.specs.Words.{add}
-use Rattle.gates.specs.Meaning.{meaning}
-use Rattle.gates.specs.Speech.{dealt-word}
-use Rattle.gates.specs.Steps.{part2}
 use Rattle.gates.proofs.Others.{undealt}
+use Rattle.gates.proofs.Spoken.{dealt-product, dealt-and, dealt-mask, dealt-bits}
 use borrow.Author.Needs.{needs}
 use Rattle.deals.proofs.deal_word.Statement.{statement}
 use Rattle.deals.proofs.deal_word.Tie as tie
@@ -74,50 +71,26 @@ negated-requires : tie.Need-negated-requires
 negated-requires c κs = search needs
 
 returns : tie.Need-returns
-unfolding meaning dealt-word part2
 returns c =
-    rw (
-      c .before .before .before .before .before .before .g .given .1,
-      c .product-deal .ensures,
-      c .before .at4 .ensures,
-      c .before .before .at3 .ensures,
-      c .before .before .before .at2 .ensures,
-      c .before .before .before .before .at .ensures,
-    )
+    dealt-product _ _ _ _ _ _ _ (c .before .before .before .before .before .before .g .given .1) (c .before .before .before .before .at .ensures) (c .before .before .before .at2 .ensures) (c .before .before .at3 .ensures) (c .before .at4 .ensures)
+    (c .product-deal .ensures)
 
 returns-2 : tie.Need-returns-2
-unfolding meaning dealt-word part2
 returns-2 c =
-    rw (
-      c .before .before .before .before .before .before .g2 .given .1,
-      c .and-deal .ensures,
-      c .before .at8 .ensures,
-      c .before .before .at7 .ensures,
-      c .before .before .before .at6 .ensures,
-      c .before .before .before .before .at5 .ensures,
-    )
+    dealt-and _ _ _ _ _ _ _ (c .before .before .before .before .before .before .g2 .given .1) (c .before .before .before .before .at5 .ensures) (c .before .before .before .at6 .ensures) (c .before .before .at7 .ensures) (c .before .at8 .ensures)
+    (c .and-deal .ensures)
 
 returns-3 : tie.Need-returns-3
-unfolding meaning dealt-word part2
 returns-3 c =
-    rw (
-      c .before .before .before .before .before .g3 .given .1,
-      c .second-mask .ensures,
-      c .before .dealt-number .ensures,
-      c .before .before .at10 .ensures,
-      c .before .before .before .at9 .ensures,
-    )
+    dealt-mask _ _ _ _ _ _ _ (c .before .before .before .before .before .g3 .given .1) (c .before .before .before .at9 .ensures) (c .before .before .at10 .ensures)
+    (c .before .dealt-number .ensures)
+    (c .second-mask .ensures)
 
 returns-4 : tie.Need-returns-4
-unfolding add meaning dealt-word part2
 returns-4 c =
-    rw (
-      c .before .before .before .before .before .g4 .given .1,
-      c .negated .ensures,
-      c .before .wrapping-add-u32 .ensures,
-      c .before .before .at12 .ensures,
-      c .before .before .before .at11 .ensures,
-    )
+    dealt-bits _ _ _ _ _ _ (c .before .before .before .before .before .g4 .given .1) (c .before .before .before .at11 .ensures) (c .before .before .at12 .ensures)
+    (c .before .wrapping-add-u32 .ensures)
+    (c .negated .ensures)
 
 returns-5 : tie.Need-returns-5
 returns-5 c = undealt (c .before .args .g) (c .match .keys5) _ _ _

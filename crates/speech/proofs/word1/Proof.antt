@@ -1,7 +1,5 @@
-use Rattle.gates.specs.Meaning.{meaning}
-use Rattle.gates.specs.Speech.{spoken1}
-use Rattle.gates.specs.Steps.{say1}
 use Rattle.gates.proofs.Others.{silent}
+use Rattle.gates.proofs.Spoken.{product-said1, and-said1, refresh-said1}
 use borrow.Author.Needs.{needs}
 use Rattle.speech.proofs.word1.Statement.{statement}
 use Rattle.speech.proofs.word1.Tie as tie
@@ -55,38 +53,18 @@ refresh-word1-requires : tie.Need-refresh-word1-requires
 refresh-word1-requires c κs = search needs
 
 returns : tie.Need-returns
-unfolding meaning spoken1 say1
 returns c =
-    rw (
-      c .before .before .before .before .before .before .g .given .1,
-      c .product-word1 .ensures,
-      c .before .at4 .ensures,
-      c .before .before .at3 .ensures,
-      c .before .before .before .at2 .ensures,
-      c .before .before .before .before .at .ensures,
-    )
+    product-said1 _ _ _ _ _ _ _ _ (c .before .before .before .before .before .before .g .given .1) (c .before .before .before .before .at .ensures) (c .before .before .before .at2 .ensures) (c .before .before .at3 .ensures) (c .before .at4 .ensures)
+    (c .product-word1 .ensures)
 
 returns-2 : tie.Need-returns-2
-unfolding meaning spoken1 say1
 returns-2 c =
-    rw (
-      c .before .before .before .before .before .before .g2 .given .1,
-      c .and-word1 .ensures,
-      c .before .at8 .ensures,
-      c .before .before .at7 .ensures,
-      c .before .before .before .at6 .ensures,
-      c .before .before .before .before .at5 .ensures,
-    )
+    and-said1 _ _ _ _ _ _ _ _ (c .before .before .before .before .before .before .g2 .given .1) (c .before .before .before .before .at5 .ensures) (c .before .before .before .at6 .ensures) (c .before .before .at7 .ensures) (c .before .at8 .ensures)
+    (c .and-word1 .ensures)
 
 returns-3 : tie.Need-returns-3
-unfolding meaning spoken1 say1
 returns-3 c =
-    rw (
-      c .before .before .before .before .g3 .given .1,
-      c .refresh-word1 .ensures,
-      c .before .at10 .ensures,
-      c .before .before .at9 .ensures,
-    )
+    refresh-said1 _ _ _ _ _ _ _ (c .before .before .before .before .g3 .given .1) (c .before .before .at9 .ensures) (c .before .at10 .ensures) (c .refresh-word1 .ensures)
 
 returns-4 : tie.Need-returns-4
 returns-4 c = silent (c .before .args .g) (c .match .keys4) .first _ _ _ _

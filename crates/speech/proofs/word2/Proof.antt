@@ -1,7 +1,5 @@
-use Rattle.gates.specs.Meaning.{meaning}
-use Rattle.gates.specs.Speech.{spoken2}
-use Rattle.gates.specs.Steps.{say2}
 use Rattle.gates.proofs.Others.{silent}
+use Rattle.gates.proofs.Spoken.{product-said2, and-said2, refresh-said2}
 use borrow.Author.Needs.{needs}
 use Rattle.speech.proofs.word2.Statement.{statement}
 use Rattle.speech.proofs.word2.Tie as tie
@@ -52,32 +50,17 @@ refresh-word2-requires : tie.Need-refresh-word2-requires
 refresh-word2-requires c κs = search needs
 
 returns : tie.Need-returns
-unfolding meaning spoken2 say2
 returns c =
-    rw (
-      c .before .before .before .before .before .before .g .given .1,
-      c .product-word2 .ensures,
-      c .before .at4 .ensures,
-      c .before .before .at3 .ensures,
-      c .before .before .before .at2 .ensures,
-      c .before .before .before .before .at .ensures,
-    )
+    product-said2 _ _ _ _ _ _ _ _ (c .before .before .before .before .before .before .g .given .1) (c .before .before .before .before .at .ensures) (c .before .before .before .at2 .ensures) (c .before .before .at3 .ensures) (c .before .at4 .ensures)
+    (c .product-word2 .ensures)
 
 returns-2 : tie.Need-returns-2
-unfolding meaning spoken2 say2
 returns-2 c =
-    rw (
-      c .before .before .before .before .before .before .g2 .given .1,
-      c .and-word2 .ensures,
-      c .before .at8 .ensures,
-      c .before .before .at7 .ensures,
-      c .before .before .before .at6 .ensures,
-      c .before .before .before .before .at5 .ensures,
-    )
+    and-said2 _ _ _ _ _ _ _ _ (c .before .before .before .before .before .before .g2 .given .1) (c .before .before .before .before .at5 .ensures) (c .before .before .before .at6 .ensures) (c .before .before .at7 .ensures) (c .before .at8 .ensures)
+    (c .and-word2 .ensures)
 
 returns-3 : tie.Need-returns-3
-unfolding meaning spoken2 say2
-returns-3 c = rw (c .before .before .before .g3 .given .1, c .refresh-word2 .ensures, c .before .at9 .ensures)
+returns-3 c = refresh-said2 _ _ _ _ _ _ _ (c .before .before .before .g3 .given .1) (c .before .at9 .ensures) (c .refresh-word2 .ensures)
 
 returns-4 : tie.Need-returns-4
 returns-4 c = silent (c .before .args .g) (c .match .keys4) .second _ _ _ _
