@@ -151,13 +151,13 @@ pub(crate) fn refused_leftover(
     t: Tally,
 ) -> Tally {
     let mut said: u32 = 99;
-    let rest = jobs::leftover(job, table, which, masks, &mut said);
+    let rest = leftovers::leftover(job, table, which, masks, &mut said);
     let whole = rest.len() == masks.len() && same(rest, masks);
     t.with(said == number && whole, 0, said, number)
 }
 
 fn refused_check(due: Due, job: &[u32], table: &[u32], t: Tally) -> Tally {
-    match jobs::check(job, table) {
+    match checks::check(job, table) {
         Checked::Refused { number, index } => {
             t.with(
                 number == due.number && index == due.index,

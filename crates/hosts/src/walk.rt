@@ -16,9 +16,9 @@ use exchanges::Reach;
 use exchanges::say;
 use exchanges::step;
 use gates::Shape;
-use jobs::order_at;
 use lookup::Fetched;
 use lookup::fetch;
+use orders::order_at;
 use speech::shape_of;
 
 // Up to the order's next product or refresh, or past its last gate. Each gate writes its one slot in place.

@@ -11,7 +11,7 @@ use Rattle.tables.specs.Table.{Row, rows}
 use Rattle.gates.specs.Costs.{Cost, cost-of, plus}
 use Rattle.gates.proofs.Needs.{cost-path}
 use Rattle.circuits.specs.declared.Order.{Order}
-use Rattle.jobs.specs.declared.cost.Counts.{Counts}
+use Rattle.jobs.specs.declared.Counts.{Counts}
 use Rattle.jobs.specs.Job.{orders, job-cost}
 use Rattle.jobs.specs.Walk.{counted}
 use Rattle.jobs.proofs.Sums.{orders-cost, whole-job, no-orders, one-more}

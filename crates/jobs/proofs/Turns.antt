@@ -12,7 +12,7 @@ use Rattle.tables.specs.Table.{rows, keeps-rules}
 use Rattle.gates.specs.Costs.{Cost, cost-of, plus}
 use Rattle.gates.proofs.Needs.{cost-path}
 use Rattle.circuits.specs.declared.Order.{Order}
-use Rattle.jobs.specs.declared.cost.Counts.{Counts}
+use Rattle.jobs.specs.declared.Counts.{Counts}
 use Rattle.jobs.specs.Job.{Fault, orders, ill-sized, order-fault, fault-at, orders-fault, job-fault, job-cost}
 use Rattle.jobs.specs.Walk.{order-at, counted, Small, kind-cost}
 use Rattle.jobs.specs.Answers.{Verdict, refusal, judged, check-job, numbered, counts-before}

@@ -9,7 +9,7 @@ use Rattle.jobs.specs.declared.Checked.{Checked}
 use Rattle.jobs.specs.declared.Checked.the-variants.{Accepted, Refused}
 use Rattle.jobs.specs.declared.Which.{Which}
 use Rattle.jobs.specs.declared.Which.the-variants.{ListA, ListB}
-use Rattle.jobs.specs.declared.surveying.Findings.{Findings}
+use Rattle.jobs.specs.declared.Findings.{Findings}
 use Rattle.jobs.specs.Walk.{counted}
 use Rattle.jobs.specs.Job.{Fault, job-fault, job-cost, short-a, short-b}
 

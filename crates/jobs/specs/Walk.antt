@@ -5,7 +5,7 @@ use lib.ListN.{getD}
 use Rattle.gates.specs.Steps.{at}
 use Rattle.gates.specs.Costs.{Cost, cost-of}
 use Rattle.circuits.specs.declared.Order.{Order}
-use Rattle.jobs.specs.declared.cost.Counts.{Counts}
+use Rattle.jobs.specs.declared.Counts.{Counts}
 
 -- the order at index i of a job's words; past the end stand zeros
 abbrev pub order-at : List ℕ → ℕ → Order

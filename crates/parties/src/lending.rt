@@ -7,8 +7,8 @@ ghost use Rattle.jobs.specs.Job.{job-fault, job-cost};
 ghost use Rattle.jobs.specs.Walk.{counted};
 ghost use Rattle.parties.specs.Lent.{lent, lists, or-else, lists-fault, lent-fault, passed};
 ghost use Rattle.parties.specs.Faults.{fault-of};
+use checks::survey;
 use jobs::Counts;
-use jobs::survey;
 
 // The number, 0 for none, and the order's index; the counts of the orders before the host's place, where there is no fault.
 pub struct Lending {
