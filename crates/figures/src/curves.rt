@@ -186,7 +186,21 @@ fn at_count(mode: u32, x: u32, seed: u32) -> Trial {
     }
 }
 
-const ABOVE: [u32; 8] = [0, 1, 2, 100, 4095, 65536, 16777216, 1073737728];
+// The last are no readings that can be split, and open the same all the way to 2^31 - 1.
+const ABOVE: [u32; 12] = [
+    0,
+    1,
+    2,
+    100,
+    4095,
+    65536,
+    16777216,
+    1073737728,
+    1073741824,
+    1500000000,
+    2000000000,
+    2147479552,
+];
 
 // Under the same lists a reading above the last row opens what the last row's count opens.
 fn alike(rows: &[u32], mode: u32, t: Tally) -> Tally {
@@ -196,7 +210,7 @@ fn alike(rows: &[u32], mode: u32, t: Tally) -> Tally {
     let due = opened_word(opened_by(at_count(mode, last, 41), rows));
     let mut sum = t;
     let mut i: usize = 0;
-    while i < 8 {
+    while i < 12 {
         let x = wrapping_add_u32(last, above[i]);
         let o = opened_by(at_count(mode, x, 41), rows);
         sum = sum.with(opens(o, due), x, opened_word(o), due);

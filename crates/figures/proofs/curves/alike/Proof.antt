@@ -4,10 +4,10 @@ use Rattle.figures.proofs.curves.alike.Statement.{statement}
 use Rattle.figures.proofs.curves.alike.Tie as tie
 
 abbrev Inv-loop : tie.InvT-loop
-Inv-loop rows mode above end last due sum₀ i₀ sum i = i ≤ 8
+Inv-loop rows mode above end last due sum₀ i₀ sum i = i ≤ 12
 
 abbrev μ-loop : tie.MeasureT-loop
-μ-loop rows mode above end last due sum₀ i₀ sum i = 8 - i
+μ-loop rows mode above end last due sum₀ i₀ sum i = 12 - i
 
 entry-requires : tie.Need-entry-requires Inv-loop μ-loop
 entry-requires c κs = search needs
