@@ -13,7 +13,8 @@ use Rattle.gates.proofs.Needs.{far-used, deals-length}
 use Rattle.jobs.specs.Job.{Fault, steps-of, job-cost}
 use Rattle.parties.specs.Lent.{dealer-fault}
 use Rattle.parties.specs.Calls.{fresh, fresh2, Prepared, prepare-walk, job-deals, prepared, prepare}
-use Rattle.dealer.specs.Preparation.{Dealer, outset, deal-all, Room}
+use Rattle.dealings.specs.Dealings.{Dealer}
+use Rattle.dealer.specs.Preparation.{outset, deal-all, Room}
 use Rattle.dealer.proofs.Dealers.{stands, dealt-whole}
 use Rattle.dealer.proofs.Checks.{Enough, accepted}
 

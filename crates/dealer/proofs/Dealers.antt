@@ -1,5 +1,5 @@
 -- Host 0's walk as its code takes it, one step at a time, and as the definition of preparation has it. Assumes nothing.
-use mathlib.Core.Path.{_≡_, refl, sym, ap}
+use mathlib.Core.Path.{_≡_, refl, ap, subst}
 use mathlib.Core.List.{List, [], _∷_, _++_}
 use Prim.Native.Nat.{ℕ, _+_, _<_}
 use native.Mathlib.Numerals.{towards-suc}
@@ -10,20 +10,25 @@ use Rattle.gates.specs.Steps.{Lane, at, product, refresh, Step, local, deal, ex
 use Rattle.gates.specs.Walk.{whole, far}
 use Rattle.gates.specs.Parties.{Pair, on-mask, act0, dealt, deals}
 use Rattle.gates.specs.Speech.{dealt-word, shape}
+use Rattle.gates.specs.declared.Shape.{Shape}
 use Rattle.gates.specs.Costs.{Cost, plus, step-cost, cost}
 use Rattle.gates.proofs.Needs.{cost-append}
-use Rattle.gates.specs.declared.Shape.{Shape}
-use Rattle.gates.specs.declared.Shape.the-variants.{Local, Dealing, Product, Refreshing}
-use Rattle.dealer.specs.Preparation.{Dealer, shaped, dealing, deal-all, Room}
+use Rattle.dealings.specs.declared.Used.{Used}
+use Rattle.dealings.specs.Dealings.{Dealer, dealer, Holds, shaped, dealing}
+use Rattle.dealer.specs.Preparation.{Counts, deal-all, Room}
 
 -- a cursor, two lanes and a buffer
 abbrev pub stands : Cursor → Pair → List ℕ → Dealer
 stands c s buf = record { a = c .a; b = c .b; k = c .k; l1 = s .0; l2 = s .1; buffer = buf }
 
--- lanes and buffer that are the same
-pub alike : {a b k : ℕ} {x1 y1 x2 y2 : Lane} {p q : List ℕ} → x1 ≡ y1 → x2 ≡ y2 → p ≡ q
-    → _≡_ {A = Dealer} (record { a = a; b = b; k = k; l1 = x1; l2 = x2; buffer = p }) (record { a = a; b = b; k = k; l1 = y1; l2 = y2; buffer = q })
-alike {a} {b} {k} e f g = λ i. record { a = a; b = b; k = k; l1 = e i; l2 = f i; buffer = g i }
+-- host 0, by its counts, its lanes and its buffer
+pub joined : (s : Dealer) (u : Used) (l1 l2 : Lane) (buf : List ℕ) → Counts s u → Holds s l1 l2 buf → dealer u l1 l2 buf ≡ s
+joined s u l1 l2 buf c h = λ i. record { a = c .0 i; b = c .1 i; k = c .2 i; l1 = h .0 i; l2 = h .1 i; buffer = h .2 i }
+
+-- its counts, by the shape of a step
+pub counts-by : (A B : List ℕ) (x : Step) (s : Dealer) (y : Shape) → y ≡ shape x → (u : Used) → Counts (shaped A B y x s) u → Counts (dealing A B x s) u
+unfolding dealing
+counts-by A B x s y e u h = subst (λ (z : Shape). Counts (shaped A B z x s) u) e h
 
 module _ (A B : List ℕ) where
   -- the code's walk is `whole`'s, whatever its trail, and its buffer has the deals one after another
@@ -41,30 +46,6 @@ module _ (A B : List ℕ) where
   unfolding deal-all
   deal-append [] ts s = refl
   deal-append (x ∷ ss) ts s = deal-append ss ts _
-
-  -- ---- a step by its shape
-
-  pub by-shape : (x : Step) (s : Dealer) {y : Shape} → shape x ≡ y → shaped A B y x s ≡ dealing A B x s
-  unfolding dealing
-  by-shape x s e = ap (λ (y : Shape). shaped A B y x s) (sym e)
-
-  -- the words and the place in the buffer that a step takes are there
-  abbrev pub There : Shape → Dealer → Type 0
-  There Local s = Unit
-  There (Dealing d) s = (s .a < length A) × (s .k < length (s .buffer))
-  There (Product d) s = (s .a + 1 < length A) × (s .b < length B) × (s .k < length (s .buffer))
-  There (Refreshing d) s = (s .a < length A) × (s .b < length B)
-
-  room-there : (x : Step) (s : Dealer) → Room A B (x ∷ []) s → There (shape x) s
-  unfolding shape cost plus step-cost
-  room-there (local t m l) s h = tt
-  room-there (deal t f) s h = omega arith
-  room-there (exchange t (product O p q)) s h = omega arith
-  room-there (exchange t (refresh O p)) s h = omega arith
-  room-there end s h = tt
-
-  pub there : (x : Step) (s : Dealer) {y : Shape} → shape x ≡ y → Room A B (x ∷ []) s → There y s
-  there x s e h = rw e at (room-there x s h)
 
   -- ---- room for the steps to come
 

@@ -17,7 +17,8 @@ use Rattle.lookup.specs.Fetch.{fetched}
 use Rattle.jobs.specs.Job.{job-gates, steps-of}
 use Rattle.jobs.specs.Walk.{order-at}
 use Rattle.jobs.proofs.Orders.{orders-from, no-more}
-use Rattle.dealer.specs.Preparation.{Dealer, dealing, deal-all, Room}
+use Rattle.dealings.specs.Dealings.{Dealer, dealing}
+use Rattle.dealer.specs.Preparation.{deal-all, Room}
 use Rattle.dealer.proofs.Dealers.{deal-append, room-first, room-after}
 use Rattle.dealer.proofs.Programs.{gate-left, none-left, steps-append}
 

@@ -1,7 +1,7 @@
 // Party 0's preparation of a job: its deals, in gate order, and its masks of all registers.
 ghost use mathlib.Core.Path.{_≡_};
 ghost use mathlib.Core.List.{List, [], _∷_};
-ghost use Prim.Native.Nat.{ℕ, _+_, _<_};
+ghost use Prim.Native.Nat.{ℕ, _^_, _<_};
 ghost use lib.ListN.{length, take};
 ghost use Rattle.gates.specs.Meaning.{meaning, order-steps};
 ghost use Rattle.gates.specs.Costs.{cost-of};
@@ -10,29 +10,23 @@ ghost use Rattle.circuits.specs.Orders.{program};
 ghost use Rattle.jobs.specs.Job.{steps-of, job-cost};
 ghost use Rattle.parties.specs.Lent.{dealer-lists-fault, dealer-fault};
 ghost use Rattle.parties.specs.Calls as Calls;
-ghost use Rattle.dealer.specs.Preparation.{answer, dealer, outset, Judged, with-deal, with-product, with-refresh, dealing, deal-all, Room};
+ghost use Rattle.gates.specs.Steps.{Lane};
+ghost use Rattle.dealings.specs.Dealings.{dealer, dealing};
+ghost use Rattle.dealer.specs.Preparation.{answer, outset, Judged, Counts, deal-all, Room};
 use crate::Masks;
 use crate::Prepared;
 use checks::check;
 use circuits::Order;
-use deals::deal_word;
+use dealings::Used;
+use dealings::deal_gate;
 use gates::Gate;
 use gates::Shape;
 use jobs::Checked;
-use lanes::step_mask;
 use lookup::Fetched;
 use lookup::fetch;
 use orders::order_at;
 use parties::fresh;
-use slots::put;
 use speech::shape_of;
-
-// The words used of A and of B, and the deals written.
-pub struct Used {
-    pub a: usize,
-    pub b: usize,
-    pub deals: usize,
-}
 
 // What checking finds: the number, 0 for none, and the order's index; the job's deals where there is none.
 pub struct Finding {
@@ -96,105 +90,31 @@ fn registers(lane: [u32; 24]) -> [u32; 16]
     kept
 }
 
-// ---- a gate of each shape: the lanes are written in place, and a deal goes into the buffer behind those written before
-
-// The first mask is the next word of A. The second follows from it, and party 2 knows it from the deal alone.
-fn take_deal(
-    g: Gate,
-    d: u32,
-    a: &[u32],
-    used: Used,
-    l1: &mut [u32; 24],
-    l2: &mut [u32; 24],
-    deals: &mut [u32],
-) -> Used
-    requires { ⌜ (used .a < length (now a)) × (used .deals < length (now deals)) ⌝ }
-    ensures { λ r. ⌜ dealer r (now (l1 .exit)) (now (l2 .exit)) (now (deals .exit)) ≡ with-deal (now (a .entry)) (meaning 32 g) d (dealer used (now (l1 .entry)) (now (l2 .entry)) (now (deals .entry))) ⌝ }
+// What is used behind a gate: a product takes g1, two masks and a deal.
+fn behind(g: Gate, used: Used) -> Used
+    requires { ⌜ (used .a < 2 ^ 62) × (used .b < 2 ^ 62) × (used .deals < 2 ^ 62) ⌝ }
+    ensures { λ r. ⌜ ((A B : List ℕ) (l1 l2 : Lane) (buffer : List ℕ) → Counts (dealing A B (meaning 32 g) (dealer used l1 l2 buffer)) r) ⌝ }
 {
-    let i = used.a;
-    let k = used.deals;
-    let x = a[i];
-    let v = deal_word(g, x, l1, l2);
-    deals[k] = v;
-    put(l1, d, x);
-    put(l2, d, v);
-    Used {
-        a: i + 1,
-        b: used.b,
-        deals: k + 1,
-    }
-}
-
-// g1 is the next word of A, and the new masks come from A after it and from B.
-fn take_product(
-    g: Gate,
-    d: u32,
-    a: &[u32],
-    b: &[u32],
-    used: Used,
-    l1: &mut [u32; 24],
-    l2: &mut [u32; 24],
-    deals: &mut [u32],
-) -> Used
-    requires { ⌜ (used .a + 1 < length (now a)) × (used .b < length (now b)) × (used .deals < length (now deals)) ⌝ }
-    ensures { λ r. ⌜ dealer r (now (l1 .exit)) (now (l2 .exit)) (now (deals .exit)) ≡ with-product (now (a .entry)) (now (b .entry)) (meaning 32 g) d (dealer used (now (l1 .entry)) (now (l2 .entry)) (now (deals .entry))) ⌝ }
-{
-    let i = used.a;
-    let j = used.b;
-    let n = used.deals;
-    deals[n] = deal_word(g, a[i], l1, l2);
-    put(l1, d, a[i + 1]);
-    put(l2, d, b[j]);
-    Used {
-        a: i + 2,
-        b: j + 1,
-        deals: n + 1,
-    }
-}
-
-fn take_refresh(
-    d: u32,
-    a: &[u32],
-    b: &[u32],
-    used: Used,
-    l1: &mut [u32; 24],
-    l2: &mut [u32; 24],
-) -> Used
-    requires { ⌜ (used .a < length (now a)) × (used .b < length (now b)) ⌝ }
-    ensures { λ r. ⌜ ((buffer : List ℕ) → dealer r (now (l1 .exit)) (now (l2 .exit)) buffer ≡ with-refresh (now (a .entry)) (now (b .entry)) d (dealer used (now (l1 .entry)) (now (l2 .entry)) buffer)) ⌝ }
-{
-    let i = used.a;
-    let j = used.b;
-    put(l1, d, a[i]);
-    put(l2, d, b[j]);
-    Used {
-        a: i + 1,
-        b: j + 1,
-        deals: used.deals,
-    }
-}
-
-fn deal_gate(
-    g: Gate,
-    a: &[u32],
-    b: &[u32],
-    used: Used,
-    l1: &mut [u32; 24],
-    l2: &mut [u32; 24],
-    deals: &mut [u32],
-) -> Used
-    requires { ⌜ Room (now a) (now b) (meaning 32 g ∷ []) (dealer used (now l1) (now l2) (now deals)) ⌝ }
-    ensures { λ r. ⌜ dealer r (now (l1 .exit)) (now (l2 .exit)) (now (deals .exit)) ≡ dealing (now (a .entry)) (now (b .entry)) (meaning 32 g) (dealer used (now (l1 .entry)) (now (l2 .entry)) (now (deals .entry))) ⌝ }
-{
+    let a = used.a;
+    let b = used.b;
+    let deals = used.deals;
     match shape_of(g) {
-        Shape::Local => {
-            step_mask(g, 0, l1);
-            step_mask(g, 0, l2);
-            used
-        }
-        Shape::Dealing { d } => take_deal(g, d, a, used, l1, l2, deals),
-        Shape::Product { d } => take_product(g, d, a, b, used, l1, l2, deals),
-        Shape::Refreshing { d } => take_refresh(d, a, b, used, l1, l2),
+        Shape::Local => used,
+        Shape::Dealing { d: _ } => Used {
+            a: a + 1,
+            b,
+            deals: deals + 1,
+        },
+        Shape::Product { d: _ } => Used {
+            a: a + 2,
+            b: b + 1,
+            deals: deals + 1,
+        },
+        Shape::Refreshing { d: _ } => Used {
+            a: a + 1,
+            b: b + 1,
+            deals,
+        },
     }
 }
 
@@ -215,7 +135,8 @@ fn deal_order(
     let mut at = used;
     let mut i = 0;
     while let Fetched::At { gate } = fetch(o, table, i) {
-        at = deal_gate(gate, a, b, at, l1, l2, deals);
+        deal_gate(gate, a, b, at, l1, l2, deals);
+        at = behind(gate, at);
         i += 1;
     }
     at

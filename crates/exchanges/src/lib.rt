@@ -2,8 +2,6 @@
 // what it writes when it has heard the other's.
 ghost use mathlib.Core.Path.{_≡_};
 ghost use mathlib.Core.List.{[], _∷_};
-ghost use Prim.Native.Nat.{_+_};
-ghost use Rattle.gates.specs.Steps as Steps;
 ghost use Rattle.gates.specs.Meaning.{meaning};
 ghost use Rattle.gates.specs.Parties.{on-m, on-mask};
 ghost use Rattle.parties.specs.Calls.{word-at};
@@ -13,6 +11,7 @@ use gates::Shape;
 use lanes::step_m;
 use lanes::step_mask;
 use slots::put;
+use slots::word_after;
 use slots::word_at;
 use speech::met_word;
 use speech::shape_of;
@@ -52,17 +51,6 @@ pub fn step(
 {
     step_m(g, m);
     step_mask(g, deal_taken(host, masks, deals, a, k), mask);
-}
-
-// The word after the i-th of a list, for every i.
-fn word_after(words: &[u32], i: usize) -> u32
-    ensures { λ r. ⌜ r ≡ Steps.at (now (words .entry)) (i + 1) ⌝ }
-{
-    if i < words.len() {
-        word_at(words, i + 1)
-    } else {
-        0
-    }
 }
 
 // Where a new mask stands in A: after g1 of a product.

@@ -1,6 +1,7 @@
 // A lane's slots, and what a word has in its parts. Reading past the last slot gives 0 and writing there does nothing,
 // so that every gate has a meaning on every lane.
 ghost use mathlib.Core.Path.{_≡_};
+ghost use Prim.Native.Nat.{_+_};
 ghost use lib.ListN.{set};
 ghost use Rattle.gates.specs.Steps as Steps;
 
@@ -19,12 +20,23 @@ pub fn word_at(words: &[u32], i: usize) -> u32
     if i < words.len() { words[i] } else { 0 }
 }
 
-fn put_word(words: &mut [u32], d: u32, v: u32)
-    ensures { λ r. ⌜ now (words .exit) ≡ set (now (words .entry)) d v ⌝ }
+// The word after the i-th, for every i.
+pub fn word_after(words: &[u32], i: usize) -> u32
+    ensures { λ r. ⌜ r ≡ Steps.at (now (words .entry)) (i + 1) ⌝ }
 {
-    let at = d as usize;
-    if at < words.len() {
-        words[at] = v;
+    if i < words.len() {
+        word_at(words, i + 1)
+    } else {
+        0
+    }
+}
+
+// Past the end nothing is written.
+pub fn put_word(words: &mut [u32], i: usize, v: u32)
+    ensures { λ r. ⌜ now (words .exit) ≡ set (now (words .entry)) i v ⌝ }
+{
+    if i < words.len() {
+        words[i] = v;
     }
 }
 
@@ -37,5 +49,5 @@ pub fn at(lane: &[u32; 24], i: u32) -> u32
 pub fn put(lane: &mut [u32; 24], d: u32, v: u32)
     ensures { λ r. ⌜ now (lane .exit) ≡ set (now (lane .entry)) d v ⌝ }
 {
-    put_word(lane, d, v);
+    put_word(lane, d as usize, v);
 }

@@ -6,9 +6,11 @@ use borrow.Author.Needs.{needs}
 use denote.Ref.{now}
 use lib.ListN.{length}
 use Rattle.tables.specs.Table.{rows}
-use Rattle.gates.specs.Meaning.{order-steps}
+use Rattle.gates.specs.Meaning.{meaning, order-steps}
 use Rattle.circuits.specs.Orders.{program}
-use Rattle.dealer.specs.Preparation.{dealer, Room}
+use Rattle.dealings.specs.Dealings.{dealer, dealing}
+use Rattle.dealer.specs.Preparation.{Room}
+use Rattle.dealer.proofs.Dealers.{joined}
 use Rattle.dealer.proofs.Programs.{gate-inside, few}
 use Rattle.dealer.proofs.Turns.{Going, begins, left, room-here, goes-on, ends}
 use Rattle.dealer.proofs.preparing.deal_order.Statement.{statement}
@@ -34,32 +36,39 @@ enum-known-gate : tie.Need-enum-known-gate Inv-loop μ-loop
 enum-known-gate c = search needs
 
 deal-gate-requires : tie.Need-deal-gate-requires Inv-loop μ-loop
-deal-gate-requires c κs =
-    let s = c .before .before .before .before .before .before .before .before .before .before .before .before .args in
-    let l = c .before .before .before .before .before .before .before .loop in
-    room-here 32 (now (s .a)) (now (s .b)) (program 32 (rows (now (s .table))) (s .o)) (l .i) (order-steps 32 (program 32 (rows (now (s .table))) (s .o)) []) (dealer (s .used) (now (s .l1)) (now (s .l2)) (now (s .deals))) (dealer (l .at) (l .l1) (l .l2) (l .deals)) (l .inv) _ (c .before .before .before .before .before .before .fetch .ensures) _ (c .before .before .before .before .gate .given .1)
+deal-gate-requires c κs = search needs
+
+behind-requires : tie.Need-behind-requires Inv-loop μ-loop
+behind-requires c κs =
+    let s = c .before .before .before .before .before .before .before .before .before .before .before .before .before .before .before .args in
+    let l = c .before .before .before .before .before .before .before .before .before .before .loop in
+    let r = room-here 32 (now (s .a)) (now (s .b)) (program 32 (rows (now (s .table))) (s .o)) (l .i) (order-steps 32 (program 32 (rows (now (s .table))) (s .o)) []) (dealer (s .used) (now (s .l1)) (now (s .l2)) (now (s .deals))) (dealer (l .at) (l .l1) (l .l2) (l .deals)) (l .inv) _ (c .before .before .before .before .before .before .before .before .before .fetch .ensures) _ (c .before .before .before .before .before .before .before .gate .given .1) in
+    let g = c .before .before .before .before .before .before .before .before .before .before .before .before .before .before .before .good in
+    omega (arith, r .a, r .b, r .k, l .inv .size, g .1 .1 .0, g .1 .1 .1 .0, g .1 .1 .1 .1 .1 .1 .1)
 
 add-i : tie.Need-add-i Inv-loop μ-loop
 add-i c =
-    let s = c .before .before .before .before .before .before .before .before .before .before .before .before .before .before .before .args in
-    let l = c .before .before .before .before .before .before .before .before .before .before .loop in
-    let i = gate-inside (program 32 (rows (now (s .table))) (s .o)) (l .i) _ (sym (c .before .before .before .before .before .before .before .before .before .fetch .ensures) ∙ c .before .before .before .before .before .before .before .gate .given .1) in
+    let s = c .before .before .before .before .before .before .before .before .before .before .before .before .before .before .before .before .args in
+    let l = c .before .before .before .before .before .before .before .before .before .before .before .loop in
+    let i = gate-inside (program 32 (rows (now (s .table))) (s .o)) (l .i) _ (sym (c .before .before .before .before .before .before .before .before .before .before .fetch .ensures) ∙ c .before .before .before .before .before .before .before .before .gate .given .1) in
     let f = few (rows (now (s .table))) (s .o) in
-    let r : Room (now (s .a)) (now (s .b)) (order-steps 32 (program 32 (rows (now (s .table))) (s .o)) []) (dealer (s .used) (now (s .l1)) (now (s .l2)) (now (s .deals))) = c .before .before .before .before .before .before .before .before .before .before .before .before .before .before .before .pre in
-    omega (arith, c .before .before .before .before .before .before .before .before .before .before .before .before .before .before .before .good .1 .1 .0)
+    let r : Room (now (s .a)) (now (s .b)) (order-steps 32 (program 32 (rows (now (s .table))) (s .o)) []) (dealer (s .used) (now (s .l1)) (now (s .l2)) (now (s .deals))) = c .before .before .before .before .before .before .before .before .before .before .before .before .before .before .before .before .pre in
+    omega (arith, c .before .before .before .before .before .before .before .before .before .before .before .before .before .before .before .before .good .1 .1 .0)
 
 loop-less : tie.Need-loop-less Inv-loop μ-loop
 loop-less c =
-    let s = c .before .before .before .before .before .before .before .before .before .before .before .before .before .before .before .args in
-    let l = c .before .before .before .before .before .before .before .before .before .before .loop in
-    let i = gate-inside (program 32 (rows (now (s .table))) (s .o)) (l .i) _ (sym (c .before .before .before .before .before .before .before .before .before .fetch .ensures) ∙ c .before .before .before .before .before .before .before .gate .given .1) in
+    let s = c .before .before .before .before .before .before .before .before .before .before .before .before .before .before .before .before .args in
+    let l = c .before .before .before .before .before .before .before .before .before .before .before .loop in
+    let i = gate-inside (program 32 (rows (now (s .table))) (s .o)) (l .i) _ (sym (c .before .before .before .before .before .before .before .before .before .before .fetch .ensures) ∙ c .before .before .before .before .before .before .before .before .gate .given .1) in
     omega arith
 
 loop-again : tie.Need-loop-again Inv-loop μ-loop
 loop-again c =
-    let s = c .before .before .before .before .before .before .before .before .before .before .before .before .before .before .before .args in
-    let l = c .before .before .before .before .before .before .before .before .before .before .loop in
-    goes-on 32 (now (s .a)) (now (s .b)) (program 32 (rows (now (s .table))) (s .o)) (l .i) (order-steps 32 (program 32 (rows (now (s .table))) (s .o)) []) (dealer (s .used) (now (s .l1)) (now (s .l2)) (now (s .deals))) (dealer (l .at) (l .l1) (l .l2) (l .deals)) (l .inv) _ (c .before .before .before .before .before .before .before .before .before .fetch .ensures) _ (c .before .before .before .before .before .before .before .gate .given .1) _ (c .before .before .deal-gate .ensures)
+    let s = c .before .before .before .before .before .before .before .before .before .before .before .before .before .before .before .before .args in
+    let l = c .before .before .before .before .before .before .before .before .before .before .before .loop in
+    let x = meaning 32 (c .before .before .before .before .before .before .before .before .gate .given .0 .0) in
+    let t = dealing (now (s .a)) (now (s .b)) x (dealer (l .at) (l .l1) (l .l2) (l .deals)) in
+    goes-on 32 (now (s .a)) (now (s .b)) (program 32 (rows (now (s .table))) (s .o)) (l .i) (order-steps 32 (program 32 (rows (now (s .table))) (s .o)) []) (dealer (s .used) (now (s .l1)) (now (s .l2)) (now (s .deals))) (dealer (l .at) (l .l1) (l .l2) (l .deals)) (l .inv) _ (c .before .before .before .before .before .before .before .before .before .before .fetch .ensures) _ (c .before .before .before .before .before .before .before .before .gate .given .1) _ (joined t _ _ _ _ (c .behind .ensures (now (s .a)) (now (s .b)) (l .l1) (l .l2) (l .deals)) (c .before .before .before .deal-gate .ensures))
 
 enum-told : tie.Need-enum-told Inv-loop μ-loop
 enum-told c = search needs
@@ -83,6 +92,7 @@ deal-order-spec =
     fetch-requires
     enum-known-gate
     deal-gate-requires
+    behind-requires
     add-i
     loop-less
     loop-again

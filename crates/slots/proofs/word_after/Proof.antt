@@ -4,8 +4,8 @@ use native.Mathlib.Omega.{arith}
 use lib.ListN.{List·getD-eq-default}
 use denote.Ref.{now}
 use borrow.Author.Needs.{needs}
-use Rattle.exchanges.proofs.word_after.Statement.{statement}
-use Rattle.exchanges.proofs.word_after.Tie as tie
+use Rattle.slots.proofs.word_after.Statement.{statement}
+use Rattle.slots.proofs.word_after.Tie as tie
 
 add-word-at : tie.Need-add-word-at
 add-word-at c = search needs

@@ -1,0 +1,76 @@
+-- Host 0 at one gate: what it writes on its lanes and into the buffer of deals, and what it has used then. Assumes nothing.
+use mathlib.Core.Path.{_≡_}
+use mathlib.Core.List.{List}
+use Prim.Native.Nat.{ℕ, _+_}
+use lib.ListN.{set}
+use Rattle.gates.specs.declared.Shape.{Shape}
+use Rattle.gates.specs.declared.Shape.the-variants.{Local, Dealing, Product, Refreshing}
+use Rattle.gates.specs.Steps.{Lane, at, Step}
+use Rattle.gates.specs.Parties.{on-mask}
+use Rattle.gates.specs.Speech.{dealt-word, shape}
+use Rattle.dealings.specs.declared.Used.{Used}
+
+-- host 0 on its way: the words used of A and of B, the deals written, its lanes and the buffer
+pub record Dealer : Type 0 where
+  pub a : ℕ
+  pub b : ℕ
+  pub k : ℕ
+  pub l1 : Lane
+  pub l2 : Lane
+  pub buffer : List ℕ
+
+abbrev pub dealer : Used → (l1 l2 : Lane) (buffer : List ℕ) → Dealer
+dealer u l1 l2 buf = record { a = u .a; b = u .b; k = u .deals; l1 = l1; l2 = l2; buffer = buf }
+
+-- these are its lanes and its buffer
+abbrev pub Holds : Dealer → (l1 l2 : Lane) (buffer : List ℕ) → Type 0
+Holds s l1 l2 buf = (l1 ≡ s .l1) × (l2 ≡ s .l2) × (buf ≡ s .buffer)
+
+-- ---- a step of each shape
+
+-- a gate on each lane alone
+abbrev pub with-local : Step → Dealer → Dealer
+with-local x s = record { a = s .a; b = s .b; k = s .k; l1 = on-mask x 0 (s .l1); l2 = on-mask x 0 (s .l2); buffer = s .buffer }
+
+-- what is dealt at a step, with the next word of A
+abbrev pub next-deal : (A : List ℕ) → Step → Dealer → ℕ
+next-deal A x s = dealt-word x (at A (s .a)) (s .l1) (s .l2)
+
+-- a deal: L1 of slot d is the next word of A, and L2 is what is dealt
+abbrev pub with-deal : (A : List ℕ) → Step → (d : ℕ) → Dealer → Dealer
+with-deal A x d s =
+    record {
+      a = s .a + 1;
+      b = s .b;
+      k = s .k + 1;
+      l1 = set (s .l1) d (at A (s .a));
+      l2 = set (s .l2) d (next-deal A x s);
+      buffer = set (s .buffer) (s .k) (next-deal A x s);
+    }
+
+-- a product: "New masks: L1 from A, after g1, and L2 from B"
+abbrev pub with-product : (A B : List ℕ) → Step → (d : ℕ) → Dealer → Dealer
+with-product A B x d s =
+    record {
+      a = s .a + 2;
+      b = s .b + 1;
+      k = s .k + 1;
+      l1 = set (s .l1) d (at A (s .a + 1));
+      l2 = set (s .l2) d (at B (s .b));
+      buffer = set (s .buffer) (s .k) (next-deal A x s);
+    }
+
+-- "new L1 from A, L2 from B"
+abbrev pub with-refresh : (A B : List ℕ) (d : ℕ) → Dealer → Dealer
+with-refresh A B d s =
+    record { a = s .a + 1; b = s .b + 1; k = s .k; l1 = set (s .l1) d (at A (s .a)); l2 = set (s .l2) d (at B (s .b)); buffer = s .buffer }
+
+module _ (A B : List ℕ) where
+  abbrev pub shaped : Shape → Step → Dealer → Dealer
+  shaped Local x s = with-local x s
+  shaped (Dealing d) x s = with-deal A x d s
+  shaped (Product d) x s = with-product A B x d s
+  shaped (Refreshing d) x s = with-refresh A B d s
+
+  unfoldable pub dealing : Step → Dealer → Dealer
+  dealing x s = shaped (shape x) x s
