@@ -5,12 +5,10 @@ use Prim.Native.Nat.{ℕ, _+_, _≤_}
 use lib.ListN.{length}
 use Rattle.gates.specs.Steps.{Lane, Step}
 use Rattle.gates.specs.Costs.{cost}
-use Rattle.jobs.specs.Job.{Fault}
 use Rattle.parties.specs.Calls as Calls
 use Rattle.dealings.specs.declared.Used.{Used}
 use Rattle.dealings.specs.Dealings.{Dealer, dealing}
 use Rattle.dealer.specs.declared.Prepared.{Prepared}
-use Rattle.dealer.specs.declared.preparing.Finding.{Finding}
 
 -- the code's answer, with the buffer as it leaves it
 abbrev pub answer : Prepared → (buffer : List ℕ) → Calls.Prepared
@@ -23,11 +21,6 @@ outset l1 l2 buf = record { a = 0; b = 0; k = 0; l1 = l1; l2 = l2; buffer = buf 
 -- what host 0 has used
 abbrev pub Counts : Dealer → Used → Type 0
 Counts s u = (u .a ≡ s .a) × (u .b ≡ s .b) × (u .deals ≡ s .k)
-
--- what checking finds: a fault's number and index, and the job's deals where there is no fault
-pub record Judged (f : Fault) (deals : ℕ) (found : Finding) : Type 0 where
-  pub fault : (found .number, found .index) ≡ f
-  pub counted : found .number ≡ 0 → found .deals ≡ deals
 
 module _ (A B : List ℕ) where
   unfoldable pub deal-all : List Step → Dealer → Dealer

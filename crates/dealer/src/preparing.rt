@@ -4,77 +4,26 @@ ghost use mathlib.Core.List.{List, [], _∷_};
 ghost use Prim.Native.Nat.{ℕ, _^_, _<_};
 ghost use lib.ListN.{length, take};
 ghost use Rattle.gates.specs.Meaning.{meaning, order-steps};
-ghost use Rattle.gates.specs.Costs.{cost-of};
 ghost use Rattle.tables.specs.Table.{rows};
 ghost use Rattle.circuits.specs.Orders.{program};
-ghost use Rattle.jobs.specs.Job.{steps-of, job-cost};
-ghost use Rattle.parties.specs.Lent.{dealer-lists-fault, dealer-fault};
+ghost use Rattle.jobs.specs.Job.{steps-of};
 ghost use Rattle.parties.specs.Calls as Calls;
 ghost use Rattle.gates.specs.Steps.{Lane};
 ghost use Rattle.dealings.specs.Dealings.{dealer, dealing};
-ghost use Rattle.dealer.specs.Preparation.{answer, outset, Judged, Counts, deal-all, Room};
+ghost use Rattle.dealer.specs.Preparation.{answer, outset, Counts, deal-all, Room};
 use crate::Masks;
 use crate::Prepared;
-use checks::check;
 use circuits::Order;
 use dealings::Used;
 use dealings::deal_gate;
 use gates::Gate;
 use gates::Shape;
-use jobs::Checked;
 use lookup::Fetched;
 use lookup::fetch;
 use orders::order_at;
+use parties::check_dealer;
 use parties::fresh;
 use speech::shape_of;
-
-// What checking finds: the number, 0 for none, and the order's index; the job's deals where there is none.
-pub struct Finding {
-    pub number: u32,
-    pub index: u32,
-    pub deals: u32,
-}
-
-// ---- the checks
-
-// Conditions 6 and 7, for a job that needs i words of A, j of B and n deals.
-fn lists_fault(i: u32, j: u32, n: u32, a: &[u32], b: &[u32], deals: &[u32]) -> u32
-    ensures { λ r. ⌜ r ≡ dealer-lists-fault (cost-of n 0 i j) (now (a .entry)) (now (b .entry)) (now (deals .entry)) ⌝ }
-{
-    if a.len() < i as usize {
-        return 6;
-    }
-    if b.len() < j as usize {
-        return 6;
-    }
-    if deals.len() < n as usize {
-        return 7;
-    }
-    0
-}
-
-// Conditions 2 to 7.
-fn find_fault(job: &[u32], table: &[u32], a: &[u32], b: &[u32], deals: &[u32]) -> Finding
-    ensures { λ r. ⌜ Judged (dealer-fault 32 (now (job .entry)) (now (table .entry)) (now (a .entry)) (now (b .entry)) (now (deals .entry))) (job-cost 32 (now (job .entry)) (now (table .entry)) .deals) r ⌝ }
-{
-    match check(job, table) {
-        Checked::Refused { number, index } => Finding {
-            number,
-            index,
-            deals: 0,
-        },
-        Checked::Accepted {
-            deals: n,
-            words: _,
-            a: i,
-            b: j,
-        } => Finding {
-            number: lists_fault(i, j, n, a, b, deals),
-            index: 0,
-            deals: n,
-        },
-    }
-}
 
 // ---- the lanes: the registers, with temporaries behind them that are 0 at first
 
@@ -180,7 +129,7 @@ pub fn prepare(
 ) -> Prepared
     ensures { λ r. ⌜ answer r (now (deals .exit)) ≡ Calls.prepare 32 (now (job .entry)) (now (table .entry)) (now (a .entry)) (now (b .entry)) (now (deals .entry)) (masks .l1, masks .l2) ⌝ }
 {
-    let found = find_fault(job, table, a, b, deals);
+    let found = check_dealer(job, table, a, b, deals);
     if found.number != 0 {
         return Prepared {
             number: found.number,

@@ -126,7 +126,7 @@ impl State {
         match seek(order_at(job, order), table, s.turn) {
             Sought::Nowhere => refused(8, 0, s),
             Sought::Found { gate, a, deals: k } => {
-                let used = lent.before;
+                let used = lent.counts;
                 let at = Reach {
                     gate,
                     a: used.a as usize + a,

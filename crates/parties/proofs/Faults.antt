@@ -1,5 +1,5 @@
 -- Checks 1 to 7 of what a call is lent, by the tests that the code makes. Assumes nothing.
-use mathlib.Core.Path.{_≡_, refl, ap}
+use mathlib.Core.Path.{_≡_, refl, sym, ap, _∙_}
 use mathlib.Core.Bool.{Bool, true, false, _||_, cond}
 use mathlib.Core.List.{List}
 use Prim.Native.Nat.{ℕ, zero, suc, _*_, _≤_, _<_}
@@ -11,7 +11,7 @@ use Rattle.gates.specs.Costs.{Cost, cost-of}
 use Rattle.jobs.specs.declared.Checked.the-variants.{Accepted, Refused}
 use Rattle.jobs.specs.Job.{Fault, job-fault, job-cost, short-a, short-b, short-deals}
 use Rattle.jobs.specs.Answers.{Verdict, refusal, verdict, judged, check-job, counts-before}
-use Rattle.parties.specs.Lent.{Lent, lent, lists, or-else, lists-fault, lent-fault, passed}
+use Rattle.parties.specs.Lent.{Lent, lent, lists, or-else, lists-fault, lent-fault, dealer-lists-fault, dealer-fault, passed}
 
 -- ---- the lists
 
@@ -78,6 +78,29 @@ module _ (J T : List ℕ) (L : Lent) where
   unfolding check-job
   job-accepted n s a b r e p = accepted-by L (job-cost 32 J T) n s a b (job-fault 32 J T .0) (job-fault 32 J T .1) r e p
 
+-- ---- from the job's verdict, whatever number the lists have
+
+module _ (J T : List ℕ) where
+  pub or-refused : (x n i : ℕ) → refusal (n, i) ≡ check-job 32 J T → (n ≡ 0 → ⊥) → (n, i) ≡ or-else (job-fault 32 J T) x
+  unfolding check-job judged or-else
+  or-refused x n i e ne = go (job-fault 32 J T .0) (job-fault 32 J T) refl e
+    where
+      go : (m : ℕ) (f : Fault) → f .0 ≡ m → refusal (n, i) ≡ judged m f (job-cost 32 J T) → (n, i) ≡ cond (eqb (f .0) 0) (x, 0) f
+      go zero f q p = absurd (ne (ap (λ (v : Verdict). v .number) p))
+      go (suc m) f q p = rw (ne-eqb (f .0) 0 (λ z. omega arith)) (λ t. (p t .number, p t .index))
+
+  pub accepted-tells : (k : Cost) → record { accepted = true; number = 0; index = 0; counts = k } ≡ check-job 32 J T → (job-fault 32 J T .0 ≡ 0) × (job-cost 32 J T ≡ k)
+  unfolding check-job judged
+  accepted-tells k e = go (job-fault 32 J T .0) (job-fault 32 J T) refl e
+    where
+      go : (m : ℕ) (f : Fault) → f .0 ≡ m → record { accepted = true; number = 0; index = 0; counts = k } ≡ judged m f (job-cost 32 J T) → (m ≡ 0) × (job-cost 32 J T ≡ k)
+      go zero f q p = (refl, sym (ap (λ (v : Verdict). v .counts) p))
+      go (suc m) f q p = let z : 0 ≡ f .0 = ap (λ (v : Verdict). v .number) p in absurd (omega arith)
+
+  pub or-accepted : (x : ℕ) → job-fault 32 J T .0 ≡ 0 → (x, 0) ≡ or-else (job-fault 32 J T) x
+  unfolding or-else
+  or-accepted x e = rw (eq-eqb (job-fault 32 J T .0) 0 e)
+
 -- ---- the counts of the orders before a place
 
 pub none-passed : (n : ℕ) (k : Cost) → (n ≡ 0 → ⊥) → cost-of 0 0 0 0 ≡ passed n k
@@ -85,19 +108,51 @@ unfolding passed
 none-passed zero k h = absurd (h refl)
 none-passed (suc n) k h = refl
 
+pub no-fault-passed : (n : ℕ) (k : Cost) → n ≡ 0 → passed n k ≡ k
+unfolding passed
+no-fault-passed zero k e = refl
+no-fault-passed (suc n) k e = absurd (omega arith)
+
 pub all-passed : (k : Cost) → k ≡ passed 0 k
 unfolding passed
 all-passed k = refl
 
 pub counts-passed : (J T : List ℕ) (place : ℕ) (k : Cost) → record { accepted = true; number = 0; index = 0; counts = k } ≡ check-job 32 J T
     → counts-before 32 J T place ≡ job-cost 32 (take (place * 4) J) T
-unfolding check-job counts-before judged
-counts-passed J T place k e = go (job-fault 32 J T .0) (job-fault 32 J T) refl e
-  where
-    go : (m : ℕ) (f : Fault) → f .0 ≡ m → record { accepted = true; number = 0; index = 0; counts = k } ≡ judged m f (job-cost 32 J T)
-        → judged m f (job-cost 32 (take (place * 4) J) T) .counts ≡ job-cost 32 (take (place * 4) J) T
-    go zero f q p = refl
-    go (suc m) f q p = let z : 0 ≡ f .0 = ap (λ (v : Verdict). v .number) p in absurd (omega arith)
+unfolding counts-before judged
+counts-passed J T place k e = ap (λ (m : ℕ). judged m (job-fault 32 J T) (job-cost 32 (take (place * 4) J) T) .counts) (accepted-tells J T k e .0)
+
+-- ---- host 0
+
+-- by the tests of the three lengths; the counts' words play no part
+module _ (n m i j : ℕ) (A B D : List ℕ) where
+  pub short-list-a : length A < i → 6 ≡ dealer-lists-fault (cost-of n m i j) A B D
+  unfolding dealer-lists-fault short-a
+  short-list-a h = rw (lt-ltb (length A) i h)
+
+  pub short-list-b : i ≤ length A → length B < j → 6 ≡ dealer-lists-fault (cost-of n m i j) A B D
+  unfolding dealer-lists-fault short-a short-b
+  short-list-b g h = rw (le-ltb (length A) i g, lt-ltb (length B) j h)
+
+  pub short-buffer : i ≤ length A → j ≤ length B → length D < n → 7 ≡ dealer-lists-fault (cost-of n m i j) A B D
+  unfolding dealer-lists-fault short-a short-b short-deals
+  short-buffer f g h = rw (le-ltb (length A) i f, le-ltb (length B) j g, lt-ltb (length D) n h)
+
+  pub long-enough : i ≤ length A → j ≤ length B → n ≤ length D → 0 ≡ dealer-lists-fault (cost-of n m i j) A B D
+  unfolding dealer-lists-fault short-a short-b short-deals
+  long-enough f g h = rw (le-ltb (length A) i f, le-ltb (length B) j g, le-ltb (length D) n h)
+
+module _ (J T A B D : List ℕ) where
+  pub dealer-refused : (n i : ℕ) → refusal (n, i) ≡ check-job 32 J T → (n ≡ 0 → ⊥) → (n, i) ≡ dealer-fault 32 J T A B D
+  unfolding dealer-fault
+  dealer-refused n i e ne = or-refused J T _ n i e ne
+
+  pub dealer-accepted : (n m i j x : ℕ) → record { accepted = true; number = 0; index = 0; counts = cost-of n m i j } ≡ check-job 32 J T → x ≡ dealer-lists-fault (cost-of n 0 i j) A B D
+      → (x, 0) ≡ dealer-fault 32 J T A B D
+  unfolding dealer-fault dealer-lists-fault short-a short-b short-deals
+  dealer-accepted n m i j x e ex =
+      let t = accepted-tells J T (cost-of n m i j) e in
+      ap {B = Fault} (λ (y : ℕ). (y, 0)) (ex ∙ ap (λ (k : Cost). dealer-lists-fault k A B D) (sym (t .1))) ∙ or-accepted J T _ (t .0)
 
 -- ---- the host
 

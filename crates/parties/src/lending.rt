@@ -10,20 +10,20 @@ ghost use Rattle.parties.specs.Faults.{fault-of};
 use checks::survey;
 use jobs::Counts;
 
-// The number, 0 for none, and the order's index; the counts of the orders before the host's place, where there is no fault.
+// The number, 0 for none, and the order's index; where there is none, the counts of the orders before the host's place, or for host 0 of the whole job.
 pub struct Lending {
     pub number: u32,
     pub index: u32,
-    pub before: Counts,
+    pub counts: Counts,
 }
 
-fn turned_down(number: u32, index: u32) -> Lending
-    ensures { λ r. ⌜ (fault-of r ≡ (number, index)) × (counted (r .before) ≡ cost-of 0 0 0 0) ⌝ }
+pub(crate) fn turned_down(number: u32, index: u32) -> Lending
+    ensures { λ r. ⌜ (fault-of r ≡ (number, index)) × (counted (r .counts) ≡ cost-of 0 0 0 0) ⌝ }
 {
     Lending {
         number,
         index,
-        before: Counts {
+        counts: Counts {
             deals: 0,
             words: 0,
             a: 0,
@@ -61,7 +61,7 @@ fn check_job(
     place: usize,
 ) -> Lending
     ensures fault { λ r. ⌜ fault-of r ≡ or-else (job-fault 32 (now (job .entry)) (now (table .entry))) (lists-fault (job-cost 32 (now (job .entry)) (now (table .entry))) (lists host (now (masks .entry)) (now (deals .entry)))) ⌝ }
-    ensures before { λ r. ⌜ counted (r .before) ≡ passed (r .number) (job-cost 32 (take (place * 4) (now (job .entry))) (now (table .entry))) ⌝ }
+    ensures counts { λ r. ⌜ counted (r .counts) ≡ passed (r .number) (job-cost 32 (take (place * 4) (now (job .entry))) (now (table .entry))) ⌝ }
 {
     let found = survey(job, table, place);
     if found.number != 0 {
@@ -72,11 +72,11 @@ fn check_job(
     if number != 0 {
         return turned_down(number, 0);
     }
-    let before = found.before;
+    let counts = found.before;
     Lending {
         number: 0,
         index: 0,
-        before,
+        counts,
     }
 }
 
@@ -90,7 +90,7 @@ pub fn check_lent(
     place: usize,
 ) -> Lending
     ensures fault { λ r. ⌜ fault-of r ≡ lent-fault 32 (lent host (now (job .entry)) (now (table .entry)) (now (masks .entry)) (now (deals .entry))) ⌝ }
-    ensures before { λ r. ⌜ counted (r .before) ≡ passed (r .number) (job-cost 32 (take (place * 4) (now (job .entry))) (now (table .entry))) ⌝ }
+    ensures counts { λ r. ⌜ counted (r .counts) ≡ passed (r .number) (job-cost 32 (take (place * 4) (now (job .entry))) (now (table .entry))) ⌝ }
 {
     match host {
         1 => check_job(host, job, table, masks, deals, place),

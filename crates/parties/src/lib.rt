@@ -1,11 +1,13 @@
-// Preparation, starting and hearing: their definitions, and what they begin with: the lane of each, and the checks of hosts 1 and 2.
+// Preparation, starting and hearing: their definitions, and what they begin with: the lane of each, and the checks of what each host is lent.
 ghost use mathlib.Core.Path.{_≡_};
 ghost use Rattle.parties.specs.Calls as Calls;
 
 mod lending;
+mod preparing;
 
 pub use lending::Lending;
 pub use lending::check_lent;
+pub use preparing::check_dealer;
 
 // Sixteen registers, and kept words that are 0.
 pub fn fresh(registers: [u32; 16]) -> [u32; 24]

@@ -29,7 +29,7 @@ use Rattle.circuits.proofs.Calibration.{Promised, ranged, exact-curve, one-bit-
 use Rattle.jobs.specs.Job.{orders, ill-sized, unknown-kind, unknown-register, two-sources, ill-fourths, ill-fourth, order-fault, fault-at, orders-fault, job-fault, job-gates, steps-of, job-cost}
 use Rattle.parties.specs.Lent.{or-else, dealer-lists-fault, dealer-fault}
 use Rattle.parties.specs.Calls.{fresh}
-use Rattle.dealer.proofs.Checks.{long-enough}
+use Rattle.parties.proofs.Faults.{long-enough}
 use Rattle.runs.specs.Runs.{Setting}
 use Rattle.runs.specs.Orders.{Words, slot, first, before-order, after-order, order-at, first-counts, counts-before, refresh-mask}
 use Rattle.runs.proofs.Opened.{order-leaves}

@@ -1,14 +1,16 @@
 use mathlib.Core.Path.{sym, ap, _∙_}
 use native.Mathlib.Omega.{arith}
 use denote.Ref.{now}
+use Rattle.gates.specs.Costs.{Cost}
 use Rattle.jobs.specs.Job.{Fault}
+use Rattle.parties.proofs.Faults.{no-fault-passed}
 use Rattle.dealer.proofs.Answers.{room-outset, refused, dealt-count, finished}
 use borrow.Author.Needs.{needs}
 use Rattle.dealer.proofs.preparing.prepare.Statement.{statement}
 use Rattle.dealer.proofs.preparing.prepare.Tie as tie
 
-find-fault-requires : tie.Need-find-fault-requires
-find-fault-requires c κs = search needs
+check-dealer-requires : tie.Need-check-dealer-requires
+check-dealer-requires c κs = search needs
 
 same-length : tie.Need-same-length
 same-length c = search needs
@@ -16,7 +18,7 @@ same-length c = search needs
 returns : tie.Need-returns
 returns c =
     let s = c .before .before .before .before .before .before .before .before .before .args in
-    refused 32 (now (s .job)) (now (s .table)) (now (s .a)) (now (s .b)) (now (s .deals)) (s .masks .l1, s .masks .l2) _ _ (c .before .before .find-fault .ensures .fault) (c .if1 .taken)
+    refused 32 (now (s .job)) (now (s .table)) (now (s .a)) (now (s .b)) (now (s .deals)) (s .masks .l1, s .masks .l2) _ _ (c .before .before .check-dealer .ensures .0) (c .if1 .taken)
 
 fresh-requires : tie.Need-fresh-requires
 fresh-requires c κs = search needs
@@ -27,7 +29,7 @@ fresh-requires-2 c κs = search needs
 deal-job-requires : tie.Need-deal-job-requires
 deal-job-requires c κs =
     let s = c .before .before .before .before .before .before .before .before .before .before .before .before .before .before .before .before .args in
-    room-outset 32 (now (s .job)) (now (s .table)) (now (s .a)) (now (s .b)) (now (s .deals)) _ _ (sym (ap (λ (f : Fault). f .0) (c .before .before .before .before .before .before .before .before .before .find-fault .ensures .fault)) ∙ c .before .before .before .before .before .before .before .if1 .left)
+    room-outset 32 (now (s .job)) (now (s .table)) (now (s .a)) (now (s .b)) (now (s .deals)) _ _ (sym (ap (λ (f : Fault). f .0) (c .before .before .before .before .before .before .before .before .before .check-dealer .ensures .0)) ∙ c .before .before .before .before .before .before .before .if1 .left)
 
 registers-requires : tie.Need-registers-requires
 registers-requires c κs = search needs
@@ -38,10 +40,10 @@ registers-requires-2 c κs = search needs
 cast-t23 : tie.Need-cast-t23
 cast-t23 c =
     let s = c .before .before .before .before .before .before .before .before .before .before .before .before .before .before .before .before .before .before .before .before .before .before .args in
-    let e = sym (ap (λ (f : Fault). f .0) (c .before .before .before .before .before .before .before .before .before .before .before .before .before .before .before .find-fault .ensures .fault)) ∙ c .before .before .before .before .before .before .before .before .before .before .before .before .before .if1 .left in
+    let e = sym (ap (λ (f : Fault). f .0) (c .before .before .before .before .before .before .before .before .before .before .before .before .before .before .before .check-dealer .ensures .0)) ∙ c .before .before .before .before .before .before .before .before .before .before .before .before .before .if1 .left in
     let n = dealt-count 32 (now (s .job)) (now (s .table)) (now (s .a)) (now (s .b)) (now (s .deals)) (s .masks .l1, s .masks .l2) _ _ _ e (c .before .before .before .before .before .before .before .before .before .before .fresh .ensures) (c .before .before .before .before .before .before .before .before .before .fresh2 .ensures) (c .before .before .before .before .before .deal-job .ensures) in
-    let k = c .before .before .before .before .before .before .before .before .before .before .before .before .before .before .before .find-fault .ensures .counted (c .before .before .before .before .before .before .before .before .before .before .before .before .before .if1 .left) in
-    omega (arith, n, k, c .before .before .before .before .before .before .before .before .before .before .before .before .before .before .before .find-fault .ok)
+    let k = ap (λ (n : Cost). n .deals) (c .before .before .before .before .before .before .before .before .before .before .before .before .before .before .before .check-dealer .ensures .1 ∙ no-fault-passed _ _ (c .before .before .before .before .before .before .before .before .before .before .before .before .before .if1 .left)) in
+    omega (arith, n, k, c .before .before .before .before .before .before .before .before .before .before .before .before .before .before .before .check-dealer .ok)
 
 same-length-2 : tie.Need-same-length-2
 same-length-2 c = search needs
@@ -49,14 +51,14 @@ same-length-2 c = search needs
 returns-2 : tie.Need-returns-2
 returns-2 c =
     let s = c .before .before .before .before .before .before .before .before .before .before .before .before .before .before .before .before .before .before .before .before .before .before .args in
-    let e = sym (ap (λ (f : Fault). f .0) (c .before .before .before .before .before .before .before .before .before .before .before .before .before .before .before .find-fault .ensures .fault)) ∙ c .before .before .before .before .before .before .before .before .before .before .before .before .before .if1 .left in
+    let e = sym (ap (λ (f : Fault). f .0) (c .before .before .before .before .before .before .before .before .before .before .before .before .before .before .before .check-dealer .ensures .0)) ∙ c .before .before .before .before .before .before .before .before .before .before .before .before .before .if1 .left in
     finished 32 (now (s .job)) (now (s .table)) (now (s .a)) (now (s .b)) (now (s .deals)) (s .masks .l1, s .masks .l2) _ _ _ e (c .before .before .before .before .before .before .before .before .before .before .fresh .ensures) (c .before .before .before .before .before .before .before .before .before .fresh2 .ensures) (c .before .before .before .before .before .deal-job .ensures) _ _ (c .before .before .registers .ensures) (c .before .registers2 .ensures)
 
 pub prepare-spec : {M : Type 1} → statement M
 prepare-spec =
     tie.close
     (tie.spec
-    find-fault-requires
+    check-dealer-requires
     same-length
     returns
     fresh-requires

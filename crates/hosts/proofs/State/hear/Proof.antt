@@ -16,7 +16,7 @@ there : (c : tie.After-used)
     → let k = c .before .before .before .before .before .before .before .before in
     let a = k .before .before .before .before .before .before .before .before .args in
     let f = c .before .before .gate .given .0 in
-    let u = k .before .before .check-lent .result .before in
+    let u = k .before .before .check-lent .result .counts in
     There (now (a .job)) (now (a .table)) (a .self .order) (a .self .turn) (f .0) (u .a + f .1 .0) (u .b + a .self .turn) (u .deals + f .1 .1 .0)
 there c =
     let q = c .before .before .before .before in
@@ -24,7 +24,7 @@ there c =
     let a = k .before .before .before .before .before .before .before .before .args in
     let u = k .before .before .check-lent in
     found-there (a .host) (now (a .job)) (now (a .table)) (now (a .masks)) (now (a .deals)) _ _ (k .before .before .check-lent .ensures .0) (k .if1 .left) (a .self .order) (a .self .turn)
-    (q .before .before .if2 .left) _ (q .before .order-at .ensures) _ (q .seek .ensures) _ _ _ (c .before .before .gate .given .1) (counted (u .result .before)) (u .ensures .1)
+    (q .before .before .if2 .left) _ (q .before .order-at .ensures) _ (q .seek .ensures) _ _ _ (c .before .before .gate .given .1) (counted (u .result .counts)) (u .ensures .1)
 
 cast-order : tie.Need-cast-order
 cast-order c = search needs

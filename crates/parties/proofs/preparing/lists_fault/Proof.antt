@@ -1,7 +1,7 @@
 use denote.Ref.{now}
-use Rattle.dealer.proofs.Checks.{short-list-a, short-list-b, short-buffer, long-enough}
-use Rattle.dealer.proofs.preparing.lists_fault.Statement.{statement}
-use Rattle.dealer.proofs.preparing.lists_fault.Tie as tie
+use Rattle.parties.proofs.Faults.{short-list-a, short-list-b, short-buffer, long-enough}
+use Rattle.parties.proofs.preparing.lists_fault.Statement.{statement}
+use Rattle.parties.proofs.preparing.lists_fault.Tie as tie
 
 returns : tie.Need-returns
 returns c = let s = c .before .args in short-list-a (s .n) 0 (s .i) (s .j) (now (s .a)) (now (s .b)) (now (s .deals)) (c .if1 .taken)
