@@ -32,11 +32,11 @@ pub fn word_after(words: &[u32], i: usize) -> u32
 }
 
 // Past the end nothing is written.
-pub fn put_word(words: &mut [u32], i: usize, v: u32)
-    ensures { λ r. ⌜ now (words .exit) ≡ set (now (words .entry)) i v ⌝ }
+pub fn put_word(words: &mut [u32], at: usize, v: u32)
+    ensures { λ r. ⌜ now (words .exit) ≡ set (now (words .entry)) at v ⌝ }
 {
-    if i < words.len() {
-        words[i] = v;
+    if at < words.len() {
+        words[at] = v;
     }
 }
 
