@@ -6,6 +6,7 @@ use crate::sweeps::Plan;
 use crate::sweeps::Readings;
 use crate::sweeps::sweep;
 use crate::tally::Tally;
+use crate::tally::none;
 use crate::tally::print;
 use crate::trials::Tallies;
 use crate::trials::Trial;
@@ -13,6 +14,7 @@ use crate::trials::no_cases;
 use crate::trials::opened_by;
 use crate::trials::opened_word;
 use crate::trials::opens;
+use shares::Opening;
 use std::num::wrapping_add_u32;
 
 const DOWN: [u32; 4] = [0, 20000, 4095, 0];
@@ -111,7 +113,7 @@ fn print_values(name: &[u8], table: &[u8], t: Tallies) {
     print(b", above C - 2 and below C + 1", t.line);
 }
 
-fn print_rest(name: &[u8], table: &[u8], t: Tallies) {
+pub(crate) fn print_rest(name: &[u8], table: &[u8], t: Tallies) {
     io::write_all(1, name);
     io::write_all(1, table);
     print(b", the fifteen other registers", t.kept);
@@ -122,10 +124,11 @@ fn print_rest(name: &[u8], table: &[u8], t: Tallies) {
 
 // Every count, then readings of the whole range.
 pub(crate) fn house(name: &[u8], mode: u32) {
-    let rows = tables::house();
-    let t = sweep(curve(mode, Readings::Counts, 21), &rows, 4096, no_cases());
+    let table = tables::house();
+    let rows: &[u32] = &table;
+    let t = sweep(curve(mode, Readings::Counts, 21), rows, 4096, no_cases());
     print_values(name, b", house table, counts 0 to 4095", t);
-    let r = sweep(curve(mode, Readings::Range, 22), &rows, 1000, t.carried());
+    let r = sweep(curve(mode, Readings::Range, 22), rows, 1000, t.carried());
     print_values(name, b", house table, readings in range", r);
     print_rest(name, b", house table, both", r);
 }
@@ -135,18 +138,12 @@ fn on_table(rows: &[u32], mode: u32, seed: u32, t: Tallies) -> Tallies {
 }
 
 fn fixed_tables(mode: u32) -> Tallies {
-    let down = DOWN;
-    let drop = DROP;
-    let jump = JUMP;
-    let level = LEVEL;
-    let fall = FALL;
-    let zigzag = ZIGZAG;
-    let mut t = on_table(&down, mode, 31, no_cases());
-    t = on_table(&drop, mode, 32, t);
-    t = on_table(&jump, mode, 33, t);
-    t = on_table(&level, mode, 34, t);
-    t = on_table(&fall, mode, 35, t);
-    on_table(&zigzag, mode, 36, t)
+    let mut t = on_table(&DOWN, mode, 31, no_cases());
+    t = on_table(&DROP, mode, 32, t);
+    t = on_table(&JUMP, mode, 33, t);
+    t = on_table(&LEVEL, mode, 34, t);
+    t = on_table(&FALL, mode, 35, t);
+    on_table(&ZIGZAG, mode, 36, t)
 }
 
 // A drawn table with 2 to 16 rows, narrow or wide ones.
@@ -175,15 +172,18 @@ pub(crate) fn others(name: &[u8], mode: u32) {
     print_rest(name, b", 21 tables of 2 to 16 rows", t);
 }
 
-fn at_count(mode: u32, x: u32, seed: u32) -> Trial {
-    Trial {
-        kind: 10,
-        target: 3,
-        source: 5,
-        fourth: mode,
-        x,
-        seed,
-    }
+fn opened_at(rows: &[u32], mode: u32, x: u32) -> Opening {
+    opened_by(
+        Trial {
+            kind: 10,
+            target: 3,
+            source: 5,
+            fourth: mode,
+            x,
+            seed: 41,
+        },
+        rows,
+    )
 }
 
 // The last are no readings that can be split, and open the same all the way to 2^31 - 1.
@@ -202,35 +202,35 @@ const ABOVE: [u32; 12] = [
     2147479552,
 ];
 
+fn alike_at(rows: &[u32], mode: u32, x: u32, due: u32, t: Tally) -> Tally {
+    let o = opened_at(rows, mode, x);
+    t.with(opens(o, due), x, opened_word(o), due)
+}
+
 // Under the same lists a reading above the last row opens what the last row's count opens.
-fn alike(rows: &[u32], mode: u32, t: Tally) -> Tally {
-    let above = ABOVE;
-    let end = rows.len();
-    let last = if end < 2 { 0 } else { entry(rows, end - 2) };
-    let due = opened_word(opened_by(at_count(mode, last, 41), rows));
+fn alike_above(rows: &[u32], mode: u32, last: u32, t: Tally) -> Tally {
+    let due = opened_word(opened_at(rows, mode, last));
     let mut sum = t;
     let mut i: usize = 0;
     while i < 12 {
-        let x = wrapping_add_u32(last, above[i]);
-        let o = opened_by(at_count(mode, x, 41), rows);
-        sum = sum.with(opens(o, due), x, opened_word(o), due);
+        sum = alike_at(rows, mode, wrapping_add_u32(last, ABOVE[i]), due, sum);
         i += 1;
     }
     sum
 }
 
-fn alike_in_mode(mode: u32, t: Tally) -> Tally {
-    let house = tables::house();
-    let down = DOWN;
-    let fall = FALL;
-    let zigzag = ZIGZAG;
-    let mut sum = alike(&house, mode, t);
-    sum = alike(&down, mode, sum);
-    sum = alike(&fall, mode, sum);
-    alike(&zigzag, mode, sum)
+// In both modes.
+fn alike(rows: &[u32], t: Tally) -> Tally {
+    let end = rows.len();
+    let last = if end < 2 { 0 } else { entry(rows, end - 2) };
+    alike_above(rows, 1, last, alike_above(rows, 0, last, t))
 }
 
 pub(crate) fn level_end() {
-    let t = alike_in_mode(1, alike_in_mode(0, crate::tally::none()));
+    let house = tables::house();
+    let mut t = alike(&house, none());
+    t = alike(&DOWN, t);
+    t = alike(&FALL, t);
+    t = alike(&ZIGZAG, t);
     print(b"curve, readings at and above the last row open alike", t);
 }

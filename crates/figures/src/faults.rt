@@ -1,9 +1,9 @@
 // Numbers 3, 4 and 5: orders with each fault.
-use crate::refusals::Due;
-use crate::refusals::bare;
+use crate::lists::entry;
 use crate::refusals::faulty;
 use crate::tally::Tally;
 use crate::tally::none;
+use std::num::wrapping_add_u32;
 
 // An order's four words, and the number that it is refused with: five words to a row.
 const FAULTS: [u32; 140] = [
@@ -150,39 +150,31 @@ const FAULTS: [u32; 140] = [
 ];
 
 fn fault_word(row: u32, i: u32) -> u32 {
-    let faults = FAULTS;
-    if 27 < row {
-        return 0;
-    }
-    if 4 < i {
-        return 0;
-    }
-    let at = (row * 5 + i) as usize;
-    faults[at]
+    entry(&FAULTS, wrapping_add_u32(row, i) as usize)
 }
 
-// The order alone, and as the second of three, before another fault.
+// The order whose row begins here, alone, and as the second of three, before another fault.
 fn faulty_order(row: u32, number: u32, t: Tally) -> Tally {
-    let table = tables::house();
+    if fault_word(row, 4) != number {
+        return t;
+    }
+    let house = tables::house();
+    let table: &[u32] = &house;
     let kind = fault_word(row, 0);
     let target = fault_word(row, 1);
     let source = fault_word(row, 2);
     let fourth = fault_word(row, 3);
-    if fault_word(row, 4) != number {
-        return t;
-    }
-    let alone = [kind, target, source, fourth];
     let second = [8, 2, 3, 31, kind, target, source, fourth, 11, 16, 0, 0];
-    let sum = faulty(bare(number), &alone, &table, t);
-    faulty(Due { number, index: 1 }, &second, &table, sum)
+    let sum = faulty(number, 0, &[kind, target, source, fourth], table, t);
+    faulty(number, 1, &second, table, sum)
 }
 
 pub(crate) fn faulty_orders(number: u32) -> Tally {
     let mut t = none();
     let mut row: u32 = 0;
-    while row < 28 {
+    while row < 140 {
         t = faulty_order(row, number, t);
-        row += 1;
+        row += 5;
     }
     t
 }

@@ -57,59 +57,44 @@ pub(crate) fn scaled_sum(x: u32, table: &[u32]) -> u32 {
     sum
 }
 
-// The last row that x has reached, or the first.
+// The place of the last row but one that x has reached, or of the first.
 fn reached(x: u32, table: &[u32]) -> usize {
-    let n = table.len() / 2;
     let mut last: usize = 0;
-    let mut row: usize = 1;
-    while row < 16 {
-        if row < n {
-            if entry(table, row * 2) <= x {
-                last = row;
+    let mut at: usize = 2;
+    while at < 30 {
+        if at + 2 < table.len() {
+            if entry(table, at) <= x {
+                last = at;
             }
         }
-        row += 1;
+        at += 2;
     }
     last
 }
 
-// v > C - 2 and v < C + 1 for C = c + (next_c - c) * come / width, all times width and shifted up by 2, so that nothing is negative.
+// v > C - 2 and v < C + 1 for C = c + (next_c - c) * come / width: v + 2 - C, times width, lies between 0 and 3 * width. It stays
+// far below 2^31 in size, so that a negative one wraps to a large word.
 fn close(v: u32, c: u32, next_c: u32, come: u32, width: u32) -> bool {
     let lifted = wrapping_add_u32(v, 2);
     if lifted > 40000 {
         return false;
     }
-    let value = product(lifted, width);
-    let low = product(c, width);
-    let high = product(wrapping_add_u32(c, 3), width);
-    if next_c < c {
-        let sum = wrapping_add_u32(value, product(wrapping_sub_u32(c, next_c), come));
-        low < sum && sum < high
-    } else {
-        let rise = product(wrapping_sub_u32(next_c, c), come);
-        wrapping_add_u32(low, rise) < value && value < wrapping_add_u32(high, rise)
-    }
+    let over_c = product(wrapping_sub_u32(lifted, c), width);
+    let change = product(wrapping_sub_u32(next_c, c), come);
+    let over = wrapping_sub_u32(over_c, change);
+    over != 0 && over < product(3, width)
 }
 
-// Whether v is above C - 2 and below C + 1 at x.
+// Whether v is above C - 2 and below C + 1 at x. Below the first row and above the last the way ends, and so the line is level.
 pub(crate) fn close_to_line(v: u32, x: u32, table: &[u32]) -> bool {
-    let first = entry(table, 1);
-    if negative(x) {
-        return close(v, first, first, 0, 1);
-    }
-    if x <= entry(table, 0) {
-        return close(v, first, first, 0, 1);
-    }
-    let row = reached(x, table);
-    if 15 < row {
+    let count = if negative(x) { 0 } else { x };
+    let at = reached(count, table);
+    if 28 < at {
         return false;
     }
-    let at = row * 2;
     let r = entry(table, at);
+    let next_r = entry(table, at + 2);
     let c = entry(table, at + 1);
-    if table.len() <= at + 2 {
-        return close(v, c, c, 0, 1);
-    }
-    let width = wrapping_sub_u32(entry(table, at + 2), r);
-    close(v, c, entry(table, at + 3), wrapping_sub_u32(x, r), width)
+    let next_c = entry(table, at + 3);
+    close(v, c, next_c, way(x, r, next_r), wrapping_sub_u32(next_r, r))
 }

@@ -17,7 +17,7 @@ pub(crate) fn front<'a>(list: &'a [u32], n: usize) -> &'a [u32] {
 pub(crate) fn first_difference(now: &[u32], before: &[u32], from: usize) -> usize {
     let mut i = from;
     while i < now.len() {
-        if now[i] != entry(before, i) {
+        if entry(now, i) != entry(before, i) {
             return i;
         }
         i += 1;
@@ -28,18 +28,4 @@ pub(crate) fn first_difference(now: &[u32], before: &[u32], from: usize) -> usiz
 // Whether every word is as before; past the end of those before stood 0.
 pub(crate) fn same(now: &[u32], before: &[u32]) -> bool {
     first_difference(now, before, 0) == now.len()
-}
-
-// The same of a host's lanes and of registers.
-pub(crate) fn same_lane(now: [u32; 24], before: [u32; 24]) -> bool {
-    same(&now, &before)
-}
-
-pub(crate) fn same_registers(now: [u32; 16], before: [u32; 16]) -> bool {
-    same(&now, &before)
-}
-
-// A lane of these registers, and kept words that are 0.
-pub(crate) fn fresh_lane(now: [u32; 24], before: [u32; 16]) -> bool {
-    same(&now, &before)
 }

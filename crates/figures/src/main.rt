@@ -47,20 +47,19 @@ fn each_kind() -> Tallies {
 
 fn kinds() {
     let t = kind_group(7, Readings::Range, b", readings in range", each_kind());
-    print(b"kinds 0 to 9, the fifteen other registers", t.kept);
-    print(
-        b"kinds 0 to 9, deals, words spoken, rest of the deal buffer",
-        t.counts,
-    );
+    curves::print_rest(b"kinds 0 to 9", b"", t);
 }
 
 fn main() {
-    unmarked::cases();
+    let exact: &[u8] = b"curve exact";
+    let one_bit: &[u8] = b"curve one-bit";
+    unmarked::slacks();
+    unmarked::splits();
     kinds();
-    curves::house(b"curve exact", 0);
-    curves::house(b"curve one-bit", 1);
-    curves::others(b"curve exact", 0);
-    curves::others(b"curve one-bit", 1);
+    curves::house(exact, 0);
+    curves::house(one_bit, 1);
+    curves::others(exact, 0);
+    curves::others(one_bit, 1);
     curves::level_end();
     numbers::groups();
 }

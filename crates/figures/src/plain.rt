@@ -1,5 +1,6 @@
 // Plain arithmetic on words, apart from the engine's: products by doubling, floors by sign and size.
 // Sums wrap at 2^32; the curve's numbers stay far below that.
+use crate::lists::entry;
 use std::num::wrapping_add_u32;
 use std::num::wrapping_sub_u32;
 
@@ -40,8 +41,7 @@ const POWERS: [u32; 32] = [
 
 // 2^k, for k up to 31.
 pub(crate) fn power(k: u32) -> u32 {
-    let i = k as usize;
-    if i < 32 { POWERS[i] } else { 0 }
+    entry(&POWERS, k as usize)
 }
 
 pub(crate) fn negative(x: u32) -> bool {

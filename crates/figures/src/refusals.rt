@@ -3,142 +3,174 @@
 use crate::draw::lane;
 use crate::draw::list;
 use crate::draw::registers;
-use crate::lists::fresh_lane;
+use crate::lists::front;
 use crate::lists::same;
-use crate::lists::same_lane;
-use crate::lists::same_registers;
 use crate::tally::Tally;
 use dealer::Masks;
 use dealer::prepare;
+use hosts::Answer;
 use hosts::Registers;
 use hosts::State;
 use hosts::start;
 use jobs::Checked;
 use jobs::Which;
 
-// The number and the order's index that are due.
-pub(crate) struct Due {
-    pub(crate) number: u32,
-    pub(crate) index: u32,
+// Whether a lane has the drawn words that it was given, and 0 past them.
+fn kept_lane(now: [u32; 24], seed: u32, given: usize) -> bool {
+    let before = lane(seed);
+    same(&now, front(&before, given))
 }
 
-impl Due {
-    // Whether an answer has these two, and 0 for every other number.
-    fn is(self, number: u32, index: u32, other: u32, last: u32) -> bool {
-        number == self.number && index == self.index && other == 0 && last == 0
-    }
+// Whether a dealer has the masks that it was given.
+fn kept_masks(now: Masks) -> bool {
+    let l1 = now.l1;
+    let l2 = now.l2;
+    let before_l1 = registers(75);
+    let before_l2 = registers(76);
+    let kept_l1 = same(&l1, &before_l1);
+    let kept_l2 = same(&l2, &before_l2);
+    kept_l1 && kept_l2
 }
 
-fn at(order: u32, turn: u32, due_order: u32, due_turn: u32) -> bool {
-    order == due_order && turn == due_turn
+// A host's answer: the number and the order's index that are due, and the state that it was given.
+fn refused_answer(
+    number: u32,
+    index: u32,
+    host: u32,
+    order: u32,
+    turn: u32,
+    given: usize,
+    r: Answer,
+    t: Tally,
+) -> Tally {
+    let s = r.state;
+    let m = s.m;
+    let mask = s.mask;
+    let found = [r.number, r.index, r.spoken, r.word, s.order, s.turn];
+    let due = [number, index, 0, 0, order, turn];
+    let numbers = same(&found, &due);
+    let kept_m = kept_lane(m, 73, given);
+    let kept_mask = kept_lane(mask, 74, given);
+    let right = numbers && kept_m && kept_mask;
+    t.with(right, host, r.number, number)
 }
 
-// A number without an index.
-pub(crate) fn bare(number: u32) -> Due {
-    Due { number, index: 0 }
-}
-
+// With so many words of masks and of deals, as in the calls below.
 pub(crate) fn refused_start(
-    due: Due,
+    number: u32,
+    index: u32,
     host: u32,
     job: &[u32],
     table: &[u32],
-    masks: &[u32],
-    deals: &[u32],
+    masks: usize,
+    deals: usize,
     t: Tally,
 ) -> Tally {
-    let m = registers(71);
-    let mask = registers(72);
-    let r = start(host, job, table, masks, deals, Registers { m, mask });
-    let s = r.state;
-    let now_m = s.m;
-    let now_mask = s.mask;
-    let numbers = due.is(r.number, r.index, r.spoken, r.word) && at(s.order, s.turn, 0, 0);
-    let kept = fresh_lane(now_m, m) && fresh_lane(now_mask, mask);
-    t.with(numbers && kept, host, r.number, due.number)
+    let drawn = list(81);
+    let lent: &[u32] = &drawn;
+    let m = registers(73);
+    let mask = registers(74);
+    let r = start(
+        host,
+        job,
+        table,
+        front(lent, masks),
+        front(lent, deals),
+        Registers { m, mask },
+    );
+    refused_answer(number, index, host, 0, 0, 16, r, t)
 }
 
-// A state with drawn registers and kept words.
-pub(crate) fn standing(order: u32, turn: u32) -> State {
+// From a state with drawn registers and kept words.
+pub(crate) fn refused_hear(
+    number: u32,
+    index: u32,
+    host: u32,
+    order: u32,
+    turn: u32,
+    job: &[u32],
+    table: &[u32],
+    masks: usize,
+    deals: usize,
+    t: Tally,
+) -> Tally {
+    let drawn = list(81);
+    let lent: &[u32] = &drawn;
     let m = lane(73);
     let mask = lane(74);
-    State {
+    let s = State {
         m,
         mask,
         order,
         turn,
-    }
-}
-
-pub(crate) fn refused_hear(
-    due: Due,
-    host: u32,
-    s: State,
-    job: &[u32],
-    table: &[u32],
-    masks: &[u32],
-    deals: &[u32],
-    t: Tally,
-) -> Tally {
-    let m = s.m;
-    let mask = s.mask;
-    let r = s.hear(host, job, table, masks, deals, 123456789);
-    let left = r.state;
-    let now_m = left.m;
-    let now_mask = left.mask;
-    let numbers = due.is(r.number, r.index, r.spoken, r.word)
-        && at(left.order, left.turn, s.order, s.turn);
-    let kept = same_lane(now_m, m) && same_lane(now_mask, mask);
-    t.with(numbers && kept, host, r.number, due.number)
+    };
+    let r = s.hear(
+        host,
+        job,
+        table,
+        front(lent, masks),
+        front(lent, deals),
+        123456789,
+    );
+    refused_answer(number, index, host, order, turn, 24, r, t)
 }
 
 // The buffer is to stay as before.
-fn refused_with_buffer(
-    due: Due,
-    job: &[u32],
-    table: &[u32],
-    a: &[u32],
-    b: &[u32],
+fn refused_into(
     buffer: &mut [u32],
     before: &[u32],
-    t: Tally,
-) -> Tally {
-    let l1 = registers(75);
-    let l2 = registers(76);
-    let p = prepare(job, table, a, b, buffer, Masks { l1, l2 });
-    let now_l1 = p.masks.l1;
-    let now_l2 = p.masks.l2;
-    let numbers = due.is(p.number, p.index, p.deals, 0);
-    let kept = same_registers(now_l1, l1) && same_registers(now_l2, l2) && same(buffer, before);
-    t.with(numbers && kept, 0, p.number, due.number)
-}
-
-// Preparation into a buffer that is long enough.
-pub(crate) fn refused_preparation(
-    due: Due,
+    number: u32,
+    index: u32,
     job: &[u32],
     table: &[u32],
-    a: &[u32],
-    b: &[u32],
+    a: usize,
+    b: usize,
+    t: Tally,
+) -> Tally {
+    let drawn = list(81);
+    let lent: &[u32] = &drawn;
+    let l1 = registers(75);
+    let l2 = registers(76);
+    let p = prepare(
+        job,
+        table,
+        front(lent, a),
+        front(lent, b),
+        buffer,
+        Masks { l1, l2 },
+    );
+    let kept = same(buffer, before);
+    let kept_l = kept_masks(p.masks);
+    let right = p.number == number && p.index == index && p.deals == 0 && kept && kept_l;
+    t.with(right, 0, p.number, number)
+}
+
+// With so many words of A and of B, into a buffer that is long enough.
+pub(crate) fn refused_preparation(
+    number: u32,
+    index: u32,
+    job: &[u32],
+    table: &[u32],
+    a: usize,
+    b: usize,
     t: Tally,
 ) -> Tally {
     let before = list(77);
     let mut buffer = list(77);
-    refused_with_buffer(due, job, table, a, b, &mut buffer, &before, t)
+    refused_into(&mut buffer, &before, number, index, job, table, a, b, t)
 }
 
-// Preparation into a buffer of 13 words.
+// Into a buffer of 13 words.
 pub(crate) fn refused_short_preparation(
-    due: Due,
+    number: u32,
     job: &[u32],
     table: &[u32],
-    a: &[u32],
-    b: &[u32],
+    b: usize,
     t: Tally,
 ) -> Tally {
     let before = [7u32; 13];
     let mut buffer = [7u32; 13];
-    refused_with_buffer(due, job, table, a, b, &mut buffer, &before, t)
+    refused_into(&mut buffer, &before, number, 0, job, table, 512, b, t)
 }
 
 // Unused masks: only the number, and the whole list.
@@ -147,48 +179,44 @@ pub(crate) fn refused_leftover(
     job: &[u32],
     table: &[u32],
     which: Which,
-    masks: &[u32],
+    words: usize,
     t: Tally,
 ) -> Tally {
+    let drawn = list(81);
+    let masks = front(&drawn, words);
     let mut said: u32 = 99;
     let rest = leftovers::leftover(job, table, which, masks, &mut said);
-    let whole = rest.len() == masks.len() && same(rest, masks);
-    t.with(said == number && whole, 0, said, number)
+    let kept = same(rest, masks);
+    let right = said == number && kept && rest.len() == masks.len();
+    t.with(right, 0, said, number)
 }
 
-fn refused_check(due: Due, job: &[u32], table: &[u32], t: Tally) -> Tally {
+fn refused_check(number: u32, index: u32, job: &[u32], table: &[u32], t: Tally) -> Tally {
     match checks::check(job, table) {
-        Checked::Refused { number, index } => {
-            t.with(
-                number == due.number && index == due.index,
-                0,
-                number,
-                due.number,
-            )
+        Checked::Refused {
+            number: found,
+            index: place,
+        } => {
+            let right = found == number && place == index;
+            t.with(right, 0, found, number)
         }
         Checked::Accepted {
             deals: _,
             words: _,
             a: _,
             b: _,
-        } => t.with(false, 0, 0, due.number),
+        } => t.with(false, 0, 0, number),
     }
 }
 
 // Numbers 2 to 5: every call that checks a job.
-fn faulty_with(due: Due, job: &[u32], table: &[u32], a: &[u32], b: &[u32], t: Tally) -> Tally {
-    let mut sum = refused_check(due, job, table, t);
-    sum = refused_preparation(due, job, table, a, b, sum);
-    sum = refused_start(due, 1, job, table, a, b, sum);
-    sum = refused_start(due, 2, job, table, b, a, sum);
-    sum = refused_hear(due, 1, standing(0, 0), job, table, a, b, sum);
-    sum = refused_hear(due, 2, standing(7, 9), job, table, b, a, sum);
-    sum = refused_leftover(due.number, job, table, Which::ListA, a, sum);
-    refused_leftover(due.number, job, table, Which::ListB, b, sum)
-}
-
-pub(crate) fn faulty(due: Due, job: &[u32], table: &[u32], t: Tally) -> Tally {
-    let a = list(81);
-    let b = list(82);
-    faulty_with(due, job, table, &a, &b, t)
+pub(crate) fn faulty(number: u32, index: u32, job: &[u32], table: &[u32], t: Tally) -> Tally {
+    let mut sum = refused_check(number, index, job, table, t);
+    sum = refused_preparation(number, index, job, table, 512, 512, sum);
+    sum = refused_start(number, index, 1, job, table, 512, 512, sum);
+    sum = refused_start(number, index, 2, job, table, 512, 512, sum);
+    sum = refused_hear(number, index, 1, 0, 0, job, table, 512, 512, sum);
+    sum = refused_hear(number, index, 2, 7, 9, job, table, 512, 512, sum);
+    sum = refused_leftover(number, job, table, Which::ListA, 512, sum);
+    refused_leftover(number, job, table, Which::ListB, 512, sum)
 }

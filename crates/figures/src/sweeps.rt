@@ -2,6 +2,7 @@
 use crate::draw::one_of;
 use crate::draw::reading;
 use crate::draw::word;
+use crate::lists::entry;
 use crate::trials::Tallies;
 use crate::trials::Trial;
 use crate::trials::run_trial;
@@ -48,9 +49,8 @@ const EDGES: [u32; 16] = [
 
 // The first are edges; four of the sixteen are no readings.
 fn edge_or(i: u32, edges: u32, otherwise: u32) -> u32 {
-    let at = i as usize;
-    if i < edges && at < 16 {
-        EDGES[at]
+    if i < edges {
+        entry(&EDGES, i as usize)
     } else {
         otherwise
     }

@@ -57,7 +57,8 @@ impl Tally {
     }
 }
 
-fn print_signed(x: u32) {
+fn print_signed(name: &[u8], x: u32) {
+    io::write_all(1, name);
     if negative(x) {
         io::write_all(1, b"-");
         io::print_decimal(1, negated(x) as u64);
@@ -67,12 +68,9 @@ fn print_signed(x: u32) {
 }
 
 fn print_first(t: Tally) {
-    io::write_all(1, b"; the first: input ");
-    print_signed(t.input);
-    io::write_all(1, b", found ");
-    print_signed(t.found);
-    io::write_all(1, b", due ");
-    print_signed(t.due);
+    print_signed(b"; the first: input ", t.input);
+    print_signed(b", found ", t.found);
+    print_signed(b", due ", t.due);
 }
 
 // The group's line, which says more where a case went wrong.

@@ -5,7 +5,9 @@ use crate::draw::word;
 use crate::line::close_to_line;
 use crate::line::row_count;
 use crate::line::scaled_sum;
+use crate::lists::entry;
 use crate::lists::first_difference;
+use crate::lists::same;
 use crate::plain::carry;
 use crate::plain::floor_shift;
 use crate::plain::large_slack;
@@ -15,7 +17,6 @@ use crate::plain::one_bit;
 use crate::plain::product;
 use crate::tally::Tally;
 use crate::tally::none;
-use hosts::Answer;
 use shares::Opening;
 use std::num::wrapping_add_u32;
 use std::num::wrapping_sub_u32;
@@ -73,8 +74,7 @@ struct Inputs {
 }
 
 fn register(lane: [u32; 16], r: u32) -> u32 {
-    let i = r as usize;
-    if i < 16 { lane[i] } else { 0 }
+    entry(&lane, r as usize)
 }
 
 fn mask_sum(s: Shared, r: u32) -> u32 {
@@ -151,10 +151,6 @@ struct Cost {
     words: u32,
 }
 
-fn cost_of(deals: u32, words: u32) -> Cost {
-    Cost { deals, words }
-}
-
 // As many more for each row over the house table's eight, or fewer.
 fn by_rows(shown: u32, each: u32, rows: u32) -> u32 {
     wrapping_add_u32(shown, product(each, wrapping_sub_u32(rows, 8)))
@@ -163,19 +159,31 @@ fn by_rows(shown: u32, each: u32, rows: u32) -> u32 {
 // Document 01's table of costs.
 fn due_cost(kind: u32, fourth: u32, rows: u32) -> Cost {
     match kind {
-        4 => cost_of(1, 2),
-        5 => cost_of(0, 2),
-        6 => cost_of(1, 0),
-        7 => cost_of(3, 2),
-        8 => cost_of(16, 24),
-        9 => cost_of(14, 24),
+        4 => Cost { deals: 1, words: 2 },
+        5 => Cost { deals: 0, words: 2 },
+        6 => Cost { deals: 1, words: 0 },
+        7 => Cost { deals: 3, words: 2 },
+        8 => Cost {
+            deals: 16,
+            words: 24,
+        },
+        9 => Cost {
+            deals: 14,
+            words: 24,
+        },
         10 => {
             if fourth == 0 {
-                return cost_of(by_rows(128, 14, rows), by_rows(216, 24, rows));
+                return Cost {
+                    deals: by_rows(128, 14, rows),
+                    words: by_rows(216, 24, rows),
+                };
             }
-            cost_of(by_rows(115, 14, rows), by_rows(196, 24, rows))
+            Cost {
+                deals: by_rows(115, 14, rows),
+                words: by_rows(196, 24, rows),
+            }
         }
-        _ => cost_of(0, 0),
+        _ => Cost { deals: 0, words: 0 },
     }
 }
 
@@ -210,60 +218,55 @@ fn changed_register(s: Trio, before: Shared, target: u32) -> u32 {
     16
 }
 
-// A host at the end of one order, with so many words spoken.
-fn ended(a: Answer, spoken: u32) -> bool {
-    a.number == 0 && a.state.order == 1 && a.state.turn == 0 && a.spoken == spoken
-}
-
-// Nothing refused, and both hosts have spoken half the words.
+// Nothing refused, and both hosts at the end of one order have spoken half the words.
 fn finished(s: Trio, words: u32) -> bool {
     let one = s.one;
     let two = s.two;
-    s.number == 0 && ended(one, words / 2) && ended(two, words / 2)
+    let half = words / 2;
+    let found = [
+        s.number,
+        one.number,
+        one.state.order,
+        one.state.turn,
+        one.spoken,
+        two.number,
+        two.state.order,
+        two.state.turn,
+        two.spoken,
+    ];
+    let due = [0, 0, 1, 0, half, 0, 1, 0, half];
+    same(&found, &due)
 }
 
-fn with_counts(t: Tally, c: Trial, rows: u32, s: Trio, rest_kept: bool) -> Tally {
-    let due = due_cost(c.kind, c.fourth, rows);
-    let right = s.deals == due.deals && finished(s, due.words) && rest_kept;
-    t.with(right, c.x, s.deals, due.deals)
-}
-
-// The hosts after a trial's order, and whether the deal buffer has kept its later words.
+// The hosts after a trial's order, and whether the deal buffer has kept the words past the deals.
 struct Outcome {
     trio: Trio,
     rest_kept: bool,
 }
 
-// The trial's order run by the three hosts. The buffer was lent with the words of `lent`.
-fn run_lent(
-    c: Trial,
-    table: &[u32],
-    a: &[u32],
-    b: &[u32],
-    lent: &[u32],
-    deals: &mut [u32],
-    written: usize,
-) -> Outcome {
-    let job = [c.kind, c.target, c.source, c.fourth];
-    let trio = trio::run(&job, table, a, b, deals, drawn_shares(c));
-    let rest_kept = first_difference(deals, lent, written) == deals.len();
-    Outcome { trio, rest_kept }
+fn with_counts(t: Tally, c: Trial, rows: u32, o: Outcome) -> Tally {
+    let s = o.trio;
+    let due = due_cost(c.kind, c.fourth, rows);
+    let ended = finished(s, due.words);
+    let right = s.deals == due.deals && ended && o.rest_kept;
+    t.with(right, c.x, s.deals, due.deals)
 }
 
-// The lists are drawn from the trial's seed.
-fn drawn_run(c: Trial, table: &[u32]) -> Outcome {
-    let written = due_cost(c.kind, c.fourth, row_count(table)).deals as usize;
-    let stream = word(c.seed, 6);
-    let lent = list(stream);
-    let mut deals = list(stream);
+// The trial's order run by the three hosts, on lists drawn from its seed.
+fn run(c: Trial, table: &[u32]) -> Outcome {
+    let job = [c.kind, c.target, c.source, c.fourth];
     let a = list(word(c.seed, 4));
     let b = list(word(c.seed, 5));
-    run_lent(c, table, &a, &b, &lent, &mut deals, written)
+    let lent = list(word(c.seed, 6));
+    let mut deals = lent;
+    let trio = trio::run(&job, table, &a, &b, &mut deals, drawn_shares(c));
+    let rest_kept = first_difference(&deals, &lent, trio.deals as usize) == 512;
+    Outcome { trio, rest_kept }
 }
 
 // What the engine opens at a trial's target.
 pub(crate) fn opened_by(c: Trial, table: &[u32]) -> Opening {
-    let o = drawn_run(c, table);
+    let o = run(c, table);
     let s = o.trio;
     trio::opened(s, c.target as usize)
 }
@@ -272,7 +275,7 @@ pub(crate) fn opened_by(c: Trial, table: &[u32]) -> Opening {
 pub(crate) fn run_trial(c: Trial, table: &[u32], t: Tallies) -> Tallies {
     let before = drawn_shares(c);
     let rows = row_count(table);
-    let o = drawn_run(c, table);
+    let o = run(c, table);
     let s = o.trio;
     let due = plain_value(c.kind, c.fourth, given(c, before, rows), table);
     let result = trio::opened(s, c.target as usize);
@@ -283,6 +286,6 @@ pub(crate) fn run_trial(c: Trial, table: &[u32], t: Tallies) -> Tallies {
         line: t.line
             .with(close_to_line(found, c.x, table), c.x, found, due),
         kept: t.kept.with(other == 16, c.x, other, 16),
-        counts: with_counts(t.counts, c, rows, s, o.rest_kept),
+        counts: with_counts(t.counts, c, rows, o),
     }
 }

@@ -5,19 +5,17 @@ use crate::tally::Tally;
 use crate::tally::none;
 use crate::tally::print;
 use crate::trials::opened_word;
-use shares::Opening;
+use crate::trials::opens;
 use shares::Sharing;
 use std::num::wrapping_sub_u32;
 use trio::Shared;
 
 // x = 0 under masks that add up to 2^31, in register 0.
 fn zero_shared(l1: u32) -> Shared {
-    let mut first = [0u32; 16];
-    let mut second = [0u32; 16];
-    let mut m = [0u32; 16];
-    first[0] = l1;
-    second[0] = wrapping_sub_u32(2147483648, l1);
-    m[0] = 2147483648;
+    let m = [2147483648, 0, 0, 0, 0, 0, 0, 0, 0, 0, 0, 0, 0, 0, 0, 0];
+    let first = [l1, 0, 0, 0, 0, 0, 0, 0, 0, 0, 0, 0, 0, 0, 0, 0];
+    let rest = wrapping_sub_u32(2147483648, l1);
+    let second = [rest, 0, 0, 0, 0, 0, 0, 0, 0, 0, 0, 0, 0, 0, 0, 0];
     Shared {
         m,
         l1: first,
@@ -25,20 +23,21 @@ fn zero_shared(l1: u32) -> Shared {
     }
 }
 
-fn lowest(o: Opening) -> bool {
-    match o {
-        Opening::Opened(z) => z == -2147483648,
-        Opening::Disagree => false,
-    }
-}
-
 // Kind 6 on it with k = 1.
 fn slack(l1: u32, t: Tally) -> Tally {
     let a = list(51);
     let mut deals = list(53);
-    let s = trio::run(&[6, 0, 0, 1], &[], &a, &[], &mut deals, zero_shared(l1));
+    let nothing: &[u32] = &[];
+    let s = trio::run(
+        &[6, 0, 0, 1],
+        nothing,
+        &a,
+        nothing,
+        &mut deals,
+        zero_shared(l1),
+    );
     let o = trio::opened(s, 0);
-    t.with(lowest(o), l1, opened_word(o), 2147483648)
+    t.with(opens(o, 2147483648), l1, opened_word(o), 2147483648)
 }
 
 // A reading that is split and opens again.
@@ -46,12 +45,7 @@ fn accepted(reading: u32, t: Tally) -> Tally {
     match shares::share(number(reading), 2654435769, 2246822519) {
         Sharing::Shared(s) => {
             let o = shares::reconstruct(s);
-            t.with(
-                crate::trials::opens(o, reading),
-                reading,
-                opened_word(o),
-                reading,
-            )
+            t.with(opens(o, reading), reading, opened_word(o), reading)
         }
         Sharing::OutOfRange => t.with(false, reading, 11, 0),
     }
@@ -65,33 +59,26 @@ fn out_of_range(reading: u32, t: Tally) -> Tally {
     }
 }
 
-fn slacks() {
-    let t = slack(0, slack(1, slack(2147483648, slack(3735928559, none()))));
+pub(crate) fn slacks() {
+    let mut t = slack(3735928559, none());
+    t = slack(2147483648, t);
+    t = slack(1, t);
+    t = slack(0, t);
     print(b"kind 6, x = 0, k = 1, L = 2^31 opens -2^31", t);
 }
 
-fn splits() {
-    let t = accepted(
-        0,
-        accepted(
-            4294967295,
-            accepted(3221225472, accepted(1073741823, none())),
-        ),
-    );
+pub(crate) fn splits() {
+    let mut t = accepted(1073741823, none());
+    t = accepted(3221225472, t);
+    t = accepted(4294967295, t);
+    t = accepted(0, t);
     print(b"splitting -2^30, -1, 0 and 2^30 - 1, opened again", t);
-}
-
-fn refused_splits() {
-    let near = out_of_range(1073741824, out_of_range(3221225471, none()));
-    let t = out_of_range(2147483647, out_of_range(2147483648, near));
+    t = out_of_range(3221225471, none());
+    t = out_of_range(1073741824, t);
+    t = out_of_range(2147483648, t);
+    t = out_of_range(2147483647, t);
     print(
         b"refused 11, splitting 2^30, -2^30 - 1, 2^31 - 1 and -2^31",
         t,
     );
-}
-
-pub(crate) fn cases() {
-    slacks();
-    splits();
-    refused_splits();
 }

@@ -4,10 +4,10 @@ use Rattle.figures.proofs.faults.faulty_orders.Statement.{statement}
 use Rattle.figures.proofs.faults.faulty_orders.Tie as tie
 
 abbrev Inv-loop : tie.InvT-loop
-Inv-loop number t₀ row₀ t row = row ≤ 28
+Inv-loop number t₀ row₀ t row = row ≤ 144
 
 abbrev μ-loop : tie.MeasureT-loop
-μ-loop number t₀ row₀ t row = 28 - row
+μ-loop number t₀ row₀ t row = 140 - row
 
 none-requires : tie.Need-none-requires Inv-loop μ-loop
 none-requires c κs = search needs

@@ -4,22 +4,22 @@ use Rattle.figures.proofs.line.reached.Statement.{statement}
 use Rattle.figures.proofs.line.reached.Tie as tie
 
 abbrev Inv-loop : tie.InvT-loop
-Inv-loop x table n last₀ row₀ last row = (row ≤ 16) × (1 ≤ row)
+Inv-loop x table last₀ at₀ last at = at ≤ 31
 
 abbrev μ-loop : tie.MeasureT-loop
-μ-loop x table n last₀ row₀ last row = 16 - row
+μ-loop x table last₀ at₀ last at = 30 - at
 
 loop-holds : tie.Need-loop-holds Inv-loop μ-loop
 loop-holds c = search needs
 
-mul-entry : tie.Need-mul-entry Inv-loop μ-loop
-mul-entry c = search needs
+add-if1 : tie.Need-add-if1 Inv-loop μ-loop
+add-if1 c = search needs
 
 entry-requires : tie.Need-entry-requires Inv-loop μ-loop
 entry-requires c κs = search needs
 
-add-row : tie.Need-add-row Inv-loop μ-loop
-add-row c = search needs
+add-at : tie.Need-add-at Inv-loop μ-loop
+add-at c = search needs
 
 loop-less : tie.Need-loop-less Inv-loop μ-loop
 loop-less c = search needs
@@ -37,9 +37,9 @@ reached-spec =
     Inv-loop
     μ-loop
     loop-holds
-    mul-entry
+    add-if1
     entry-requires
-    add-row
+    add-at
     loop-less
     loop-again
     returns)
