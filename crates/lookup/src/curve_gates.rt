@@ -107,7 +107,7 @@ fn refreshed_gate(d: u32, i: usize) -> Fetched
 }
 
 // Rows are counted by division, so that no index of any table overflows.
-pub fn curve_gate(mode: u32, x: u32, d: u32, table: &[u32], i: usize) -> Fetched
+pub(crate) fn curve_gate(mode: u32, x: u32, d: u32, table: &[u32], i: usize) -> Fetched
     ensures { λ f. ⌜ f ≡ fetched (curve-program 32 x d (rows (now (table .entry))) mode) i ⌝ }
 {
     if i == 0 {

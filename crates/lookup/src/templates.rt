@@ -30,7 +30,7 @@ fn power(top: u32, k: u32) -> u32
     if k < top { 1u32 << (top - k) } else { 1 }
 }
 
-pub fn minus(n: u32) -> u32
+pub(crate) fn minus(n: u32) -> u32
     ensures { λ m. ⌜ m ≡ neg 32 n ⌝ }
 {
     std::num::wrapping_sub_u32(0, n)
@@ -152,7 +152,7 @@ fn decode(packed: u32, k: u32, x: u32, d: u32) -> Gate
 
 const SLACK: [u32; 3] = [12_16_24_04, 10_17_24_04, 00_25_16_17];
 
-pub fn slack_gate(k: u32, x: u32, d: u32, i: usize) -> Fetched
+pub(crate) fn slack_gate(k: u32, x: u32, d: u32, i: usize) -> Fetched
     ensures { λ f. ⌜ f ≡ fetched (slack-program k x d) i ⌝ }
 {
     if i < 3 {
@@ -180,7 +180,7 @@ const ONE_BIT: [u32; 13] = [
     06_25_18_10,
 ];
 
-pub fn one_bit_gate(k: u32, x: u32, d: u32, i: usize) -> Fetched
+pub(crate) fn one_bit_gate(k: u32, x: u32, d: u32, i: usize) -> Fetched
     ensures { λ f. ⌜ f ≡ fetched (one-bit-program 32 k x d) i ⌝ }
 {
     if i < 13 {
@@ -245,7 +245,7 @@ const EXACT: [u32; 50] = [
     06_25_23_12,
 ];
 
-pub fn exact_gate(k: u32, x: u32, d: u32, i: usize) -> Fetched
+pub(crate) fn exact_gate(k: u32, x: u32, d: u32, i: usize) -> Fetched
     ensures { λ f. ⌜ f ≡ fetched (exact-program 32 k x d) i ⌝ }
 {
     if i < 50 {
@@ -299,7 +299,7 @@ const RELU: [u32; 39] = [
     03_25_24_19,
 ];
 
-pub fn relu_gate(x: u32, d: u32, i: usize) -> Fetched
+pub(crate) fn relu_gate(x: u32, d: u32, i: usize) -> Fetched
     ensures { λ f. ⌜ f ≡ fetched (relu-program 32 x d) i ⌝ }
 {
     if i < 39 {
