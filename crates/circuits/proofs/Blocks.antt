@@ -8,12 +8,12 @@ use lib.Dec.{eqb, ltb}
 use lib.Bits.{bitXor, xor-lt, xor-comm}
 use lib.Seq.{getD-set-same}
 use Rattle.words.specs.Words.{add, sub, neg, mul, bit, shr, numbers, bits}
-use Rattle.words.specs.Adder.{Update, generate, propagate, update, distances, updates, run, carries, sign}
-use Rattle.words.specs.Truncation.{bit-number}
+use Rattle.truncations.specs.Adder.{Update, generate, propagate, update, distances, updates, run, carries, sign}
+use Rattle.truncations.specs.Truncation.{bit-number}
 use Rattle.words.proofs.Bits.{bit-lt}
 use Rattle.words.proofs.Words.{mul-comm as times-comm, sub-is}
-use Rattle.words.proofs.Adder.{sign-bit}
-use Rattle.words.proofs.Truncation.{bit-number-xor}
+use Rattle.truncations.proofs.Adder.{sign-bit}
+use Rattle.truncations.proofs.Truncation.{bit-number-xor}
 use Rattle.shares.specs.Gates.{Share, value}
 use Rattle.gates.specs.declared.Part.the-variants.{Field}
 use Rattle.gates.specs.declared.Gate.{Gate}

@@ -11,19 +11,19 @@ use lib.IntN.{ℤ, pos, negsuc, _+ℤ_}
 use lib.Signed.{mag}
 use Rattle.words.specs.Words.{add, sub, numbers}
 use Rattle.words.specs.Signed.{floor, signed, wrap, shr-signed, in-range}
-use Rattle.words.specs.Truncation.{slip}
+use Rattle.truncations.specs.Truncation.{slip}
 use Rattle.words.proofs.Solver.{exprs}
 use Rattle.words.proofs.Below.{number-carrier, solve-below}
 use Rattle.words.proofs.Words.{add-lt}
 use Rattle.words.proofs.Integers.{le-or-lt, sub-ge, sub-below}
 use Rattle.words.proofs.Signed.{signed-shr, signed-wrap, wrap-lt, mag-floor}
-use Rattle.words.proofs.Truncation.{one-bit-floor}
+use Rattle.truncations.proofs.Truncation.{one-bit-floor}
 use Rattle.tables.specs.Table.{Row, rows, keeps-rules}
-use Rattle.tables.specs.Curve.{scaled, last-count, slope-after, word-sum, word-curve}
+use Rattle.curves.specs.Curve.{scaled, last-count, slope-after, word-sum, word-curve}
 use Rattle.tables.proofs.Rows.{for-table}
-use Rattle.tables.proofs.Curve.{scaled-mag}
-use Rattle.tables.proofs.Wrapping.{wrap-add, word-low}
-use Rattle.tables.proofs.WordCurve.{in-range-reads, above-reads}
+use Rattle.curves.proofs.Curve.{scaled-mag}
+use Rattle.curves.proofs.Wrapping.{wrap-add, word-low}
+use Rattle.curves.proofs.WordCurve.{in-range-reads, above-reads}
 use Rattle.circuits.specs.Opens.{curve-value}
 
 -- the sum of words is a word

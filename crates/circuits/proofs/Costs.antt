@@ -5,14 +5,14 @@ use Prim.Native.Nat.{ℕ, _+_, _*_, _%_, _^_}
 use native.Mathlib.Omega.{arith}
 use lib.IntN.{ℤ, pos}
 use lib.ListN.{length}
-use Rattle.words.specs.Adder.{doubled, distances, updates}
+use Rattle.truncations.specs.Adder.{doubled, distances, updates}
 use Rattle.gates.specs.declared.Gate.{Gate}
 use Rattle.gates.specs.declared.Gate.the-variants.{Add, Sub, Mul, Refresh, Scale, Plus, Const}
 use Rattle.gates.specs.Meaning.{meaning, order-steps}
 use Rattle.gates.specs.Costs.{cost-of, plus, step-cost, cost}
 use Rattle.gates.proofs.Needs.{cost-path}
 use Rattle.tables.specs.Table.{Row}
-use Rattle.tables.specs.Curve.{slope-after, coefficient}
+use Rattle.curves.specs.Curve.{slope-after, coefficient}
 use Rattle.circuits.specs.Programs.{update-gates, rounds, adder, to-number, relu-program, slack-program, one-bit-program, exact-program, row-program, rows-program, sum-program, curve-exact, curve-one-bit}
 use Rattle.circuits.specs.Costs.{program-cost}
 

@@ -18,7 +18,7 @@ use Rattle.shares.specs.Gates.{value}
 use Rattle.gates.specs.declared.Gate.{Gate}
 use Rattle.gates.specs.declared.Gate.the-variants.{Add, Scale, Plus, Const}
 use Rattle.tables.specs.Table.{Row}
-use Rattle.tables.specs.Curve.{relu, slope-after, coefficient, relu-word, word-sum, word-curve}
+use Rattle.curves.specs.Curve.{relu, slope-after, coefficient, relu-word, word-sum, word-curve}
 use Rattle.circuits.specs.Programs.{relu-program, row-program, rows-program, sum-program}
 use Rattle.circuits.proofs.Gates.{share, Fits}
 use Rattle.circuits.proofs.Points.{not-temporary, target, Point, after, afters, afters-append, num, keep-share, keep-num}

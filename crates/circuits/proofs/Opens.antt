@@ -10,18 +10,18 @@ use lib.ListN.{getD, length}
 use lib.Seq.{getD-set-same}
 use Rattle.words.specs.Words.{add, sub, numbers}
 use Rattle.words.specs.Signed.{shr-signed}
-use Rattle.words.specs.Truncation.{large-slack, one-bit}
+use Rattle.truncations.specs.Truncation.{large-slack, one-bit}
 use Rattle.words.proofs.Solver.{exprs}
 use Rattle.words.proofs.Below.{number-carrier, solve-below}
 use Rattle.words.proofs.Words.{add-lt, sub-lt}
-use Rattle.words.proofs.Truncation.{exact-floor}
+use Rattle.truncations.proofs.Truncation.{exact-floor}
 use Rattle.gates.specs.declared.Gate.{Gate}
 use Rattle.gates.specs.declared.Gate.the-variants.{Add, Sub, Mul, Refresh, Scale, Plus}
 use Rattle.gates.specs.Steps.{at, new-at}
 use Rattle.gates.specs.Meaning.{meaning}
 use Rattle.gates.specs.Parties.{act}
 use Rattle.tables.specs.Table.{Row}
-use Rattle.tables.specs.Curve.{relu-word, word-curve}
+use Rattle.curves.specs.Curve.{relu-word, word-curve}
 use Rattle.circuits.specs.Programs.{relu-program, slack-program, one-bit-program, exact-program, sum-program, curve-exact, curve-one-bit}
 use Rattle.circuits.specs.Orders.{curve-program, kinds}
 use Rattle.circuits.specs.Opens.{curve-value, values}

@@ -7,8 +7,8 @@ use native.Mathlib.Nat.{mod-eq-of-lt, lt-of-le-of-lt}
 use lib.Dec.{eqb, ltb}
 use lib.Pow.{shr-le}
 use Rattle.words.specs.Words.{add, sub, neg, mul, bit, shr, numbers, bits}
-use Rattle.words.specs.Adder.{carries}
-use Rattle.words.specs.Truncation.{bit-number, large-slack, one-bit, exact}
+use Rattle.truncations.specs.Adder.{carries}
+use Rattle.truncations.specs.Truncation.{bit-number, large-slack, one-bit, exact}
 use Rattle.words.proofs.Words.{mul-comm as times-comm, mul-mod-mod, sub-is, neg-lt, add-lt}
 use Rattle.shares.specs.Gates.{value}
 use Rattle.gates.specs.declared.Part.the-variants.{Field}

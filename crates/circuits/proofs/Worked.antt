@@ -7,9 +7,9 @@ use lib.Dec.{ltb, lit≤, lit<}
 use lib.IntN.{ℤ, pos, negsuc}
 use Rattle.words.specs.Words.{add, sub, mul, bit, shr}
 use Rattle.words.specs.Signed.{floor, signed, wrap, shr-signed}
-use Rattle.words.specs.Truncation.{bit-number, one-bit}
+use Rattle.truncations.specs.Truncation.{bit-number, one-bit}
 use Rattle.tables.specs.Table.{rows, slope, house}
-use Rattle.tables.specs.Curve.{relu, slope-after, coefficient, relu-word, word-sum, word-curve}
+use Rattle.curves.specs.Curve.{relu, slope-after, coefficient, relu-word, word-sum, word-curve}
 use Rattle.circuits.specs.Programs.{exact-program, one-bit-program, curve-exact}
 use Rattle.circuits.proofs.Gates.{Fits}
 use Rattle.circuits.proofs.Points.{Point, afters, num}

@@ -4,9 +4,9 @@ use Prim.Native.Nat.{ℕ, zero, suc}
 use lib.ListN.{getD}
 use Rattle.words.specs.Words.{add, sub, mul}
 use Rattle.words.specs.Signed.{shr-signed}
-use Rattle.words.specs.Truncation.{large-slack, one-bit}
+use Rattle.truncations.specs.Truncation.{large-slack, one-bit}
 use Rattle.tables.specs.Table.{Row}
-use Rattle.tables.specs.Curve.{relu-word, word-curve}
+use Rattle.curves.specs.Curve.{relu-word, word-curve}
 use Rattle.circuits.specs.declared.Order.{Order}
 
 -- the curve of x: the sum of words, truncated exactly, or by one bit with the refresh's mask R

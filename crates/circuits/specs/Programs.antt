@@ -3,13 +3,13 @@ use mathlib.Core.List.{List, [], _∷_, _++_}
 use Prim.Native.Nat.{ℕ, _+_, _-_, _*_, _%_, _^_}
 use lib.IntN.{ℤ, pos}
 use Rattle.words.specs.Words.{neg}
-use Rattle.words.specs.Adder.{Update, generate, propagate, distances, updates}
+use Rattle.truncations.specs.Adder.{Update, generate, propagate, distances, updates}
 use Rattle.gates.specs.declared.Part.the-variants.{Field, Signed}
 use Rattle.gates.specs.declared.Dealt.the-variants.{OfSum, OfNegated, OfBits}
 use Rattle.gates.specs.declared.Gate.{Gate}
 use Rattle.gates.specs.declared.Gate.the-variants.{Add, Sub, Xor, Mul, And, Refresh, Scale, Plus, Up, Bit, Const, Public, Deal, DealBits}
 use Rattle.tables.specs.Table.{Row}
-use Rattle.tables.specs.Curve.{slope-after, coefficient}
+use Rattle.curves.specs.Curve.{slope-after, coefficient}
 
 -- the temporaries
 abbrev pub n-slot : ℕ

@@ -6,14 +6,14 @@ use native.Mathlib.Numerals.{add-one}
 use native.Mathlib.Omega.{arith}
 use lib.IntN.{ℤ, pos}
 use lib.ListN.{length, getD, drop, length-append}
-use Rattle.words.specs.Adder.{doubled, distances, updates}
+use Rattle.truncations.specs.Adder.{doubled, distances, updates}
 use Rattle.gates.specs.declared.Gate.{Gate}
 use Rattle.gates.specs.declared.Gate.the-variants.{Refresh}
 use Rattle.gates.specs.Steps.{Step}
 use Rattle.gates.specs.Meaning.{meaning, order-steps}
 use Rattle.gates.specs.Costs.{Cost, cost}
 use Rattle.tables.specs.Table.{Row}
-use Rattle.tables.specs.Curve.{slope-after, coefficient}
+use Rattle.curves.specs.Curve.{slope-after, coefficient}
 use Rattle.circuits.specs.declared.Order.{Order}
 use Rattle.lookup.specs.declared.Fetched.the-variants.{At, Past}
 use Rattle.circuits.specs.Programs.{update-gates, rounds, adder, to-number, relu-program, slack-program, one-bit-program, exact-program, row-program, rows-program, sum-program, curve-exact, curve-one-bit}

@@ -18,12 +18,12 @@ use dealings::Used;
 use dealings::deal_gate;
 use gates::Gate;
 use gates::Shape;
+use lendings::check_dealer;
+use lendings::fresh;
 use lookup::Fetched;
 use lookup::fetch;
 use orders::order_at;
-use parties::check_dealer;
-use parties::fresh;
-use speech::shape_of;
+use shapes::shape_of;
 
 // ---- the lanes: the registers, with temporaries behind them that are 0 at first
 

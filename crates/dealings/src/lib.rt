@@ -8,11 +8,11 @@ use deals::deal_word;
 use gates::Gate;
 use gates::Shape;
 use lanes::step_mask;
+use shapes::shape_of;
 use slots::put;
 use slots::put_word;
 use slots::word_after;
 use slots::word_at;
-use speech::shape_of;
 
 // The words used of A and of B, and the deals written.
 pub struct Used {

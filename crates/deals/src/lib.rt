@@ -6,8 +6,8 @@ ghost use Rattle.gates.specs.Speech.{dealt-word};
 ghost use Rattle.gates.specs.Meaning.{meaning, dealt-of};
 use gates::Dealt;
 use gates::Gate;
+use parts::part_of;
 use slots::at;
-use slots::part_of;
 
 // -x modulo 2^32.
 fn negated(x: u32) -> u32

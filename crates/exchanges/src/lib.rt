@@ -10,11 +10,11 @@ use gates::Gate;
 use gates::Shape;
 use lanes::step_m;
 use lanes::step_mask;
+use shapes::shape_of;
 use slots::put;
 use slots::word_after;
 use slots::word_at;
 use speech::met_word;
-use speech::shape_of;
 use speech::word1;
 use speech::word2;
 

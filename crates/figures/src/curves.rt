@@ -1,31 +1,38 @@
 // The curve on the house table and on others: what it opens, how close to the line, and that it is level from the last row on.
 use crate::draw::table;
 use crate::lists::entry;
-use crate::lists::front;
+use crate::lists::part;
+use crate::sums::Sums;
+use crate::sums::no_trials;
+use crate::sums::print_rest;
+use crate::sums::print_values;
 use crate::sweeps::Plan;
 use crate::sweeps::Readings;
 use crate::sweeps::sweep;
-use crate::tally::Tally;
-use crate::tally::none;
-use crate::tally::print;
-use crate::trials::Tallies;
 use crate::trials::Trial;
-use crate::trials::no_cases;
-use crate::trials::opened_by;
-use crate::trials::opened_word;
-use crate::trials::opens;
-use shares::Opening;
+use crate::trials::opened;
+use crate::trials::run_trial;
 use std::num::wrapping_add_u32;
 
-const DOWN: [u32; 4] = [0, 20000, 4095, 0];
-
-const DROP: [u32; 4] = [0, 20000, 1, 0];
-
-const JUMP: [u32; 4] = [4094, 0, 4095, 20000];
-
-const LEVEL: [u32; 4] = [17, 7, 3000, 7];
-// Sixteen rows that fall all the way, with slopes that are no whole numbers.
-const FALL: [u32; 32] = [
+// Four tables of two rows; sixteen rows that fall all the way, with slopes that are no whole numbers; sixteen neighbouring counts,
+// from one end of the range to the other and back.
+const TABLES: [u32; 80] = [
+    0,
+    20000,
+    4095,
+    0, //
+    0,
+    20000,
+    1,
+    0, //
+    4094,
+    0,
+    4095,
+    20000, //
+    17,
+    7,
+    3000,
+    7, //
     0,
     20000,
     273,
@@ -57,10 +64,7 @@ const FALL: [u32; 32] = [
     3822,
     1338,
     4095,
-    5,
-];
-// Sixteen neighbouring counts, from one end of the range to the other and back.
-const ZIGZAG: [u32; 32] = [
+    5, //
     1000,
     0,
     1001,
@@ -92,8 +96,17 @@ const ZIGZAG: [u32; 32] = [
     1014,
     0,
     1015,
-    20000,
+    20000, //
 ];
+
+// One of the six, by its number.
+fn fixed_table<'a>(tables: &'a [u32], i: u32) -> &'a [u32] {
+    match i {
+        4 => part(tables, 16, 32),
+        5 => part(tables, 48, 32),
+        _ => part(tables, i % 4 * 4, 4),
+    }
+}
 
 fn curve(mode: u32, readings: Readings, seed: u32) -> Plan {
     Plan {
@@ -104,86 +117,62 @@ fn curve(mode: u32, readings: Readings, seed: u32) -> Plan {
     }
 }
 
-// The lines of a sweep, after the mode's name.
-fn print_values(name: &[u8], table: &[u8], t: Tallies) {
-    io::write_all(1, name);
-    print(table, t.value);
-    io::write_all(1, name);
-    io::write_all(1, table);
-    print(b", above C - 2 and below C + 1", t.line);
-}
-
-pub(crate) fn print_rest(name: &[u8], table: &[u8], t: Tallies) {
-    io::write_all(1, name);
-    io::write_all(1, table);
-    print(b", the fifteen other registers", t.kept);
-    io::write_all(1, name);
-    io::write_all(1, table);
-    print(b", deals, words spoken, rest of the deal buffer", t.counts);
-}
-
 // Every count, then readings of the whole range.
-pub(crate) fn house(name: &[u8], mode: u32) {
-    let table = tables::house();
-    let rows: &[u32] = &table;
-    let t = sweep(curve(mode, Readings::Counts, 21), rows, 4096, no_cases());
-    print_values(name, b", house table, counts 0 to 4095", t);
-    let r = sweep(curve(mode, Readings::Range, 22), rows, 1000, t.carried());
-    print_values(name, b", house table, readings in range", r);
-    print_rest(name, b", house table, both", r);
-}
-
-fn on_table(rows: &[u32], mode: u32, seed: u32, t: Tallies) -> Tallies {
-    sweep(curve(mode, Readings::Near, seed), rows, 300, t)
-}
-
-fn fixed_tables(mode: u32) -> Tallies {
-    let mut t = on_table(&DOWN, mode, 31, no_cases());
-    t = on_table(&DROP, mode, 32, t);
-    t = on_table(&JUMP, mode, 33, t);
-    t = on_table(&LEVEL, mode, 34, t);
-    t = on_table(&FALL, mode, 35, t);
-    on_table(&ZIGZAG, mode, 36, t)
+pub(crate) fn house(mode: u32) {
+    let name = wrapping_add_u32(20, mode);
+    let rows: &[u32] = &tables::HOUSE;
+    let counts = sweep(curve(mode, Readings::Counts, 21), rows, 4096);
+    print_values(name, 22, counts);
+    let range = sweep(curve(mode, Readings::Range, 22), rows, 1000);
+    print_values(name, 23, range);
+    print_rest(name, 24, counts.plus(range));
 }
 
 // A drawn table with 2 to 16 rows, narrow or wide ones.
-fn on_drawn_table(i: u32, mode: u32, t: Tallies) -> Tallies {
+fn on_drawn_table(i: u32, mode: u32) -> Sums {
     let seed = wrapping_add_u32(100, i);
     let gap = if i % 3 == 0 { 4 } else { 250 };
     let rows = table(seed, gap);
-    let length = (i % 15 * 2 + 4) as usize;
-    on_table(front(&rows, length), mode, seed, t)
+    let length = i % 15 * 2 + 4;
+    sweep(
+        curve(mode, Readings::Near, seed),
+        part(&rows, 0, length),
+        300,
+    )
 }
 
-fn drawn_tables(mode: u32, t: Tallies) -> Tallies {
-    let mut sum = t;
-    let mut i: u32 = 0;
-    while i < 15 {
-        sum = on_drawn_table(i, mode, sum);
-        i += 1;
+// Six fixed tables, then fifteen drawn ones.
+fn on_table(i: u32, mode: u32) -> Sums {
+    if 5 < i {
+        return on_drawn_table(i - 6, mode);
     }
-    sum
+    let plan = curve(mode, Readings::Near, wrapping_add_u32(31, i));
+    sweep(plan, fixed_table(&TABLES, i), 300)
 }
 
 // Tables of 2 to 16 rows, those that fall among them.
-pub(crate) fn others(name: &[u8], mode: u32) {
-    let t = drawn_tables(mode, fixed_tables(mode));
-    print_values(name, b", 21 tables of 2 to 16 rows", t);
-    print_rest(name, b", 21 tables of 2 to 16 rows", t);
+pub(crate) fn others(mode: u32) {
+    let mut sum = no_trials();
+    let mut i: u32 = 0;
+    while i < 21 {
+        sum = sum.plus(on_table(i, mode));
+        i += 1;
+    }
+    let name = wrapping_add_u32(20, mode);
+    print_values(name, 25, sum);
+    print_rest(name, 25, sum);
 }
 
-fn opened_at(rows: &[u32], mode: u32, x: u32) -> Opening {
-    opened_by(
-        Trial {
-            kind: 10,
-            target: 3,
-            source: 5,
-            fourth: mode,
-            x,
-            seed: 41,
-        },
-        rows,
-    )
+fn opened_at(rows: &[u32], mode: u32, x: u32) -> i64 {
+    let trial = Trial {
+        kind: 10,
+        target: 3,
+        source: 5,
+        fourth: mode,
+        x,
+        seed: 41,
+    };
+    opened(run_trial(trial, rows), 3)
 }
 
 // The last are no readings that can be split, and open the same all the way to 2^31 - 1.
@@ -202,35 +191,22 @@ const ABOVE: [u32; 12] = [
     2147479552,
 ];
 
-fn alike_at(rows: &[u32], mode: u32, x: u32, due: u32, t: Tally) -> Tally {
-    let o = opened_at(rows, mode, x);
-    t.with(opens(o, due), x, opened_word(o), due)
+// Under the same lists a reading above the last row's count opens what that count opens: twelve readings, in both modes. No word's
+// number is above 2^31 - 1.
+fn unlike(rows: &[u32], last: u32, i: u32) -> u32 {
+    let mode = i / 12 % 2;
+    let due = opened_at(rows, mode, last);
+    let found = opened_at(rows, mode, wrapping_add_u32(last, entry(&ABOVE, i % 12)));
+    ((found != due) | (found > 2147483647)) as u32
 }
 
-// Under the same lists a reading above the last row opens what the last row's count opens.
-fn alike_above(rows: &[u32], mode: u32, last: u32, t: Tally) -> Tally {
-    let due = opened_word(opened_at(rows, mode, last));
-    let mut sum = t;
-    let mut i: usize = 0;
-    while i < 12 {
-        sum = alike_at(rows, mode, wrapping_add_u32(last, ABOVE[i]), due, sum);
-        i += 1;
+// On the house table and on three of the fixed ones, 24 cases each.
+pub(crate) fn level_end(i: u32) -> u32 {
+    let fixed: &[u32] = &TABLES;
+    match i / 24 {
+        0 => unlike(&tables::HOUSE, 3572, i),
+        1 => unlike(part(fixed, 0, 4), 4095, i),
+        2 => unlike(part(fixed, 16, 32), 4095, i),
+        _ => unlike(part(fixed, 48, 32), 1015, i),
     }
-    sum
-}
-
-// In both modes.
-fn alike(rows: &[u32], t: Tally) -> Tally {
-    let end = rows.len();
-    let last = if end < 2 { 0 } else { entry(rows, end - 2) };
-    alike_above(rows, 1, last, alike_above(rows, 0, last, t))
-}
-
-pub(crate) fn level_end() {
-    let house = tables::house();
-    let mut t = alike(&house, none());
-    t = alike(&DOWN, t);
-    t = alike(&FALL, t);
-    t = alike(&ZIGZAG, t);
-    print(b"curve, readings at and above the last row open alike", t);
 }

@@ -1,65 +1,61 @@
 // Document 01's cases, run by the engine and compared with plain arithmetic: one line for each group.
 mod curves;
 mod draw;
-mod faults;
+mod groups;
 mod line;
 mod lists;
-mod numbers;
+mod output;
 mod plain;
 mod refusals;
+mod rejected;
+mod sums;
 mod sweeps;
-mod tally;
 mod trials;
 mod unmarked;
 
+use crate::groups::groups;
+use crate::output::NOTHING;
+use crate::output::numbered;
+use crate::output::print;
+use crate::sums::Sums;
+use crate::sums::no_trials;
+use crate::sums::print_rest;
 use crate::sweeps::Plan;
 use crate::sweeps::Readings;
 use crate::sweeps::sweep;
-use crate::tally::print;
-use crate::trials::Tallies;
-use crate::trials::no_cases;
 
-// A kind's trials, with the counts and the other registers added to those before.
-fn kind_group(kind: u32, readings: Readings, name: &[u8], t: Tallies) -> Tallies {
-    let table = tables::house();
+// The trials of a kind, and their line.
+fn kind_sweep(kind: u32, readings: Readings, name: u32) -> Sums {
     let plan = Plan {
         kind,
         mode: 0,
         readings,
         seed: 1,
     };
-    let done = sweep(plan, &table, 2000, t.carried());
-    io::write_all(1, b"kind ");
-    io::print_decimal(1, kind as u64);
-    print(name, done.value);
-    done
-}
-
-fn each_kind() -> Tallies {
-    let mut t = no_cases();
-    let mut kind: u32 = 0;
-    while kind < 10 {
-        t = kind_group(kind, Readings::Words, b", any words", t);
-        kind += 1;
-    }
+    let t = sweep(plan, &tables::HOUSE, 2000);
+    numbered(16, kind);
+    print(name, NOTHING, NOTHING, t.cases, t.value, t.first);
     t
 }
 
+// Any words at each kind, then readings in range at kind 7.
 fn kinds() {
-    let t = kind_group(7, Readings::Range, b", readings in range", each_kind());
-    curves::print_rest(b"kinds 0 to 9", b"", t);
+    let mut sum = no_trials();
+    let mut kind: u32 = 0;
+    while kind < 10 {
+        sum = sum.plus(kind_sweep(kind, Readings::Words, 17));
+        kind += 1;
+    }
+    sum = sum.plus(kind_sweep(7, Readings::Range, 18));
+    print_rest(19, NOTHING, sum);
 }
 
 fn main() {
-    let exact: &[u8] = b"curve exact";
-    let one_bit: &[u8] = b"curve one-bit";
-    unmarked::slacks();
-    unmarked::splits();
+    groups(0, 3);
     kinds();
-    curves::house(exact, 0);
-    curves::house(one_bit, 1);
-    curves::others(exact, 0);
-    curves::others(one_bit, 1);
-    curves::level_end();
-    numbers::groups();
+    curves::house(0);
+    curves::house(1);
+    curves::others(0);
+    curves::others(1);
+    groups(3, 15);
 }

@@ -1,55 +1,11 @@
 // Plain arithmetic on words, apart from the engine's: products by doubling, floors by sign and size.
 // Sums wrap at 2^32; the curve's numbers stay far below that.
-use crate::lists::entry;
 use std::num::wrapping_add_u32;
 use std::num::wrapping_sub_u32;
 
-const POWERS: [u32; 32] = [
-    1,
-    2,
-    4,
-    8,
-    16,
-    32,
-    64,
-    128,
-    256,
-    512,
-    1024,
-    2048,
-    4096,
-    8192,
-    16384,
-    32768,
-    65536,
-    131072,
-    262144,
-    524288,
-    1048576,
-    2097152,
-    4194304,
-    8388608,
-    16777216,
-    33554432,
-    67108864,
-    134217728,
-    268435456,
-    536870912,
-    1073741824,
-    2147483648,
-];
-
 // 2^k, for k up to 31.
-pub(crate) fn power(k: u32) -> u32 {
-    entry(&POWERS, k as usize)
-}
-
-pub(crate) fn negative(x: u32) -> bool {
-    x >= 2147483648
-}
-
-pub(crate) fn negated(x: u32) -> u32 {
-    wrapping_sub_u32(0, x)
+fn power(k: u32) -> u32 {
+    1 << (k % 32)
 }
 
 // The number that a word stands for, from -2^31 to 2^31 - 1.
@@ -59,6 +15,11 @@ pub(crate) fn number(x: u32) -> i64 {
     } else {
         !((4294967295 - x) as i64)
     }
+}
+
+// x, or 0 where it stands for a negative number.
+pub(crate) fn positive(x: u32) -> u32 {
+    if x < 2147483648 { x } else { 0 }
 }
 
 // x * y, by doubling x.
@@ -76,7 +37,7 @@ pub(crate) fn product(x: u32, y: u32) -> u32 {
     sum
 }
 
-// x / d, rounded down; 0 where d is 0, as in the two below.
+// x / d, rounded down; 0 where d is 0, as in the next.
 pub(crate) fn quotient(x: u32, d: u32) -> u32 {
     if d == 0 { 0 } else { x / d }
 }
@@ -85,65 +46,41 @@ pub(crate) fn remainder(x: u32, d: u32) -> u32 {
     if d == 0 { 0 } else { x % d }
 }
 
-// x / d, rounded up.
+// x / d, rounded up, where x + d is at most 2^32.
 pub(crate) fn ceiling(x: u32, d: u32) -> u32 {
-    let down = quotient(x, d);
-    if remainder(x, d) == 0 {
-        down
-    } else {
-        wrapping_add_u32(down, 1)
-    }
+    quotient(wrapping_add_u32(x, wrapping_sub_u32(d, 1)), d)
 }
 
 // floor(x / 2^k) of a signed x: a negative number's size is rounded up.
 pub(crate) fn floor_shift(x: u32, k: u32) -> u32 {
     let divisor = power(k);
-    if negative(x) {
-        negated(ceiling(negated(x), divisor))
-    } else {
-        quotient(x, divisor)
+    if x < 2147483648 {
+        return quotient(x, divisor);
     }
+    wrapping_sub_u32(0, ceiling(wrapping_sub_u32(0, x), divisor))
 }
 
 // 1 where the low k bits of x and l add up to 2^k or more.
 pub(crate) fn carry(x: u32, l: u32, k: u32) -> u32 {
     let divisor = power(k);
     let low = wrapping_add_u32(remainder(x, divisor), remainder(l, divisor));
-    if low >= divisor { 1 } else { 0 }
+    (low >= divisor) as u32
 }
 
-// Kind 6: the two floors that its steps add.
-pub(crate) fn large_slack(m: u32, l: u32, k: u32) -> u32 {
-    wrapping_add_u32(floor_shift(negated(l), k), floor_shift(m, k))
-}
-
-// Kind 7 for any word x = m - l: what its steps give.
+// Kind 7 for any word x = m - l: what its steps give. The top bit of l is taken from m before the shift, the rest of l after it.
 fn one_bit_steps(m: u32, l: u32, k: u32) -> u32 {
     let divisor = power(k);
-    let top = power(wrapping_sub_u32(31, k));
+    let rest = l % 2147483648;
     let raised = wrapping_add_u32(m, 1073741824);
-    let c = remainder(quotient(raised, divisor), top);
-    let r = remainder(quotient(l, divisor), top);
-    let b = if quotient(raised, 2147483648) == quotient(l, 2147483648) {
-        0
-    } else {
-        top
-    };
-    let sum = wrapping_add_u32(wrapping_sub_u32(c, r), b);
-    wrapping_sub_u32(sum, power(wrapping_sub_u32(30, k)))
+    let upper = quotient(wrapping_sub_u32(raised, l - rest), divisor);
+    let lower = wrapping_add_u32(quotient(rest, divisor), quotient(1073741824, divisor));
+    wrapping_sub_u32(upper, lower)
 }
 
-// Whether x is a reading that may be split, from -2^30 to 2^30 - 1.
-fn in_range(x: u32) -> bool {
-    wrapping_add_u32(x, 1073741824) < 2147483648
-}
-
-// Kind 7: within the range of readings the floor and a carry, elsewhere the steps.
-pub(crate) fn one_bit(m: u32, l: u32, k: u32) -> u32 {
-    let x = wrapping_sub_u32(m, l);
-    if in_range(x) {
-        wrapping_add_u32(floor_shift(x, k), carry(x, l, k))
-    } else {
-        one_bit_steps(m, l, k)
+// Kind 7: within the range of readings, -2^30 to 2^30 - 1, the floor and a carry; elsewhere the steps.
+pub(crate) fn one_bit(x: u32, l: u32, k: u32) -> u32 {
+    if wrapping_add_u32(x, 1073741824) < 2147483648 {
+        return wrapping_add_u32(floor_shift(x, k), carry(x, l, k));
     }
+    one_bit_steps(wrapping_add_u32(x, l), l, k)
 }

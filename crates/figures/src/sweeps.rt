@@ -1,11 +1,10 @@
 // Many trials of one kind of order, drawn from the generator.
-use crate::draw::one_of;
-use crate::draw::reading;
 use crate::draw::word;
 use crate::lists::entry;
-use crate::trials::Tallies;
+use crate::sums::Sums;
+use crate::sums::no_trials;
 use crate::trials::Trial;
-use crate::trials::run_trial;
+use crate::trials::compared;
 use std::num::wrapping_add_u32;
 use std::num::wrapping_sub_u32;
 
@@ -50,33 +49,29 @@ const EDGES: [u32; 16] = [
 // The first are edges; four of the sixteen are no readings.
 fn edge_or(i: u32, edges: u32, otherwise: u32) -> u32 {
     if i < edges {
-        entry(&EDGES, i as usize)
-    } else {
-        otherwise
+        return entry(&EDGES, i);
     }
+    otherwise
 }
 
 fn reading_at(readings: Readings, i: u32, drawn: u32) -> u32 {
     match readings {
         Readings::Words => edge_or(i, 16, drawn),
-        Readings::Range => edge_or(i, 12, reading(drawn)),
+        Readings::Range => edge_or(i, 12, wrapping_sub_u32(drawn / 2, 1073741824)),
         Readings::Counts => i,
-        Readings::Near => edge_or(i, 12, wrapping_sub_u32(one_of(drawn, 4500, 0), 200)),
+        Readings::Near => edge_or(i, 12, wrapping_sub_u32(drawn % 4500, 200)),
     }
 }
 
-// A fourth word that the kind allows: a register, any constant, a shift, 0, or the mode.
+// A fourth word that the kind allows: any constant, 0, a shift, the mode, or a register.
 fn fourth_word(kind: u32, mode: u32, drawn: u32) -> u32 {
     match kind {
-        2 => drawn,
-        3 => drawn,
-        5 => 0,
-        6 => one_of(drawn, 31, 1),
-        7 => one_of(drawn, 30, 1),
-        8 => one_of(drawn, 31, 1),
-        9 => 0,
+        2 | 3 => drawn,
+        5 | 9 => 0,
+        6 | 8 => drawn % 31 + 1,
+        7 => drawn % 30 + 1,
         10 => mode,
-        _ => one_of(drawn, 16, 0),
+        _ => drawn % 16,
     }
 }
 
@@ -85,8 +80,8 @@ fn trial_at(s: Plan, i: u32) -> Trial {
     let readings = s.readings;
     Trial {
         kind: s.kind,
-        target: one_of(word(seed, 11), 16, 0),
-        source: one_of(word(seed, 12), 16, 0),
+        target: word(seed, 11) % 16,
+        source: word(seed, 12) % 16,
         fourth: fourth_word(s.kind, s.mode, word(seed, 13)),
         x: reading_at(readings, i, word(seed, 14)),
         seed,
@@ -94,11 +89,11 @@ fn trial_at(s: Plan, i: u32) -> Trial {
 }
 
 // So many trials; a kind that takes no table is lent one all the same.
-pub(crate) fn sweep(s: Plan, table: &[u32], n: u32, t: Tallies) -> Tallies {
-    let mut sum = t;
+pub(crate) fn sweep(s: Plan, table: &[u32], n: u32) -> Sums {
+    let mut sum = no_trials();
     let mut i: u32 = 0;
     while i < n {
-        sum = run_trial(trial_at(s, i), table, sum);
+        sum = sum.plus(compared(trial_at(s, i), table));
         i += 1;
     }
     sum

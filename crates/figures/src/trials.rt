@@ -1,29 +1,26 @@
 // One order run by the engine's three hosts and compared with plain arithmetic.
+use crate::draw::changed;
 use crate::draw::list;
 use crate::draw::registers;
 use crate::draw::word;
 use crate::line::close_to_line;
 use crate::line::row_count;
 use crate::line::scaled_sum;
-use crate::lists::entry;
-use crate::lists::first_difference;
-use crate::lists::same;
+use crate::lists::part;
 use crate::plain::carry;
 use crate::plain::floor_shift;
-use crate::plain::large_slack;
-use crate::plain::negative;
 use crate::plain::number;
 use crate::plain::one_bit;
+use crate::plain::positive;
 use crate::plain::product;
-use crate::tally::Tally;
-use crate::tally::none;
+use crate::sums::Sums;
 use shares::Opening;
 use std::num::wrapping_add_u32;
 use std::num::wrapping_sub_u32;
 use trio::Shared;
 use trio::Trio;
 
-// An order, what its source opens, and the seed of everything else.
+// An order, what its source opens, and the seed of everything else: of l1, l2 and m of the registers, A, B and the deal buffer.
 pub(crate) struct Trial {
     pub(crate) kind: u32,
     pub(crate) target: u32,
@@ -33,259 +30,155 @@ pub(crate) struct Trial {
     pub(crate) seed: u32,
 }
 
-// The target's value; a curve's distance from the line; the other registers; the counts and the rest of the deal buffer.
-pub(crate) struct Tallies {
-    pub(crate) value: Tally,
-    pub(crate) line: Tally,
-    pub(crate) kept: Tally,
-    pub(crate) counts: Tally,
-}
-
-pub(crate) fn no_cases() -> Tallies {
-    Tallies {
-        value: none(),
-        line: none(),
-        kept: none(),
-        counts: none(),
-    }
-}
-
-impl Tallies {
-    // Values counted anew, the rest counted on.
-    pub(crate) fn carried(self) -> Tallies {
-        let kept = self.kept;
-        let counts = self.counts;
-        Tallies {
-            value: none(),
-            line: none(),
-            kept,
-            counts,
-        }
-    }
-}
-
-// What plain arithmetic starts from: the source's value with its m and mask sum, the second source's value, the mask sum of the curve's refresh.
-struct Inputs {
-    x: u32,
-    m: u32,
-    l: u32,
-    y: u32,
-    refreshed: u32,
-}
-
-fn register(lane: [u32; 16], r: u32) -> u32 {
-    entry(&lane, r as usize)
-}
-
-fn mask_sum(s: Shared, r: u32) -> u32 {
-    let l1 = s.l1;
-    let l2 = s.l2;
-    wrapping_add_u32(register(l1, r), register(l2, r))
+fn mask_sum(seed: u32, r: u32) -> u32 {
+    wrapping_add_u32(word(word(seed, 1), r), word(word(seed, 2), r))
 }
 
 // What a register's shares stand for.
-fn value(s: Shared, r: u32) -> u32 {
-    let m = s.m;
-    wrapping_sub_u32(register(m, r), mask_sum(s, r))
+fn value(c: Trial, r: u32) -> u32 {
+    if r == c.source {
+        return c.x;
+    }
+    wrapping_sub_u32(word(word(c.seed, 3), r), mask_sum(c.seed, r))
 }
 
 // Drawn shares of every register, the source's of x.
 fn drawn_shares(c: Trial) -> Shared {
+    let mut m = registers(word(c.seed, 3));
+    let at = (c.source % 16) as usize;
+    m[at] = wrapping_add_u32(c.x, mask_sum(c.seed, c.source));
     let l1 = registers(word(c.seed, 1));
     let l2 = registers(word(c.seed, 2));
-    let mut m = registers(word(c.seed, 3));
-    let mask = wrapping_add_u32(register(l1, c.source), register(l2, c.source));
-    let at = c.source as usize;
-    if at < 16 {
-        m[at] = wrapping_add_u32(c.x, mask);
-    }
     Shared { m, l1, l2 }
 }
 
-// Each row's kind 9 uses 26 words of A and 12 of B before the refresh takes its two.
-fn refreshed(c: Trial, rows: u32) -> u32 {
-    let first = word(word(c.seed, 4), product(rows, 26));
-    wrapping_add_u32(first, word(word(c.seed, 5), product(rows, 12)))
+// The mask sum of the curve's refresh: each row's kind 9 uses 26 words of A and 12 of B before it takes its two.
+fn refreshed(seed: u32, rows: u32) -> u32 {
+    let first = word(word(seed, 4), product(rows, 26));
+    wrapping_add_u32(first, word(word(seed, 5), product(rows, 12)))
 }
 
-fn given(c: Trial, s: Shared, rows: u32) -> Inputs {
-    let m = s.m;
-    Inputs {
-        x: value(s, c.source),
-        m: register(m, c.source),
-        l: mask_sum(s, c.source),
-        y: value(s, c.fourth),
-        refreshed: refreshed(c, rows),
-    }
-}
-
-fn curve_value(mode: u32, g: Inputs, table: &[u32]) -> u32 {
-    let sum = scaled_sum(g.x, table);
+fn curve_value(c: Trial, table: &[u32]) -> u32 {
+    let sum = scaled_sum(positive(c.x), table);
     let floor = floor_shift(sum, 12);
-    if mode == 0 {
+    if c.fourth == 0 {
         return floor;
     }
-    wrapping_add_u32(floor, carry(sum, g.refreshed, 12))
+    let l = refreshed(c.seed, row_count(table));
+    wrapping_add_u32(floor, carry(sum, l, 12))
+}
+
+// Kind 6: the two floors that its steps add.
+fn large_slack(x: u32, l: u32, k: u32) -> u32 {
+    let m = wrapping_add_u32(x, l);
+    wrapping_add_u32(floor_shift(wrapping_sub_u32(0, l), k), floor_shift(m, k))
 }
 
 // What the target is to open.
-fn plain_value(kind: u32, fourth: u32, g: Inputs, table: &[u32]) -> u32 {
+fn plain_value(c: Trial, table: &[u32]) -> u32 {
+    let y = value(c, c.fourth);
+    let l = mask_sum(c.seed, c.source);
+    let kind = c.kind;
     match kind {
-        0 => wrapping_add_u32(g.x, g.y),
-        1 => wrapping_sub_u32(g.x, g.y),
-        2 => wrapping_add_u32(g.x, fourth),
-        3 => product(g.x, fourth),
-        4 => product(g.x, g.y),
-        5 => g.x,
-        6 => large_slack(g.m, g.l, fourth),
-        7 => one_bit(g.m, g.l, fourth),
-        8 => floor_shift(g.x, fourth),
-        9 => { if negative(g.x) { 0 } else { g.x } }
-        _ => curve_value(fourth, g, table),
+        0 => wrapping_add_u32(c.x, y),
+        1 => wrapping_sub_u32(c.x, y),
+        2 => wrapping_add_u32(c.x, c.fourth),
+        3 => product(c.x, c.fourth),
+        4 => product(c.x, y),
+        5 => c.x,
+        6 => large_slack(c.x, l, c.fourth),
+        7 => one_bit(c.x, l, c.fourth),
+        8 => floor_shift(c.x, c.fourth),
+        9 => positive(c.x),
+        _ => curve_value(c, table),
     }
 }
 
-// What an order deals, and the words spoken at it.
-struct Cost {
-    deals: u32,
-    words: u32,
-}
-
-// As many more for each row over the house table's eight, or fewer.
-fn by_rows(shown: u32, each: u32, rows: u32) -> u32 {
-    wrapping_add_u32(shown, product(each, wrapping_sub_u32(rows, 8)))
-}
-
-// Document 01's table of costs.
-fn due_cost(kind: u32, fourth: u32, rows: u32) -> Cost {
+// Document 01's table of costs: the deals, times 1000, and the words spoken. The curve has a kind 9 for each row, and more.
+fn due_cost(c: Trial, rows: u32) -> u32 {
+    let kind = c.kind;
     match kind {
-        4 => Cost { deals: 1, words: 2 },
-        5 => Cost { deals: 0, words: 2 },
-        6 => Cost { deals: 1, words: 0 },
-        7 => Cost { deals: 3, words: 2 },
-        8 => Cost {
-            deals: 16,
-            words: 24,
-        },
-        9 => Cost {
-            deals: 14,
-            words: 24,
-        },
+        4 => 1002,
+        5 => 2,
+        6 => 1000,
+        7 => 3002,
+        8 => 16024,
+        9 => 14024,
         10 => {
-            if fourth == 0 {
-                return Cost {
-                    deals: by_rows(128, 14, rows),
-                    words: by_rows(216, 24, rows),
-                };
-            }
-            Cost {
-                deals: by_rows(115, 14, rows),
-                words: by_rows(196, 24, rows),
-            }
+            let end = if c.fourth == 0 { 16024 } else { 3004 };
+            wrapping_add_u32(end, product(rows, 14024))
         }
-        _ => Cost { deals: 0, words: 0 },
+        _ => 0,
     }
 }
 
-// The word that stands for what was opened; shares that disagree stand for none, and their number comes instead.
-pub(crate) fn opened_word(o: Opening) -> u32 {
+// What shares open; those that disagree open what is no word's number.
+pub(crate) fn opening(o: Opening) -> i64 {
     match o {
-        Opening::Opened(z) => words::word_of(z),
-        Opening::Disagree => 10,
+        Opening::Opened(z) => z,
+        Opening::Disagree => 1099511627776,
     }
 }
 
-pub(crate) fn opens(o: Opening, due: u32) -> bool {
-    match o {
-        Opening::Opened(z) => z == number(due),
-        Opening::Disagree => false,
-    }
+// What a register opens on the three hosts' shares.
+pub(crate) fn opened(s: Trio, r: u32) -> i64 {
+    opening(openings::opened(s.masks, s.one.state, s.two.state, r as usize))
 }
 
-fn changed(s: Trio, before: Shared, r: u32) -> bool {
-    !opens(trio::opened(s, r as usize), value(before, r))
-}
-
-// The first register beside the target that opens something else than before, or 16.
-fn changed_register(s: Trio, before: Shared, target: u32) -> u32 {
+// 1 where a register beside the target opens something else than before.
+fn others_changed(s: Trio, c: Trial) -> u32 {
+    let mut any = false;
     let mut r: u32 = 0;
     while r < 16 {
-        if changed(s, before, r) && r != target {
-            return r;
-        }
+        let found = opened(s, r);
+        any = any | ((r != c.target) & (found != number(value(c, r))));
         r += 1;
     }
-    16
+    any as u32
 }
 
-// Nothing refused, and both hosts at the end of one order have spoken half the words.
-fn finished(s: Trio, words: u32) -> bool {
+// 0 where nothing is refused, and both hosts at the end of one order have spoken half the words.
+fn miscounted(s: Trio, c: Trial, rows: u32) -> u32 {
+    let cost = due_cost(c, rows);
+    let half = cost % 1000 / 2;
     let one = s.one;
     let two = s.two;
-    let half = words / 2;
-    let found = [
-        s.number,
-        one.number,
-        one.state.order,
-        one.state.turn,
-        one.spoken,
-        two.number,
-        two.state.order,
-        two.state.turn,
-        two.spoken,
-    ];
-    let due = [0, 0, 1, 0, half, 0, 1, 0, half];
-    same(&found, &due)
+    let refusal = s.number | one.number | two.number;
+    let turn = one.state.turn | two.state.turn;
+    let order = (one.state.order ^ 1) | (two.state.order ^ 1);
+    let spoken = (one.spoken ^ half) | (two.spoken ^ half);
+    let deals = s.deals ^ (cost / 1000);
+    ((refusal | turn | order | spoken | deals) != 0) as u32
 }
 
-// The hosts after a trial's order, and whether the deal buffer has kept the words past the deals.
-struct Outcome {
-    trio: Trio,
-    rest_kept: bool,
-}
-
-fn with_counts(t: Tally, c: Trial, rows: u32, o: Outcome) -> Tally {
-    let s = o.trio;
-    let due = due_cost(c.kind, c.fourth, rows);
-    let ended = finished(s, due.words);
-    let right = s.deals == due.deals && ended && o.rest_kept;
-    t.with(right, c.x, s.deals, due.deals)
-}
-
-// The trial's order run by the three hosts, on lists drawn from its seed.
-fn run(c: Trial, table: &[u32]) -> Outcome {
-    let job = [c.kind, c.target, c.source, c.fourth];
-    let a = list(word(c.seed, 4));
-    let b = list(word(c.seed, 5));
-    let lent = list(word(c.seed, 6));
-    let mut deals = lent;
-    let trio = trio::run(&job, table, &a, &b, &mut deals, drawn_shares(c));
-    let rest_kept = first_difference(&deals, &lent, trio.deals as usize) == 512;
-    Outcome { trio, rest_kept }
+// A job run by the three hosts, with so many words of B. Where a word of the deal buffer past the deals has changed, a number says so.
+pub(crate) fn run(job: &[u32], table: &[u32], seed: u32, b_words: u32, shares: Shared) -> Trio {
+    let a = list(word(seed, 4));
+    let b = list(word(seed, 5));
+    let buffer = word(seed, 6);
+    let mut deals = list(buffer);
+    let mut s = trio::run(job, table, &a, part(&b, 0, b_words), &mut deals, shares);
+    s.number = s.number | changed(&deals, buffer, s.deals, 512);
+    s
 }
 
 // What the engine opens at a trial's target.
-pub(crate) fn opened_by(c: Trial, table: &[u32]) -> Opening {
-    let o = run(c, table);
-    let s = o.trio;
-    trio::opened(s, c.target as usize)
+pub(crate) fn run_trial(c: Trial, table: &[u32]) -> Trio {
+    let job = [c.kind, c.target, c.source, c.fourth];
+    run(&job, table, c.seed, 512, drawn_shares(c))
 }
 
 // A trial run and compared.
-pub(crate) fn run_trial(c: Trial, table: &[u32], t: Tallies) -> Tallies {
-    let before = drawn_shares(c);
-    let rows = row_count(table);
-    let o = run(c, table);
-    let s = o.trio;
-    let due = plain_value(c.kind, c.fourth, given(c, before, rows), table);
-    let result = trio::opened(s, c.target as usize);
-    let found = opened_word(result);
-    let other = changed_register(s, before, c.target);
-    Tallies {
-        value: t.value.with(opens(result, due), c.x, found, due),
-        line: t.line
-            .with(close_to_line(found, c.x, table), c.x, found, due),
-        kept: t.kept.with(other == 16, c.x, other, 16),
-        counts: with_counts(t.counts, c, rows, o),
+pub(crate) fn compared(c: Trial, table: &[u32]) -> Sums {
+    let s = run_trial(c, table);
+    let found = opened(s, c.target);
+    let close = close_to_line(words::word_of(found), positive(c.x), table);
+    Sums {
+        cases: 1,
+        value: (found != number(plain_value(c, table))) as u32,
+        line: ((c.kind == 10) & !close) as u32,
+        kept: others_changed(s, c),
+        counts: miscounted(s, c, row_count(table)),
+        first: c.x,
     }
 }

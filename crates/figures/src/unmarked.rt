@@ -1,84 +1,72 @@
-// The cases of "House table by hand" that document 01 does not mark, and the limits of splitting.
-use crate::draw::list;
+// The cases of "House table by hand" that document 01 does not mark, the limits of splitting, and shares that disagree. Each function
+// answers 0 where a case goes right.
+use crate::lists::entry;
 use crate::plain::number;
-use crate::tally::Tally;
-use crate::tally::none;
-use crate::tally::print;
-use crate::trials::opened_word;
-use crate::trials::opens;
+use crate::trials::opened;
+use crate::trials::opening;
+use crate::trials::run;
+use shares::DealerShare;
+use shares::Shares;
 use shares::Sharing;
+use shares::WorkerShare;
 use std::num::wrapping_sub_u32;
 use trio::Shared;
 
-// x = 0 under masks that add up to 2^31, in register 0.
-fn zero_shared(l1: u32) -> Shared {
-    let m = [2147483648, 0, 0, 0, 0, 0, 0, 0, 0, 0, 0, 0, 0, 0, 0, 0];
-    let first = [l1, 0, 0, 0, 0, 0, 0, 0, 0, 0, 0, 0, 0, 0, 0, 0];
-    let rest = wrapping_sub_u32(2147483648, l1);
-    let second = [rest, 0, 0, 0, 0, 0, 0, 0, 0, 0, 0, 0, 0, 0, 0, 0];
-    Shared {
-        m,
-        l1: first,
-        l2: second,
+const MASKS: [u32; 4] = [3735928559, 2147483648, 1, 0];
+
+// Kind 6 with k = 1 on x = 0, under masks that add up to 2^31, in register 0.
+pub(crate) fn slack(i: u32) -> u32 {
+    let mut m = [0u32; 16];
+    let mut l1 = [0u32; 16];
+    let mut l2 = [0u32; 16];
+    let mask = entry(&MASKS, i);
+    m[0] = 2147483648;
+    l1[0] = mask;
+    l2[0] = wrapping_sub_u32(2147483648, mask);
+    let s = run(&[6, 0, 0, 1], &[], 51, 0, Shared { m, l1, l2 });
+    (opened(s, 0) != -2147483648) as u32
+}
+
+// What a reading opens after it was split; number 11 for one that is turned down stands as no word's number.
+fn split(reading: u32) -> i64 {
+    match shares::share(number(reading), 2654435769, 2246822519) {
+        Sharing::Shared(s) => opening(shares::reconstruct(s)),
+        Sharing::OutOfRange => 11000000000,
     }
 }
 
-// Kind 6 on it with k = 1.
-fn slack(l1: u32, t: Tally) -> Tally {
-    let a = list(51);
-    let mut deals = list(53);
-    let nothing: &[u32] = &[];
-    let s = trio::run(
-        &[6, 0, 0, 1],
-        nothing,
-        &a,
-        nothing,
-        &mut deals,
-        zero_shared(l1),
-    );
-    let o = trio::opened(s, 0);
-    t.with(opens(o, 2147483648), l1, opened_word(o), 2147483648)
+// Four that open again, four that are out of range.
+const READINGS: [u32; 8] = [
+    1073741823,
+    3221225472,
+    4294967295,
+    0,
+    3221225471,
+    1073741824,
+    2147483648,
+    2147483647,
+];
+
+pub(crate) fn splitting(i: u32) -> u32 {
+    let reading = entry(&READINGS, i);
+    let due = if i < 4 { number(reading) } else { 11000000000 };
+    (split(reading) != due) as u32
 }
 
-// A reading that is split and opens again.
-fn accepted(reading: u32, t: Tally) -> Tally {
-    match shares::share(number(reading), 2654435769, 2246822519) {
-        Sharing::Shared(s) => {
-            let o = shares::reconstruct(s);
-            t.with(opens(o, reading), reading, opened_word(o), reading)
+// Number 10: shares of 7 that differ in l1, in l2, in m, in both masks of host 0, or have the masks the wrong way round.
+pub(crate) fn disagreeing(i: u32) -> u32 {
+    let mut p0 = DealerShare { l1: 5, l2: 8 };
+    let mut p1 = WorkerShare { m: 20, l: 5 };
+    let mut p2 = WorkerShare { m: 20, l: 8 };
+    match i {
+        0 => p1.l = 6,
+        1 => p2.l = 2147483656,
+        2 => p2.m = 21,
+        3 => p0 = DealerShare { l1: 6, l2: 7 },
+        _ => {
+            p1.l = 8;
+            p2.l = 5;
         }
-        Sharing::OutOfRange => t.with(false, reading, 11, 0),
     }
-}
-
-// Number 11.
-fn out_of_range(reading: u32, t: Tally) -> Tally {
-    match shares::share(number(reading), 2654435769, 2246822519) {
-        Sharing::Shared(_) => t.with(false, reading, 0, 11),
-        Sharing::OutOfRange => t.with(true, reading, 11, 11),
-    }
-}
-
-pub(crate) fn slacks() {
-    let mut t = slack(3735928559, none());
-    t = slack(2147483648, t);
-    t = slack(1, t);
-    t = slack(0, t);
-    print(b"kind 6, x = 0, k = 1, L = 2^31 opens -2^31", t);
-}
-
-pub(crate) fn splits() {
-    let mut t = accepted(1073741823, none());
-    t = accepted(3221225472, t);
-    t = accepted(4294967295, t);
-    t = accepted(0, t);
-    print(b"splitting -2^30, -1, 0 and 2^30 - 1, opened again", t);
-    t = out_of_range(3221225471, none());
-    t = out_of_range(1073741824, t);
-    t = out_of_range(2147483648, t);
-    t = out_of_range(2147483647, t);
-    print(
-        b"refused 11, splitting 2^30, -2^30 - 1, 2^31 - 1 and -2^31",
-        t,
-    );
+    (opening(shares::reconstruct(Shares { p0, p1, p2 })) != 1099511627776) as u32
 }

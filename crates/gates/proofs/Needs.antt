@@ -1,6 +1,6 @@
 -- What a list of steps needs of A, of B and of the deals, and what it speaks, as sums over the list; what the lists hold beyond does not matter.
 -- Assumes nothing.
-use mathlib.Core.Path.{_≡_, refl, _∙_}
+use mathlib.Core.Path.{_≡_, refl, ap, _∙_}
 use mathlib.Core.List.{List, [], _∷_, _++_}
 use Prim.Native.Nat.{ℕ, _*_, suc, _+_, _≤_, _<_}
 use native.Mathlib.Nat.{zero-add}
@@ -10,7 +10,7 @@ use Rattle.gates.specs.Steps.{at, Exchange, product, refresh, Step, loca
 use Rattle.gates.specs.Costs.{Cost, plus, step-cost, cost}
 use Rattle.gates.specs.Duet.{utter, words}
 use Rattle.gates.specs.Walk.{whole, far}
-use Rattle.gates.specs.Parties.{Pair, Triple, dealt, deals, act, joint1, joint2}
+use Rattle.gates.specs.Parties.{Pair, Triple, act0, dealt, deals, act, joint1, joint2}
 
 pub whole-cursor : {S : Type 0} (f : Step → Cursor → S → S) (ss : List Step) (c : Cursor) (s : S) (t : List S) → whole f ss c s t .cur ≡ far ss c
 unfolding whole far
@@ -127,3 +127,71 @@ module _ (A A′ B B′ : List ℕ) where
   whole-alike (x ∷ ss) c j t h k =
       let g = far-grows ss (past x c) in
       rw (act-alike x c j (λ i l. h i (omega arith)) (λ i l. k i (omega arith))) (whole-alike ss _ _ _ h k)
+
+  -- nor for the words that the two hosts speak
+
+  abbrev Says : (say say′ : Exchange → Cursor → Triple → ℕ) → Type 0
+  Says say say′ =
+      (d : ℕ) (e : Exchange) (c : Cursor) (j : Triple) → Alike A A′ (past (exchange d e) c .a) → Alike B B′ (past (exchange d e) c .b) → say e c j ≡ say′ e c j
+
+  says1 : Says (joint1 A B) (joint1 A′ B′)
+  unfolding joint1 past new-at
+  says1 d (product O a b) c j h k = rw (h (c .a) (omega arith), h (suc (c .a)) (omega arith))
+  says1 d (refresh O a) c j h k = rw (h (c .a) (omega arith))
+
+  says2 : Says (joint2 A B) (joint2 A′ B′)
+  unfolding joint2 past new-at
+  says2 d (product O a b) c j h k = rw (h (c .a) (omega arith), k (c .b) (omega arith))
+  says2 d (refresh O a) c j h k = rw (h (c .a) (omega arith), k (c .b) (omega arith))
+
+  module _ (say say′ : Exchange → Cursor → Triple → ℕ) (same : Says say say′) where
+    utter-alike : (x : Step) (c : Cursor) (j : Triple) (ws : List ℕ) → Alike A A′ (past x c .a) → Alike B B′ (past x c .b) → utter say x c j ws ≡ utter say′ x c j ws
+    unfolding utter
+    utter-alike (local d m l) c j ws h k = refl
+    utter-alike (deal d f) c j ws h k = refl
+    utter-alike (exchange d e) c j ws h k = ap (λ (v : ℕ). v ∷ ws) (same d e c j h k)
+    utter-alike end c j ws h k = refl
+
+    words-alike : (ss : List Step) (c : Cursor) (j : Triple) → Alike A A′ (far ss c .a) → Alike B B′ (far ss c .b)
+        → words (act A B) say ss c j ≡ words (act A′ B′) say′ ss c j
+    unfolding words far
+    words-alike [] c j h k = refl
+    words-alike (x ∷ ss) c j h k =
+        let g = far-grows ss (past x c) in
+        let hx : Alike A A′ (past x c .a) = λ i l. h i (omega arith) in
+        let kx : Alike B B′ (past x c .b) = λ i l. k i (omega arith) in
+        utter-alike x c j _ hx kx ∙ ap (utter say′ x c j) (rw (act-alike x c j hx kx) (words-alike ss _ _ h k))
+
+  pub words1-alike : (ss : List Step) (c : Cursor) (j : Triple) → Alike A A′ (far ss c .a) → Alike B B′ (far ss c .b)
+      → words (act A B) (joint1 A B) ss c j ≡ words (act A′ B′) (joint1 A′ B′) ss c j
+  words1-alike = words-alike (joint1 A B) (joint1 A′ B′) says1
+
+  pub words2-alike : (ss : List Step) (c : Cursor) (j : Triple) → Alike A A′ (far ss c .a) → Alike B B′ (far ss c .b)
+      → words (act A B) (joint2 A B) ss c j ≡ words (act A′ B′) (joint2 A′ B′) ss c j
+  words2-alike = words-alike (joint2 A B) (joint2 A′ B′) says2
+
+  -- nor for host 0's deals
+
+  act0-alike : (x : Step) (c : Cursor) (s : Pair) → Alike A A′ (past x c .a) → Alike B B′ (past x c .b) → act0 A B x c s ≡ act0 A′ B′ x c s
+  unfolding act0 past new-at
+  act0-alike (local d m l) c s h k = refl
+  act0-alike (deal d f) c s h k = rw (h (c .a) (omega arith))
+  act0-alike (exchange d (product O a b)) c s h k = rw (h (suc (c .a)) (omega arith), k (c .b) (omega arith))
+  act0-alike (exchange d (refresh O a)) c s h k = rw (h (c .a) (omega arith), k (c .b) (omega arith))
+  act0-alike end c s h k = refl
+
+  dealt-alike : (x : Step) (c : Cursor) (s : Pair) (ds : List ℕ) → Alike A A′ (past x c .a) → dealt A B x c s ds ≡ dealt A′ B′ x c s ds
+  unfolding dealt past new-at
+  dealt-alike (local d m l) c s ds h = refl
+  dealt-alike (deal d f) c s ds h = rw (h (c .a) (omega arith))
+  dealt-alike (exchange d (product O a b)) c s ds h = rw (h (c .a) (omega arith))
+  dealt-alike (exchange d (refresh O a)) c s ds h = rw (h (c .a) (omega arith))
+  dealt-alike end c s ds h = refl
+
+  pub deals-alike : (ss : List Step) (c : Cursor) (s : Pair) → Alike A A′ (far ss c .a) → Alike B B′ (far ss c .b) → deals A B ss c s ≡ deals A′ B′ ss c s
+  unfolding deals far
+  deals-alike [] c s h k = refl
+  deals-alike (x ∷ ss) c s h k =
+      let g = far-grows ss (past x c) in
+      let hx : Alike A A′ (past x c .a) = λ i l. h i (omega arith) in
+      dealt-alike x c s _ hx ∙ ap (dealt A′ B′ x c s) (rw (act0-alike x c s hx (λ i l. k i (omega arith))) (deals-alike ss _ _ h k))

@@ -8,9 +8,9 @@ use borrow.Author.Tests.{eqb-true, eqb-false}
 use lib.Dec.{eqb}
 use lib.IntN.{ℤ, pos}
 use lib.ListN.{length, getD, take, length-append}
-use Rattle.words.specs.Adder.{doubled, distances, updates}
+use Rattle.truncations.specs.Adder.{doubled, distances, updates}
 use Rattle.tables.specs.Table.{Row}
-use Rattle.tables.specs.Curve.{slope-after, coefficient}
+use Rattle.curves.specs.Curve.{slope-after, coefficient}
 use Rattle.gates.specs.declared.Gate.{Gate}
 use Rattle.gates.specs.declared.Gate.the-variants.{Refresh}
 use Rattle.circuits.specs.declared.Order.{Order}

@@ -21,13 +21,13 @@ use exchanges::Reach;
 use exchanges::meet;
 use gates::Gate;
 use gates::Shape;
+use lendings::check_lent;
 use lookup::Fetched;
 use lookup::fetch;
 use orders::order_at;
-use parties::check_lent;
 use places::Sought;
 use places::seek;
-use speech::shape_of;
+use shapes::shape_of;
 
 // Conditions 8 and 9 past the last order: the end is the number of orders and 0.
 fn end_fault(order: usize, n: usize, turn: u32) -> u32

@@ -9,8 +9,8 @@ use crate::State;
 use crate::answering::refused;
 use crate::walk::advance;
 use exchanges::Reach;
-use parties::check_lent;
-use parties::fresh;
+use lendings::check_lent;
+use lendings::fresh;
 
 // Checks 1 to 7 come first, and a refusal gives the registers back.
 pub fn start(

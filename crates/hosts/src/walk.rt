@@ -19,7 +19,7 @@ use gates::Shape;
 use lookup::Fetched;
 use lookup::fetch;
 use orders::order_at;
-use speech::shape_of;
+use shapes::shape_of;
 
 // Up to the order's next product or refresh, or past its last gate. Each gate writes its one slot in place.
 fn walk_order(

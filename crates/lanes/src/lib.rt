@@ -9,11 +9,11 @@ ghost use Rattle.gates.specs.Parties.{on-m, on-mask};
 ghost use Rattle.gates.specs.Meaning.{meaning, part};
 use gates::Gate;
 use gates::Part;
+use parts::bit_of;
+use parts::part_of;
+use parts::shift_up;
 use slots::at;
-use slots::bit_of;
-use slots::part_of;
 use slots::put;
-use slots::shift_up;
 
 // ---- the gates that act on a lane alone
 

@@ -11,13 +11,13 @@ use mir.Val.{SFits, toZ, ofZ}
 use mir.Facts.{toZ-ofZ}
 use Rattle.words.specs.Words.{add, sub, neg, mul}
 use Rattle.words.specs.Signed.{wrap}
-use Rattle.words.specs.Adder.{doubled, distances, updates}
+use Rattle.truncations.specs.Adder.{doubled, distances, updates}
 use Rattle.words.proofs.Words.{sub-of}
 use Rattle.gates.specs.declared.Gate.{Gate}
 use Rattle.gates.specs.declared.Gate.the-variants.{Add, Refresh, Scale, Plus, Const}
 use Rattle.tables.specs.Table.{Row, row, rows, row-at, slope, slopes}
-use Rattle.tables.specs.Curve.{slope-after, coefficient}
-use Rattle.tables.proofs.Wrapping.{wrap-minus}
+use Rattle.curves.specs.Curve.{slope-after, coefficient}
+use Rattle.curves.proofs.Wrapping.{wrap-minus}
 use Rattle.lookup.specs.declared.Fetched.the-variants.{At, Past}
 use Rattle.circuits.specs.Programs.{update-gates, rounds, adder, to-number, relu-program, one-bit-program, exact-program, row-program, rows-program, sum-program}
 use Rattle.circuits.specs.Orders.{curve-program}

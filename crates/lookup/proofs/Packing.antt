@@ -8,7 +8,7 @@ use lib.ListN.{length, getD, length-map, List·getD-map, List·getD-eq-default}
 use lib.Pow.{pow-lt}
 use Rattle.words.specs.Words.{add, sub, neg}
 use Rattle.words.proofs.Words.{sub-of}
-use Rattle.words.specs.Adder.{doubled, distances, updates}
+use Rattle.truncations.specs.Adder.{doubled, distances, updates}
 use Rattle.gates.specs.declared.Part.{Part}
 use Rattle.gates.specs.declared.Part.the-variants.{Signed}
 use Rattle.gates.specs.declared.Dealt.the-variants.{OfSum, OfNegated, OfBits}

@@ -8,7 +8,7 @@ use native.Mathlib.Omega.{arith}
 use lib.IntN.{ℤ, pos}
 use lib.ListN.{length, getD, List·getD-append}
 use lib.Seq.{getD-append-add}
-use Rattle.words.specs.Adder.{doubled, distances, updates}
+use Rattle.truncations.specs.Adder.{doubled, distances, updates}
 use Rattle.gates.specs.declared.Gate.{Gate}
 use Rattle.gates.specs.declared.Gate.the-variants.{Add, Refresh, Scale}
 use Rattle.gates.specs.declared.Shape.{Shape}
@@ -16,7 +16,7 @@ use Rattle.gates.specs.declared.Shape.the-variants.{Local, Dealing, Product, Re
 use Rattle.gates.specs.Meaning.{meaning}
 use Rattle.gates.specs.Speech.{shape}
 use Rattle.tables.specs.Table.{Row, rows}
-use Rattle.tables.specs.Curve.{slope-after, coefficient}
+use Rattle.curves.specs.Curve.{slope-after, coefficient}
 use Rattle.places.specs.declared.Sought.{Sought}
 use Rattle.places.specs.declared.Sought.the-variants.{Found, Nowhere}
 use Rattle.circuits.specs.Programs.{update-gates, rounds, adder, to-number, relu-program, one-bit-program, exact-program, row-program, rows-program, sum-program}

@@ -19,18 +19,18 @@ use Rattle.shares.specs.declared.Sharing.{Sharing}
 use Rattle.shares.specs.declared.Sharing.the-variants.{Shared, OutOfRange}
 use Rattle.shares.specs.declared.Opening.{Opening}
 use Rattle.shares.specs.declared.Opening.the-variants.{Opened, Disagree}
-use Rattle.hosts.specs.Answers.{state-of}
+use Rattle.runs.specs.Runs.{opened-slot}
 use Rattle.lines.specs.Lines.{malformed, asking, parsed}
 use Rattle.lines.specs.Answers.{asked}
 use Rattle.lines.specs.declared.Asked.{Asked}
 use Rattle.lines.specs.declared.Asked.the-variants.{Reading, Malformed}
 use Rattle.prints.specs.Printed.{answered, refused}
 use Rattle.trio.specs.declared.Trio.{Trio as Trio′}
-use Rattle.trio.specs.Together.{Trio, trio-of, opened-register}
+use Rattle.trio.specs.Together.{Trio, trio-of}
 use Rattle.rehearsals.specs.Rehearsal as Spec
 use Rattle.rehearsals.specs.Rehearsal.{first-a, first-b, answer-of, answer}
 use Rattle.rehearsals.specs.Trial.{trial, Ran}
-use Rattle.rehearsals.proofs.Trials.{deals-are, words-are, value-is}
+use Rattle.rehearsals.proofs.Trials.{opens-first, deals-are, words-are, value-is}
 
 -- the words of a curve fit a word
 pub few : (mode n : ℕ) → n ≡ Spec.words mode → n < 2 ^ 32
@@ -100,11 +100,11 @@ module _ (mode : ℕ) (z : ℤ) (v : Sharing) (e : sharing v ≡ split 32 z firs
 
     module _ (r : Trio′) (R : Ran r (trial mode (s .p1 .m) (s .p1 .l) (s .p2 .l))) where
       abbrev opens-of : ℕ × ℤ
-      opens-of = opened-register 32 (r .masks .l1, r .masks .l2) (state-of (r .one .state)) (state-of (r .two .state)) 0
+      opens-of = opened-slot 32 (r .masks .l1, r .masks .l2) (r .one .state .m, r .one .state .mask) (r .two .state .m, r .two .state .mask) 0
 
       opens-is : opens-of ≡ (0, Spec.value mode z)
       opens-is =
-          ap {B = ℕ × ℤ} (λ (x : Trio). opened-register 32 (x .masks) (x .one .state) (x .two .state) 0) (R .is)
+          ap {B = ℕ × ℤ} opens-first (R .is)
           ∙ value-is mode (s .p1 .m) (s .p1 .l) (s .p2 .l) (rw m-is (add-lt 32 _ _)) (rw l1-is (lit< tt)) (rw l2-is (lit< tt)) z value-in ranged
 
       deals-is : r .deals ≡ Spec.deals mode

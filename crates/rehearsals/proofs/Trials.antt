@@ -11,11 +11,11 @@ use lib.ListN.{getD, length, replicate}
 use lib.Pow.{pow-pos}
 use Rattle.words.specs.Words.{add, sub, numbers}
 use Rattle.words.specs.Signed.{floor, signed, wrap, in-range}
-use Rattle.words.specs.Truncation.{slip}
+use Rattle.truncations.specs.Truncation.{slip}
 use Rattle.words.proofs.Words.{add-lt, sub-lt}
 use Rattle.shares.specs.Gates.{Share, value, mask}
 use Rattle.tables.specs.Table.{rows, keeps-rules, house}
-use Rattle.tables.specs.Curve.{scaled}
+use Rattle.curves.specs.Curve.{scaled}
 use Rattle.tables.proofs.HouseTable.{house-keeps-rules}
 use Rattle.gates.specs.Steps.{at}
 use Rattle.gates.specs.Meaning.{job-steps}
@@ -30,19 +30,23 @@ use Rattle.jobs.specs.Job.{orders, ill-sized, unknown-kind, unknown-register, t
 use Rattle.parties.specs.Lent.{or-else, dealer-lists-fault, dealer-fault}
 use Rattle.parties.specs.Calls.{fresh}
 use Rattle.parties.proofs.Faults.{long-enough}
-use Rattle.runs.specs.Runs.{Setting}
+use Rattle.runs.specs.Runs.{Setting, opened-slot}
 use Rattle.runs.specs.Orders.{Words, slot, first, before-order, after-order, order-at, first-counts, counts-before, refresh-mask}
 use Rattle.runs.proofs.Opened.{order-leaves}
 use Rattle.masks.specs.Masks.{multiples}
 use Rattle.masks.proofs.Multiples.{multiples-length, multiples-at, multiples-fit}
 use Rattle.gates.specs.Parties.{Triple}
-use Rattle.trio.specs.Together.{left, opened-register}
+use Rattle.trio.specs.Together.{Trio, left}
 use Rattle.trio.proofs.Positions.{prepare-number, lent-of, given-of, P}
 use Rattle.trio.proofs.Turns.{setting}
 use Rattle.trio.proofs.Leaves.{left-one, register-opens, words-spoken, deals-dealt}
 use Rattle.rehearsals.specs.Rehearsal as Spec
 use Rattle.rehearsals.specs.Rehearsal.{first-a, first-b, refresh-L}
 use Rattle.rehearsals.specs.Trial.{mode-word, in-first, loan, trial}
+
+-- what register 0 opens
+abbrev pub opens-first : Trio → ℕ × ℤ
+opens-first s = opened-slot 32 (s .masks) (s .one .state .m, s .one .state .mask) (s .two .state .m, s .two .state .mask) 0
 
 -- ---- the job and its counts
 
@@ -175,7 +179,7 @@ module _ (mode m l1 l2 : ℕ) where
         order-leaves 32 S fitting (lit≤ tt) (lit< tt) (job-sound mode) 0 (lit< tt)
         ∙ ap₂ (λ (v R : ℕ). curve-value 32 (rows house) (mode-word mode) v R) source-is mask-is
 
-    opens-curve : opened-register 32 (trial mode m l1 l2 .masks) (trial mode m l1 l2 .one .state) (trial mode m l1 l2 .two .state) 0
+    opens-curve : opens-first (trial mode m l1 l2)
         ≡ (0, signed 32 (curve-value 32 (rows house) (mode-word mode) x refresh-L))
     unfolding trial
     opens-curve =
@@ -191,5 +195,5 @@ module _ (mode m l1 l2 : ℕ) where
 
     -- "exactly floor(Y / 4096) in exact mode"; in one-bit mode that, or one more
     pub value-is : (z : ℤ) → signed 32 x ≡ z → T (in-range 32 z)
-        → opened-register 32 (trial mode m l1 l2 .masks) (trial mode m l1 l2 .one .state) (trial mode m l1 l2 .two .state) 0 ≡ (0, Spec.value mode z)
+        → opens-first (trial mode m l1 l2) ≡ (0, Spec.value mode z)
     value-is z e r = opens-curve ∙ ap {B = ℕ × ℤ} (λ (v : ℤ). (0, v)) (curve-is mode z e r)

@@ -5,9 +5,9 @@ use Prim.Native.Nat.{ℕ, zero, suc, _*_, _%_, _^_}
 use lib.IntN.{ℤ, pos, _+ℤ_}
 use Rattle.words.specs.Words.{add}
 use Rattle.words.specs.Signed.{floor, wrap, in-range}
-use Rattle.words.specs.Truncation.{slip}
+use Rattle.truncations.specs.Truncation.{slip}
 use Rattle.tables.specs.Table.{rows, house}
-use Rattle.tables.specs.Curve.{scaled}
+use Rattle.curves.specs.Curve.{scaled}
 use Rattle.lines.specs.Lines.{Parsed, malformed, asking, parsed}
 use Rattle.prints.specs.Printed.{answered, refused}
 

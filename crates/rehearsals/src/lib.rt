@@ -8,6 +8,7 @@ ghost use Rattle.rehearsals.specs.Trial.{mode-word, in-first, trial, Ran
 use lines::Asked;
 use lines::parse;
 use masks::fill;
+use openings::opened;
 use prints::Text;
 use prints::answer_text;
 use prints::refusal_text;
@@ -17,7 +18,6 @@ use shares::Sharing;
 use shares::share;
 use trio::Shared;
 use trio::Trio;
-use trio::opened;
 use trio::run;
 
 // The first word of each mask list, which splits the reading; word j is j times it, and the job's lists begin at the second.
@@ -69,7 +69,7 @@ fn rehearse(mode: u32, reading: i64) -> Text
         return refusal_text(11);
     };
     let done = curve(mode, s.p1.m, s.p1.l, s.p2.l);
-    let Opening::Opened(value) = opened(done, 0) else {
+    let Opening::Opened(value) = opened(done.masks, done.one.state, done.two.state, 0) else {
         return refusal_text(10);
     };
     answer_text(

@@ -13,15 +13,15 @@ use lib.ListN.{getD, length, length-set}
 use lib.Signed.{_≤ℤ_, leZ-yes}
 use Rattle.words.specs.Words.{add}
 use Rattle.words.specs.Signed.{floor, signed, wrap, in-range}
-use Rattle.words.specs.Truncation.{slip}
+use Rattle.truncations.specs.Truncation.{slip}
 use Rattle.words.proofs.Integers.{le-or-lt, sub-below}
 use Rattle.words.proofs.Signed.{signed-low, signed-high, wrap-lt}
 use Rattle.words.proofs.Words.{sub-lt}
 use Rattle.tables.specs.Table.{rows}
-use Rattle.tables.specs.Curve.{scaled, last-count, line, Near}
-use Rattle.tables.specs.Count.{count}
-use Rattle.tables.proofs.Curve.{exact-near, one-bit-near, scaled-level}
-use Rattle.tables.proofs.Counting.{slips-of-words}
+use Rattle.curves.specs.Curve.{scaled, last-count, line, Near}
+use Rattle.curves.specs.Count.{count}
+use Rattle.curves.proofs.Curve.{exact-near, one-bit-near, scaled-level}
+use Rattle.curves.proofs.Counting.{slips-of-words}
 use Rattle.gates.specs.Steps.{at}
 use Rattle.circuits.specs.declared.Order.{Order}
 use Rattle.circuits.specs.Programs.{sum-program}

@@ -9,11 +9,11 @@ use lib.ListN.{length, set}
 use lib.Signed.{leZ, _≤ℤ_}
 use Rattle.words.specs.Words.{numbers}
 use Rattle.words.specs.Signed.{floor, signed, wrap, in-range}
-use Rattle.words.specs.Truncation.{slip}
+use Rattle.truncations.specs.Truncation.{slip}
 use Rattle.shares.specs.Gates.{value}
 use Rattle.tables.specs.Table.{rows}
-use Rattle.tables.specs.Curve.{scaled, line, last-count, Near}
-use Rattle.tables.specs.Count.{count}
+use Rattle.curves.specs.Curve.{scaled, line, last-count, Near}
+use Rattle.curves.specs.Count.{count}
 use Rattle.circuits.specs.Programs.{sum-program}
 use Rattle.circuits.specs.Costs.{program-cost}
 use Rattle.jobs.specs.Job.{orders}

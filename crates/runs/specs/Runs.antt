@@ -175,9 +175,13 @@ abbrev pub six : (p0 p1 p2 : Pair) → ℕ → Six
 six p0 p1 p2 i =
     record { l1-of-0 = at (p0 .0) i; l2-of-0 = at (p0 .1) i; m-of-1 = at (p1 .0) i; l1-of-1 = at (p1 .1) i; m-of-2 = at (p2 .0) i; l2-of-2 = at (p2 .1) i }
 
+-- what opening gives on them
+abbrev pub opened-slot : (w : ℕ) (p0 p1 p2 : Pair) → ℕ → ℕ × ℤ
+opened-slot w p0 p1 p2 i = reconstruction w (six p0 p1 p2 i)
+
 -- "What it opens is what opening gives on the three hosts' shares of its target as the order leaves them": slot i after order q
 unfoldable pub opened-after : (w : ℕ) → World → (q i : ℕ) → ℕ × ℤ
-opened-after w v q i = reconstruction w (six (getD (trail0 v) q ([], [])) (getD (trail1 v) q ([], [])) (getD (trail2 v) q ([], [])) i)
+opened-after w v q i = opened-slot w (getD (trail0 v) q ([], [])) (getD (trail1 v) q ([], [])) (getD (trail2 v) q ([], [])) i
 
 -- the buffer of deals
 abbrev pub buffer-of : World → List ℕ

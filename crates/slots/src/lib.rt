@@ -1,15 +1,9 @@
-// A lane's slots, and what a word has in its parts. Reading past the last slot gives 0 and writing there does nothing,
-// so that every gate has a meaning on every lane.
+// A lane's slots and a list's words. Reading past the last one gives 0 and writing there does nothing, so that every gate
+// has a meaning on every lane.
 ghost use mathlib.Core.Path.{_≡_};
 ghost use Prim.Native.Nat.{_+_};
 ghost use lib.ListN.{set};
 ghost use Rattle.gates.specs.Steps as Steps;
-
-mod parts;
-
-pub use parts::bit_of;
-pub use parts::part_of;
-pub use parts::shift_up;
 
 // ---- the accessors go by a slice, whose length is there to test: no contract speaks of bounds
 

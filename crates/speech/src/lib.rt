@@ -1,11 +1,10 @@
-// The words that are spoken at a gate, and what a walk does there: document 01's formulas on words. The definitions stand with the gates (`Speech`, `Meaning`).
+// The words that are spoken at a gate: document 01's formulas on words. The definitions stand with the gates (`Speech`, `Meaning`).
 ghost use mathlib.Core.Path.{_≡_};
 ghost use Rattle.words.specs.Words.{numbers, bits};
 ghost use Rattle.shares.specs.Gates.{product-word1, product-word2, refresh-word1, refresh-word2};
-ghost use Rattle.gates.specs.Speech.{spoken1, spoken2, met, shape};
+ghost use Rattle.gates.specs.Speech.{spoken1, spoken2, met};
 ghost use Rattle.gates.specs.Meaning.{meaning};
 use gates::Gate;
-use gates::Shape;
 use slots::at;
 
 // ---- numbers
@@ -92,19 +91,5 @@ pub fn met_word(g: Gate, v: u32, w: u32) -> u32
         Gate::And { d: _, a: _, b: _ } => v ^ w,
         Gate::Refresh { d: _, a: _ } => std::num::wrapping_add_u32(v, w),
         _ => 0,
-    }
-}
-
-// What a walk does at the gate.
-pub fn shape_of(g: Gate) -> Shape
-    ensures { λ r. ⌜ r ≡ shape (meaning 32 g) ⌝ }
-{
-    match g {
-        Gate::Mul { d, a: _, b: _ } => Shape::Product { d },
-        Gate::And { d, a: _, b: _ } => Shape::Product { d },
-        Gate::Refresh { d, a: _ } => Shape::Refreshing { d },
-        Gate::Deal { d, a: _, dealt: _ } => Shape::Dealing { d },
-        Gate::DealBits { d, a: _ } => Shape::Dealing { d },
-        _ => Shape::Local,
     }
 }

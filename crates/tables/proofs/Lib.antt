@@ -1,11 +1,4 @@
 pub mod Rules
 pub mod Slopes
-pub mod Integers
 pub mod Rows
-pub mod Scaled
-pub mod Curve
-pub mod Counting
-pub mod Wrapping
-pub mod WordCurve
 pub mod HouseTable
-pub mod Figures

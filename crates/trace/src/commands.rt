@@ -3,48 +3,55 @@ ghost use mathlib.Core.Path.{_≡_};
 ghost use Prim.Native.Nat.{ℕ, _<_, min};
 ghost use lib.ListN.{length, getD};
 use crate::fronts::front;
-use crate::parsing::Command;
-use crate::parsing::command_of;
-use crate::parsing::keyword_length;
+use crate::parsing::NO_WORDS;
+use crate::parsing::OFFSET;
+use crate::parsing::REGISTER;
+use crate::parsing::RUN;
+use crate::parsing::TABLE;
+use crate::parsing::keyword_of;
 use crate::parsing::words_from;
-use crate::printing::Output;
 use crate::printing::put_line;
 use crate::running::run;
-use trio::Shared;
+use dealer::Masks;
 
-// What the lines so far have set, beside the table's words, and the output.
+// What the lines so far have set, the next line as far as it has come, of which 4,097 bytes are kept, and whether every write so
+// far was taken.
 pub struct Desk {
-    pub table_words: usize,
+    pub open: bool,
+    pub length: usize,
+    pub line: [u8; 4097],
     pub offset: u32,
-    pub registers: Shared,
-    pub output: Output,
+    pub table_words: usize,
+    pub table: [u32; 2048],
+    pub m: [u32; 16],
+    pub l1: [u32; 16],
+    pub l2: [u32; 16],
 }
 
 // At first the house table, offset 0 and zero shares.
-pub fn fresh_desk(table: &mut [u32; 2048]) -> Desk {
+pub fn fresh_desk() -> Desk {
     let house = tables::house();
-    let table_words = set_table(table, &house);
-    let m = [0u32; 16];
-    let l1 = [0u32; 16];
-    let l2 = [0u32; 16];
+    let mut table = [0u32; 2048];
+    let table_words = set_table(&mut table, &house);
+    let line = [0u8; 4097];
+    let zeros = [0u32; 16];
     Desk {
-        table_words,
+        open: true,
+        length: 0,
+        line,
         offset: 0,
-        registers: Shared { m, l1, l2 },
-        output: Output {
-            count: 0,
-            open: true,
-        },
+        table_words,
+        table,
+        m: zeros,
+        l1: zeros,
+        l2: zeros,
     }
 }
 
 // The answer to a line that is no command.
-pub fn refuse(buffer: &mut [u8; 65536], desk: Desk) -> Desk {
-    let mut next = desk;
-    let output = desk.output;
-    let printed = put_line(buffer, output, b"refused", &[0]);
-    next.output = printed;
-    next
+fn refuse(mut desk: Desk) -> Desk {
+    desk.open = put_line(b"refused", &[0]);
+    desk
 }
 
 // The table's words, as many as it has room for, and how many they are.
@@ -63,82 +70,65 @@ fn set_table(table: &mut [u32], words: &[u32]) -> usize
     i
 }
 
-fn set_offset(words: &[u32], buffer: &mut [u8; 65536], desk: Desk) -> Desk {
+fn with_offset(words: &[u32], mut desk: Desk) -> Desk {
     if words.len() != 1 {
-        return refuse(buffer, desk);
+        return refuse(desk);
     }
-    let mut next = desk;
-    next.offset = words[0];
-    next
+    desk.offset = words[0];
+    desk
 }
 
 // The register's number and its share's three words.
-fn set_register(words: &[u32], buffer: &mut [u8; 65536], desk: Desk) -> Desk {
-    if words.len() != 4 {
-        return refuse(buffer, desk);
-    }
-    let number = words[0];
-    if 15 < number {
-        return refuse(buffer, desk);
-    }
-    let register = number as usize;
-    let mut m = desk.registers.m;
-    let mut l1 = desk.registers.l1;
-    let mut l2 = desk.registers.l2;
-    m[register] = words[1];
-    l1[register] = words[2];
-    l2[register] = words[3];
-    let mut next = desk;
-    let registers = Shared { m, l1, l2 };
-    next.registers = registers;
-    next
-}
-
-fn run_job(words: &[u32], table: &[u32; 2048], buffer: &mut [u8; 65536], desk: Desk) -> Desk {
-    let lent = front(table, desk.table_words);
-    let registers = desk.registers;
-    let output = desk.output;
-    let printed = run(words, lent, desk.offset, registers, buffer, output);
-    let mut next = desk;
-    next.output = printed;
-    next
-}
-
-// A command with the first words of a list.
-fn obey(
-    command: Command,
-    list: &[u32; 2048],
-    count: usize,
-    table: &mut [u32; 2048],
-    buffer: &mut [u8; 65536],
-    desk: Desk,
-) -> Desk {
-    let words = front(list, count);
-    match command {
-        Command::Table => {
-            let mut next = desk;
-            next.table_words = set_table(table, words);
-            next
+fn with_register(words: &[u32], mut desk: Desk) -> Desk {
+    if words.len() == 4 {
+        let number = words[0];
+        if number < 16 {
+            let register = number as usize;
+            desk.m[register] = words[1];
+            desk.l1[register] = words[2];
+            desk.l2[register] = words[3];
+            return desk;
         }
-        Command::Offset => set_offset(words, buffer, desk),
-        Command::Register => set_register(words, buffer, desk),
-        Command::Run => run_job(words, table, buffer, desk),
-        Command::Unknown => refuse(buffer, desk),
+    }
+    refuse(desk)
+}
+
+fn after_run(words: &[u32], mut desk: Desk) -> Desk {
+    let table = desk.table;
+    let m = desk.m;
+    let l1 = desk.l1;
+    let l2 = desk.l2;
+    let lent = front(&table, desk.table_words);
+    desk.open = run(words, lent, desk.offset, m, Masks { l1, l2 });
+    desk
+}
+
+// A command by its keyword's code, with the first words of a list.
+fn obey(code: u64, list: &[u32; 2048], count: usize, mut desk: Desk) -> Desk {
+    let words = front(list, count);
+    match code {
+        TABLE => {
+            let mut table = desk.table;
+            desk.table_words = set_table(&mut table, words);
+            desk.table = table;
+            desk
+        }
+        OFFSET => with_offset(words, desk),
+        REGISTER => with_register(words, desk),
+        RUN => after_run(words, desk),
+        _ => refuse(desk),
     }
 }
 
-// A line without its newline.
-pub fn take_line(
-    text: &[u8],
-    table: &mut [u32; 2048],
-    buffer: &mut [u8; 65536],
-    desk: Desk,
-) -> Desk {
+// The line, without its newline; one of more than 4,096 bytes is no command.
+pub fn take_line(desk: Desk) -> Desk {
     let mut words = [0u32; 2048];
-    let command = command_of(text);
-    let found = words_from(text, keyword_length(command), &mut words);
-    if !found.good {
-        return refuse(buffer, desk);
+    let line = desk.line;
+    let text = lines::front(&line, desk.length);
+    let keyword = keyword_of(text);
+    let count = words_from(text, keyword.end, &mut words);
+    if count < NO_WORDS && desk.length <= 4096 {
+        return obey(keyword.code, &words, count, desk);
     }
-    obey(command, &words, found.count, table, buffer, desk)
+    refuse(desk)
 }

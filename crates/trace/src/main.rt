@@ -16,114 +16,45 @@ mod running;
 
 use commands::Desk;
 use commands::fresh_desk;
-use commands::refuse;
 use commands::take_line;
 use libc::STDIN_FILENO;
-use printing::flush;
 
-// How many bytes of a line have come, 4,097 for every line of more than 4,096, and whether more may come.
-struct Reader {
-    length: usize,
-    more: bool,
-    desk: Desk,
-}
-
-// Where a line has more than 4,096 bytes, the rest is dropped.
-fn keep(line: &mut [u8; 4096], length: usize, byte: u8) -> usize {
-    if length < 4096 {
-        line[length] = byte;
-        return length + 1;
-    }
-    4097
-}
-
-// The line is whole, and the next one begins.
-fn end_line(
-    line: &[u8; 4096],
-    table: &mut [u32; 2048],
-    buffer: &mut [u8; 65536],
-    reader: Reader,
-) -> Reader {
-    let length = reader.length;
-    let more = reader.more;
-    let desk = reader.desk;
-    if 4096 < length {
-        let refused = refuse(buffer, desk);
-        return Reader {
-            length: 0,
-            more,
-            desk: refused,
-        };
-    }
-    let taken = take_line(lines::front(line, length), table, buffer, desk);
-    Reader {
-        length: 0,
-        more,
-        desk: taken,
-    }
-}
-
-fn take_bytes(
-    bytes: &[u8],
-    line: &mut [u8; 4096],
-    table: &mut [u32; 2048],
-    buffer: &mut [u8; 65536],
-    reader: Reader,
-) -> Reader {
-    let mut next = reader;
+// Each newline ends a line.
+fn take_bytes(bytes: &[u8], mut desk: Desk) -> Desk {
     let mut i = 0;
-    while i < bytes.len() {
+    while i < bytes.len() && desk.open {
+        let length = desk.length;
         if bytes[i] == b'\n' {
-            next = end_line(line, table, buffer, next);
-        } else {
-            next.length = keep(line, next.length, bytes[i]);
+            desk = take_line(desk);
+            desk.length = 0;
+        } else if length < 4097 {
+            desk.line[length] = bytes[i];
+            desk.length = length + 1;
         }
         i += 1;
     }
-    next
+    desk
 }
 
-// Reads once; nothing more comes where the input ends, a read fails or a write has failed.
-fn take_some(
-    line: &mut [u8; 4096],
-    table: &mut [u32; 2048],
-    buffer: &mut [u8; 65536],
-    reader: Reader,
-) -> Reader {
+// Reads until the input ends, a read fails or a write fails; the last line may lack its newline. A proved loop has to end, and
+// nothing says that the input does: so it counts its turns down, from a number that no run uses up.
+fn main() {
     let mut bytes = io::buffer();
-    let got = libc::read(STDIN_FILENO, &mut bytes);
-    let n = io::count(got, &bytes);
-    let mut next = take_bytes(&bytes[..n], line, table, buffer, reader);
-    next.more = 0 < n && next.desk.output.open;
-    next
-}
-
-// A proved loop has to end, and nothing says that the input does. So the loop counts its turns down, from a number that no
-// run uses up.
-fn take_all(line: &mut [u8; 4096], table: &mut [u32; 2048], buffer: &mut [u8; 65536]) -> Reader {
-    let desk = fresh_desk(table);
-    let mut reader = Reader {
-        length: 0,
-        more: true,
-        desk,
-    };
+    let mut desk = fresh_desk();
     let mut turns = u64::MAX;
-    while turns > 0 && reader.more {
-        reader = take_some(line, table, buffer, reader);
+    while turns > 0 {
+        let got = libc::read(STDIN_FILENO, &mut bytes);
+        let n = io::count(got, &bytes);
+        if n == 0 {
+            break;
+        }
+        desk = take_bytes(&bytes[..n], desk);
+        if !desk.open {
+            return;
+        }
         turns -= 1;
     }
-    reader
-}
-
-// The last line may lack its newline.
-fn main() {
-    let mut line = io::buffer();
-    let mut table = [0u32; 2048];
-    let mut buffer = io::large_buffer();
-    let mut reader = take_all(&mut line, &mut table, &mut buffer);
-    if 0 < reader.length {
-        reader = end_line(&line, &mut table, &mut buffer, reader);
+    if 0 < desk.length {
+        take_line(desk);
     }
-    let output = reader.desk.output;
-    flush(&buffer, output);
 }

@@ -6,12 +6,19 @@ ghost use lib.Dec.{ltb};
 ghost use lib.ListN.{drop};
 ghost use Rattle.trace.specs.Decimal.{digit, digits, Written, word-at};
 
-pub enum Command {
-    Table,
-    Offset,
-    Register,
-    Run,
-    Unknown,
+// Keywords as numbers: their bytes, to the base 256.
+pub const TABLE: u64 = 0x7461626c65;
+
+pub const OFFSET: u64 = 0x6f6666736574;
+
+pub const REGISTER: u64 = 0x7265676973746572;
+
+pub const RUN: u64 = 0x72756e;
+
+// What a line starts with, as a number, and the place behind it.
+pub struct Keyword {
+    pub code: u64,
+    pub end: usize,
 }
 
 // A decimal word and the place behind it, where there is one.
@@ -21,11 +28,8 @@ struct Parsed {
     next: usize,
 }
 
-// How many words a line has, where it has words alone.
-pub struct Words {
-    pub good: bool,
-    pub count: usize,
-}
+// In place of a count, where something else than words stands in a line, or more of them than there is room for.
+pub const NO_WORDS: usize = 2049;
 
 fn wide(x: u8) -> u64
     ensures { λ r. ⌜ r ≡ x ⌝ }
@@ -106,65 +110,45 @@ fn number(text: &[u8], start: usize) -> Parsed
     }
 }
 
-// The words from a place to the line's end.
-pub fn words_from(text: &[u8], start: usize, words: &mut [u32; 2048]) -> Words {
-    let mut at = start;
+// The words from a place to the line's end, and how many they are.
+pub fn words_from(text: &[u8], mut at: usize, words: &mut [u32; 2048]) -> usize {
     let mut count = 0;
     while count < 2048 {
         if text.len() <= at {
-            return Words { good: true, count };
+            return count;
         }
         if text[at] != b' ' {
-            return Words { good: false, count };
+            return NO_WORDS;
         }
         let word = number(text, at + 1);
         if !word.good {
-            return Words { good: false, count };
+            return NO_WORDS;
         }
         words[count] = word.value;
         count += 1;
         at = word.next;
     }
-    Words { good: false, count }
+    NO_WORDS
 }
 
-fn starts(text: &[u8], keyword: &[u8]) -> bool {
-    let mut i = 0;
-    while i < keyword.len() {
-        if text.len() <= i {
-            return false;
+// The code with a byte more, or one that no keyword has where it would have more than eight.
+fn with_byte(code: u64, byte: u8) -> u64 {
+    if 0xffffffffffffff < code {
+        return u64::MAX;
+    }
+    code * 256 + wide(byte)
+}
+
+// A keyword ends before the first byte that is no more than a space: a zero in front would leave its code as it is.
+pub fn keyword_of(text: &[u8]) -> Keyword {
+    let mut code = 0;
+    let mut at = 0;
+    while at < text.len() {
+        if text[at] <= b' ' {
+            return Keyword { code, end: at };
         }
-        if text[i] != keyword[i] {
-            return false;
-        }
-        i += 1;
+        code = with_byte(code, text[at]);
+        at += 1;
     }
-    true
-}
-
-// The command that a line's first bytes name; its words start behind the keyword.
-pub fn command_of(text: &[u8]) -> Command {
-    if starts(text, b"table") {
-        return Command::Table;
-    }
-    if starts(text, b"offset") {
-        return Command::Offset;
-    }
-    if starts(text, b"register") {
-        return Command::Register;
-    }
-    if starts(text, b"run") {
-        return Command::Run;
-    }
-    Command::Unknown
-}
-
-pub fn keyword_length(command: Command) -> usize {
-    match command {
-        Command::Table => 5,
-        Command::Offset => 6,
-        Command::Register => 8,
-        Command::Run => 3,
-        Command::Unknown => 0,
-    }
+    Keyword { code, end: at }
 }

@@ -1,14 +1,14 @@
 // A run: the three hosts work through a job, and what they deal, speak and open is printed.
 use crate::fronts::front;
-use crate::printing::Output;
 use crate::printing::put_line;
+use dealer::Masks;
+use dealer::prepare;
+use hosts::Answer;
+use hosts::Registers;
+use hosts::start;
 use masks::fill;
+use openings::opened;
 use shares::Opening;
-use trio::Shared;
-use trio::Trio;
-use trio::begin;
-use trio::exchange;
-use trio::opened;
 
 // The longest accepted job is 64 exact curve orders on 16 rows. One of them needs 444 words of A, 204 of B and
 // 240 deals, and each host speaks 204 words.
@@ -20,10 +20,36 @@ const DEALS: usize = 15360;
 
 const SPOKEN: usize = 13056;
 
-// The trio at its end, and how many words each host spoke.
-struct Ended {
-    count: usize,
-    trio: Trio,
+// The last answers of hosts 1 and 2.
+struct Both {
+    one: Answer,
+    two: Answer,
+}
+
+// Both start from m, host 1 with its masks L1 and host 2 with L2.
+fn started(
+    job: &[u32],
+    table: &[u32],
+    a: &[u32],
+    b: &[u32],
+    deals: &[u32],
+    m: [u32; 16],
+    masks: Masks,
+) -> Both {
+    let l1 = masks.l1;
+    let l2 = masks.l2;
+    let one = start(1, job, table, a, deals, Registers { m, mask: l1 });
+    let two = start(2, job, table, b, deals, Registers { m, mask: l2 });
+    Both { one, two }
+}
+
+// Each hears the word that the other spoke.
+fn heard(job: &[u32], table: &[u32], a: &[u32], b: &[u32], deals: &[u32], s: Both) -> Both {
+    let first = s.one.state;
+    let second = s.two.state;
+    let one = first.hear(1, job, table, a, deals, s.two.word);
+    let two = second.hear(2, job, table, b, deals, s.one.word);
+    Both { one, two }
 }
 
 // Carries the hosts' words to and fro until the job's end, and keeps them.
@@ -33,79 +59,78 @@ fn exchange_all(
     a: &[u32],
     b: &[u32],
     deals: &[u32],
-    begun: Trio,
+    mut s: Both,
     one: &mut [u32; SPOKEN],
     two: &mut [u32; SPOKEN],
-) -> Ended {
+) -> Both {
     let orders = job.len() / 4;
-    let mut trio = begun;
-    let mut count = 0;
-    while count < SPOKEN {
-        if orders <= trio.one.state.order as usize {
-            return Ended { count, trio };
+    let mut i = 0;
+    while i < SPOKEN {
+        if orders <= s.one.state.order as usize {
+            return s;
         }
-        one[count] = trio.one.word;
-        two[count] = trio.two.word;
-        trio = exchange(job, table, a, b, deals, trio);
-        count += 1;
+        one[i] = s.one.word;
+        two[i] = s.two.word;
+        s = heard(job, table, a, b, deals, s);
+        i += 1;
     }
-    Ended { count, trio }
+    s
 }
 
-// What a register opens, as a word. All hosts are given the same shares, so that these never disagree.
-fn opened_word(trio: Trio, register: usize) -> u32 {
-    match opened(trio, register) {
-        Opening::Opened(value) => words::word_of(value),
-        Opening::Disagree => 0,
-    }
-}
-
-fn opened_words(trio: Trio) -> [u32; 16] {
+// What the registers open, as words. All hosts are given the same shares, so that these never disagree.
+fn opened_words(masks: Masks, s: Both) -> [u32; 16] {
     let mut values = [0u32; 16];
     let mut i = 0;
     while i < 16 {
-        values[i] = opened_word(trio, i);
+        values[i] = match opened(masks, s.one.state, s.two.state, i) {
+            Opening::Opened(value) => words::word_of(value),
+            Opening::Disagree => 0,
+        };
         i += 1;
     }
     values
 }
 
-// A line of the words that a host spoke.
-fn put_spoken(
-    buffer: &mut [u8; 65536],
-    output: Output,
-    name: &[u8],
-    list: &[u32; SPOKEN],
-    count: usize,
-) -> Output {
-    put_line(buffer, output, name, front(list, count))
+// The lines of what hosts 1 and 2 spoke.
+fn put_spoken(one: &[u32; SPOKEN], two: &[u32; SPOKEN], count: usize) -> bool {
+    put_line(b"one", front(one, count)) && put_line(b"two", front(two, count))
+}
+
+// The exchanges of an accepted job, and the lines of what it leaves; host 0's masks are those of the results.
+fn finish(
+    job: &[u32],
+    table: &[u32],
+    a: &[u32],
+    b: &[u32],
+    deals: &[u32],
+    begun: Both,
+    masks: Masks,
+) -> bool {
+    let mut one = [0u32; SPOKEN];
+    let mut two = [0u32; SPOKEN];
+    let ended = exchange_all(job, table, a, b, deals, begun, &mut one, &mut two);
+    put_line(b"deals", deals)
+        && put_spoken(&one, &two, ended.one.spoken as usize)
+        && put_line(b"open", &opened_words(masks, ended))
 }
 
 // The four lines of an accepted run, or the line of a refused one.
-pub fn run(
-    job: &[u32],
-    table: &[u32],
-    offset: u32,
-    registers: Shared,
-    buffer: &mut [u8; 65536],
-    output: Output,
-) -> Output {
+fn run_with(job: &[u32], table: &[u32], a: &[u32], b: &[u32], m: [u32; 16], masks: Masks) -> bool {
+    let mut deals = [0u32; DEALS];
+    let p = prepare(job, table, a, b, &mut deals, masks);
+    if p.number != 0 {
+        return put_line(b"refused", &[p.number, p.index]);
+    }
+    let dealt = front(&deals, p.deals as usize);
+    let begun = started(job, table, a, b, dealt, m, masks);
+    finish(job, table, a, b, dealt, begun, p.masks)
+}
+
+// A run on the mask lists that an offset gives, from registers with these shares.
+pub fn run(job: &[u32], table: &[u32], offset: u32, m: [u32; 16], masks: Masks) -> bool {
     let mut a = [0u32; LIST_A];
     let mut b = [0u32; LIST_B];
-    let mut deals = [0u32; DEALS];
     fill(&mut a, 2654435769, offset);
     fill(&mut b, 2246822519, offset);
-    let begun = begin(job, table, &a, &b, &mut deals, registers);
-    if begun.number != 0 {
-        return put_line(buffer, output, b"refused", &[begun.number, begun.index]);
-    }
-    let mut one = [0u32; SPOKEN];
-    let mut two = [0u32; SPOKEN];
-    let ended = exchange_all(job, table, &a, &b, &deals, begun, &mut one, &mut two);
-    let count = ended.count;
-    let trio = ended.trio;
-    let dealt = put_line(buffer, output, b"deals", front(&deals, trio.deals as usize));
-    let first = put_spoken(buffer, dealt, b"one", &one, count);
-    let second = put_spoken(buffer, first, b"two", &two, count);
-    put_line(buffer, second, b"open", &opened_words(trio))
+    run_with(job, table, &a, &b, m, masks)
 }

@@ -15,13 +15,13 @@ use Rattle.gates.specs.Walk.{Conf, whole}
 use Rattle.gates.specs.Parties.{Pair, Triple, of1, of2, act}
 use Rattle.jobs.specs.Job.{job-gates, steps-of, job-cost}
 use Rattle.parties.specs.Calls.{State, given}
-use Rattle.runs.specs.Runs.{Setting, ready}
+use Rattle.runs.specs.Runs.{Setting, ready, opened-slot}
 use Rattle.runs.specs.Orders.{slot, after-order, trail, first}
 use Rattle.runs.proofs.Chain.{mark-gate}
 use Rattle.runs.proofs.Demand2.{demand2}
 use Rattle.runs.proofs.Kept.{DealerOk, dealt-all, prepares-ok}
 use Rattle.runs.proofs.Progress.{unless-zero}
-use Rattle.trio.specs.Together.{Trio, prepared, preparation as trio-preparation, left, ended, together, opened-register}
+use Rattle.trio.specs.Together.{Trio, prepared, preparation as trio-preparation, left, ended, together}
 use Rattle.trio.proofs.Positions.{lent-of, given-of, P}
 
 -- ---- one order: it leaves what the walk ends with
@@ -64,8 +64,8 @@ module _ (w : ℕ) (S : Setting) (buf : List ℕ) (done : P w S buf .number ≡ 
       go (dealt-all post e m t) = m
 
   -- opening never meets 10
-  pub register-opens : (i : ℕ) → i < 16 → opened-register w (over .masks) (over .one .state) (over .two .state) i ≡ (0, signed w (value (numbers w) (slot end-state i)))
-  unfolding opened-register ended
+  pub register-opens : (i : ℕ) → i < 16 → opened-slot w (over .masks) (over .one .state .m, over .one .state .mask) (over .two .state .m, over .two .state .mask) i ≡ (0, signed w (value (numbers w) (slot end-state i)))
+  unfolding ended
   register-opens i h = rw (over-is, masks-are, getD-take 16 (end-state .1) i 0 h, getD-take 16 (end-state .2) i 0 h) (share-opens w (slot end-state i))
 
   pub words-spoken : (over .one .spoken ≡ job-cost w (S .job) (S .table) .b) × (over .two .spoken ≡ job-cost w (S .job) (S .table) .b)

@@ -1,17 +1,14 @@
 -- Document 01, "Stepping": a job that the three hosts run in one place, each word carried to the other host at once. Assumes nothing.
 use mathlib.Core.List.{List, []}
 use Prim.Native.Nat.{ℕ}
-use lib.IntN.{ℤ}
 use lib.ListN.{length}
-use Rattle.shares.specs.Sharing.{reconstruction}
 use Rattle.gates.specs.Steps.{origin}
 use Rattle.gates.specs.Walk.{whole}
 use Rattle.gates.specs.Parties.{Pair, Triple, of0, of1, of2, act}
 use Rattle.jobs.specs.Job.{orders, steps-of, job-cost}
 use Rattle.parties.specs.Lent.{Lent}
-use Rattle.parties.specs.Calls.{State, Answer, Prepared, fresh, given, unless, start, hear, prepare}
+use Rattle.parties.specs.Calls.{Answer, Prepared, fresh, given, unless, start, hear, prepare}
 use Rattle.hosts.specs.Answers.{answer-of}
-use Rattle.runs.specs.Runs.{six}
 use Rattle.trio.specs.declared.Trio.{Trio as Trio′}
 use Rattle.trio.specs.declared.Shared.{Shared}
 
@@ -112,7 +109,3 @@ module _ (w : ℕ) (L : Lending) where
   -- the whole job
   unfoldable pub together : Triple → (buffer : List ℕ) → Trio
   together r buf = prepared r (preparation r buf) (ended (of1 (left r))) (ended (of2 (left r)))
-
--- what opening gives on the six words of slot i that the three hosts hold
-unfoldable pub opened-register : ℕ → (masks : Pair) (one two : State) → ℕ → ℕ × ℤ
-opened-register w p s t i = reconstruction w (six p (s .m, s .mask) (t .m, t .mask) i)

@@ -1,24 +1,16 @@
 // The three hosts in one place: preparation, both startings, and every spoken word carried to the other host.
 ghost use mathlib.Core.Path.{_≡_};
-ghost use Rattle.gates.specs.Steps.{at};
-ghost use Rattle.shares.specs.Answers.{opening};
 ghost use Rattle.parties.specs.Calls as Calls;
 ghost use Rattle.parties.specs.Lent.{lent};
-ghost use Rattle.hosts.specs.Answers.{answer-of, state-of, lanes-of};
-ghost use Rattle.trio.specs.Together.{trio-of, shared, lending, begun, heard, together, opened-register};
+ghost use Rattle.hosts.specs.Answers.{answer-of, lanes-of};
+ghost use Rattle.trio.specs.Together.{trio-of, shared, lending, begun, heard, together};
 use dealer::Masks;
 use dealer::prepare;
 use hosts::Answer;
 use hosts::Registers;
 use hosts::State;
 use hosts::start;
-use parties::fresh;
-use shares::DealerShare;
-use shares::Opening;
-use shares::Shares;
-use shares::WorkerShare;
-use shares::reconstruct;
-use slots::word_at;
+use lendings::fresh;
 
 // A share of every register, on which the three hosts agree.
 pub struct Shared {
@@ -72,7 +64,7 @@ fn first(
 }
 
 // Preparation, then both startings; neither host starts where the preparation is refused.
-pub fn begin(
+fn begin(
     job: &[u32],
     table: &[u32],
     a: &[u32],
@@ -120,7 +112,7 @@ pub fn begin(
 }
 
 // Each host hears the word that the other spoke last.
-pub fn exchange(job: &[u32], table: &[u32], a: &[u32], b: &[u32], deals: &[u32], s: Trio) -> Trio
+fn exchange(job: &[u32], table: &[u32], a: &[u32], b: &[u32], deals: &[u32], s: Trio) -> Trio
     ensures { λ r. ⌜ trio-of r (now (deals .entry)) ≡ heard 32 (lending (now (job .entry)) (now (table .entry)) (now (a .entry)) (now (b .entry))) (trio-of s (now (deals .entry))) ⌝ }
 {
     let first = s.one.state;
@@ -177,32 +169,4 @@ pub fn run(
     let l1 = registers.l1;
     let l2 = registers.l2;
     carry(job, table, a, b, deals, m, l1, l2)
-}
-
-// What host 1 or 2 holds of a register.
-fn held(s: State, register: usize) -> WorkerShare
-    ensures { λ r. ⌜ (r .m ≡ at (s .m) register) × (r .l ≡ at (s .mask) register) ⌝ }
-{
-    let m = s.m;
-    let mask = s.mask;
-    WorkerShare {
-        m: word_at(&m, register),
-        l: word_at(&mask, register),
-    }
-}
-
-// What a register, 0 to 15, opens on the three hosts' shares of it.
-pub fn opened(s: Trio, register: usize) -> Opening
-    ensures { λ r. ⌜ opening r ≡ opened-register 32 (s .masks .l1, s .masks .l2) (state-of (s .one .state)) (state-of (s .two .state)) register ⌝ }
-{
-    let l1 = s.masks.l1;
-    let l2 = s.masks.l2;
-    reconstruct(Shares {
-        p0: DealerShare {
-            l1: word_at(&l1, register),
-            l2: word_at(&l2, register),
-        },
-        p1: held(s.one.state, register),
-        p2: held(s.two.state, register),
-    })
 }

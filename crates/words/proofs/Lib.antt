@@ -2,11 +2,8 @@ pub mod Digits
 pub mod Solver
 pub mod Bits
 pub mod Words
-pub mod Carries
-pub mod Adder
 pub mod Integers
 pub mod Signed
-pub mod Truncation
 pub mod Machine
 pub mod Below
 pub mod Copying

@@ -13,10 +13,8 @@ use lib.IntN.{ℤ, pos, negsuc, subℕ, negℤ}
 use lib.Signed.{mag, leZ, ltZ}
 use Rattle.words.specs.Words.{add, sub, neg, bit}
 use Rattle.words.specs.Signed.{floor, signed, wrap, shr-signed, in-range}
-use Rattle.words.specs.Adder.{sign}
 use Rattle.words.proofs.Digits.{both}
 use Rattle.words.proofs.Words.{sub-of, sub-is, sub-lt}
-use Rattle.words.proofs.Adder.{sign-bit}
 use Rattle.words.proofs.Integers.{le-or-lt, neg-pos, sub-ge, sub-below, sub-same, floor-sub}
 
 -- 2^w is twice the word's half
@@ -183,7 +181,3 @@ top-bit w x o h =
     rw (signed-high w x l, sub-below x (2 ^ w) h, q))
     (λ (l : x < 2 ^ (w - 1)). rw (signed-low w x l, leb·suc-zero x, div-eq-of-lt l))
     (le-or-lt (2 ^ (w - 1)) x)
-
--- the sign s of x = m - L is 1 exactly where x reads negative
-pub sign-negative : (w m L : ℕ) → 2 ≤ w → sign w m (neg w L) ≡ cond (ltZ (signed w (sub w m L)) (pos 0)) 1 0
-sign-negative w m L h = sign-bit w m (neg w L) h ∙ rw (← sub-is w m L) (top-bit w (sub w m L) (omega arith) (sub-lt w m L))

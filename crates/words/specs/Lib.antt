@@ -1,5 +1,3 @@
 pub mod Ring
 pub mod Words
 pub mod Signed
-pub mod Adder
-pub mod Truncation

@@ -12,9 +12,6 @@ abbrev μ-loop : tie.MeasureT-loop
 word-requires : tie.Need-word-requires Inv-loop μ-loop
 word-requires c κs = search needs
 
-one-of-requires : tie.Need-one-of-requires Inv-loop μ-loop
-one-of-requires c κs = search needs
-
 loop-holds : tie.Need-loop-holds Inv-loop μ-loop
 loop-holds c = search needs
 
@@ -33,9 +30,6 @@ array-write-rows c = search needs
 word-requires-2 : tie.Need-word-requires-2 Inv-loop μ-loop
 word-requires-2 c κs = search needs
 
-one-of-requires-2 : tie.Need-one-of-requires-2 Inv-loop μ-loop
-one-of-requires-2 c κs = search needs
-
 add-rows : tie.Need-add-rows Inv-loop μ-loop
 add-rows c = search needs
 
@@ -45,14 +39,17 @@ mul-rows-2 c = search needs
 array-write-rows-2 : tie.Need-array-write-rows-2 Inv-loop μ-loop
 array-write-rows-2 c = search needs
 
-wrapping-add-u32-requires : tie.Need-wrapping-add-u32-requires Inv-loop μ-loop
-wrapping-add-u32-requires c κs = search needs
+add-word : tie.Need-add-word Inv-loop μ-loop
+add-word c = search needs
 
 word-requires-3 : tie.Need-word-requires-3 Inv-loop μ-loop
 word-requires-3 c κs = search needs
 
-one-of-requires-3 : tie.Need-one-of-requires-3 Inv-loop μ-loop
-one-of-requires-3 c κs = search needs
+remainder-requires : tie.Need-remainder-requires Inv-loop μ-loop
+remainder-requires c κs = search needs
+
+wrapping-add-u32-requires : tie.Need-wrapping-add-u32-requires Inv-loop μ-loop
+wrapping-add-u32-requires c κs = search needs
 
 wrapping-add-u32-requires-2 : tie.Need-wrapping-add-u32-requires-2 Inv-loop μ-loop
 wrapping-add-u32-requires-2 c κs = search needs
@@ -76,20 +73,19 @@ table-spec =
     Inv-loop
     μ-loop
     word-requires
-    one-of-requires
     loop-holds
     cast-at
     mul-at
     mul-rows
     array-write-rows
     word-requires-2
-    one-of-requires-2
     add-rows
     mul-rows-2
     array-write-rows-2
-    wrapping-add-u32-requires
+    add-word
     word-requires-3
-    one-of-requires-3
+    remainder-requires
+    wrapping-add-u32-requires
     wrapping-add-u32-requires-2
     add-row
     loop-less

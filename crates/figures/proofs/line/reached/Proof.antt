@@ -4,22 +4,31 @@ use Rattle.figures.proofs.line.reached.Statement.{statement}
 use Rattle.figures.proofs.line.reached.Tie as tie
 
 abbrev Inv-loop : tie.InvT-loop
-Inv-loop x table last₀ at₀ last at = at ≤ 31
+Inv-loop x table n last₀ row₀ last row = (row ≤ 16) × (n ≤ 16)
 
 abbrev μ-loop : tie.MeasureT-loop
-μ-loop x table last₀ at₀ last at = 30 - at
+μ-loop x table n last₀ row₀ last row = 16 - row
+
+row-count-requires : tie.Need-row-count-requires Inv-loop μ-loop
+row-count-requires c κs = search needs
 
 loop-holds : tie.Need-loop-holds Inv-loop μ-loop
 loop-holds c = search needs
 
-add-if1 : tie.Need-add-if1 Inv-loop μ-loop
-add-if1 c = search needs
+add-loop : tie.Need-add-loop Inv-loop μ-loop
+add-loop c = search needs
+
+mul-entry : tie.Need-mul-entry Inv-loop μ-loop
+mul-entry c = search needs
 
 entry-requires : tie.Need-entry-requires Inv-loop μ-loop
 entry-requires c κs = search needs
 
-add-at : tie.Need-add-at Inv-loop μ-loop
-add-at c = search needs
+mul-last : tie.Need-mul-last Inv-loop μ-loop
+mul-last c = search needs
+
+add-row : tie.Need-add-row Inv-loop μ-loop
+add-row c = search needs
 
 loop-less : tie.Need-loop-less Inv-loop μ-loop
 loop-less c = search needs
@@ -36,10 +45,13 @@ reached-spec =
     (tie.spec
     Inv-loop
     μ-loop
+    row-count-requires
     loop-holds
-    add-if1
+    add-loop
+    mul-entry
     entry-requires
-    add-at
+    mul-last
+    add-row
     loop-less
     loop-again
     returns)

@@ -4,10 +4,13 @@ use Rattle.figures.proofs.line.scaled_sum.Statement.{statement}
 use Rattle.figures.proofs.line.scaled_sum.Tie as tie
 
 abbrev Inv-loop : tie.InvT-loop
-Inv-loop x table n sum₀ row₀ sum row = (row ≤ 16) × (1 ≤ row)
+Inv-loop x table n sum₀ row₀ sum row = (row ≤ 16) × (1 ≤ row) × (n ≤ 16)
 
 abbrev μ-loop : tie.MeasureT-loop
 μ-loop x table n sum₀ row₀ sum row = 16 - row
+
+row-count-requires : tie.Need-row-count-requires Inv-loop μ-loop
+row-count-requires c κs = search needs
 
 entry-requires : tie.Need-entry-requires Inv-loop μ-loop
 entry-requires c κs = search needs
@@ -18,32 +21,20 @@ product-requires c κs = search needs
 loop-holds : tie.Need-loop-holds Inv-loop μ-loop
 loop-holds c = search needs
 
-mul-at : tie.Need-mul-at Inv-loop μ-loop
-mul-at c = search needs
+mul-segment-at : tie.Need-mul-segment-at Inv-loop μ-loop
+mul-segment-at c = search needs
 
-sub-entry : tie.Need-sub-entry Inv-loop μ-loop
-sub-entry c = search needs
+sub-segment-at : tie.Need-sub-segment-at Inv-loop μ-loop
+sub-segment-at c = search needs
 
-entry-requires-2 : tie.Need-entry-requires-2 Inv-loop μ-loop
-entry-requires-2 c κs = search needs
+segment-at-requires : tie.Need-segment-at-requires Inv-loop μ-loop
+segment-at-requires c κs = search needs
 
-sub-entry-2 : tie.Need-sub-entry-2 Inv-loop μ-loop
-sub-entry-2 c = search needs
+rise-requires : tie.Need-rise-requires Inv-loop μ-loop
+rise-requires c κs = search needs
 
-entry-requires-3 : tie.Need-entry-requires-3 Inv-loop μ-loop
-entry-requires-3 c κs = search needs
-
-entry-requires-4 : tie.Need-entry-requires-4 Inv-loop μ-loop
-entry-requires-4 c κs = search needs
-
-add-entry : tie.Need-add-entry Inv-loop μ-loop
-add-entry c = search needs
-
-entry-requires-5 : tie.Need-entry-requires-5 Inv-loop μ-loop
-entry-requires-5 c κs = search needs
-
-with-segment-requires : tie.Need-with-segment-requires Inv-loop μ-loop
-with-segment-requires c κs = search needs
+wrapping-add-u32-requires : tie.Need-wrapping-add-u32-requires Inv-loop μ-loop
+wrapping-add-u32-requires c κs = search needs
 
 add-row : tie.Need-add-row Inv-loop μ-loop
 add-row c = search needs
@@ -63,18 +54,15 @@ scaled-sum-spec =
     (tie.spec
     Inv-loop
     μ-loop
+    row-count-requires
     entry-requires
     product-requires
     loop-holds
-    mul-at
-    sub-entry
-    entry-requires-2
-    sub-entry-2
-    entry-requires-3
-    entry-requires-4
-    add-entry
-    entry-requires-5
-    with-segment-requires
+    mul-segment-at
+    sub-segment-at
+    segment-at-requires
+    rise-requires
+    wrapping-add-u32-requires
     add-row
     loop-less
     loop-again

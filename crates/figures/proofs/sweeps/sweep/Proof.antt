@@ -9,14 +9,20 @@ Inv-loop s table n sum₀ i₀ sum i = i ≤ n
 abbrev μ-loop : tie.MeasureT-loop
 μ-loop s table n sum₀ i₀ sum i = n - i
 
+no-trials-requires : tie.Need-no-trials-requires Inv-loop μ-loop
+no-trials-requires c κs = search needs
+
 loop-holds : tie.Need-loop-holds Inv-loop μ-loop
 loop-holds c = search needs
 
 trial-at-requires : tie.Need-trial-at-requires Inv-loop μ-loop
 trial-at-requires c κs = search needs
 
-run-trial-requires : tie.Need-run-trial-requires Inv-loop μ-loop
-run-trial-requires c κs = search needs
+compared-requires : tie.Need-compared-requires Inv-loop μ-loop
+compared-requires c κs = search needs
+
+plus-requires : tie.Need-plus-requires Inv-loop μ-loop
+plus-requires c κs = search needs
 
 add-i : tie.Need-add-i Inv-loop μ-loop
 add-i c = search needs
@@ -36,9 +42,11 @@ sweep-spec =
     (tie.spec
     Inv-loop
     μ-loop
+    no-trials-requires
     loop-holds
     trial-at-requires
-    run-trial-requires
+    compared-requires
+    plus-requires
     add-i
     loop-less
     loop-again

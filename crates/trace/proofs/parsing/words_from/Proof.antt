@@ -5,10 +5,10 @@ use Rattle.trace.proofs.parsing.words_from.Statement.{statement}
 use Rattle.trace.proofs.parsing.words_from.Tie as tie
 
 abbrev Inv-loop : tie.InvT-loop
-Inv-loop text start words₀ at₀ count₀ words at count = Unit {0}
+Inv-loop text at₀ words₀ count₀ at words count = Unit {0}
 
 abbrev μ-loop : tie.MeasureT-loop
-μ-loop text start words₀ at₀ count₀ words at count = 2048 - count
+μ-loop text at₀ words₀ count₀ at words count = 2048 - count
 
 loop-holds : tie.Need-loop-holds Inv-loop μ-loop
 loop-holds c = search needs

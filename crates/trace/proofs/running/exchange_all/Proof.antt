@@ -5,10 +5,10 @@ use Rattle.trace.proofs.running.exchange_all.Statement.{statement}
 use Rattle.trace.proofs.running.exchange_all.Tie as tie
 
 abbrev Inv-loop : tie.InvT-loop
-Inv-loop job table a b deals one₀ two₀ orders trio₀ count₀ one two trio count = Unit {0}
+Inv-loop job table a b deals s₀ one₀ two₀ orders i₀ s one two i = Unit {0}
 
 abbrev μ-loop : tie.MeasureT-loop
-μ-loop job table a b deals one₀ two₀ orders trio₀ count₀ one two trio count = 13056 - count
+μ-loop job table a b deals s₀ one₀ two₀ orders i₀ s one two i = 13056 - i
 
 loop-holds : tie.Need-loop-holds Inv-loop μ-loop
 loop-holds c = search needs
@@ -31,11 +31,11 @@ mul-two c = search needs
 element-write-two : tie.Need-element-write-two Inv-loop μ-loop
 element-write-two c = search needs
 
-exchange-requires : tie.Need-exchange-requires Inv-loop μ-loop
-exchange-requires c κs = search needs
+heard-requires : tie.Need-heard-requires Inv-loop μ-loop
+heard-requires c κs = search needs
 
-add-count : tie.Need-add-count Inv-loop μ-loop
-add-count c = search needs
+add-i : tie.Need-add-i Inv-loop μ-loop
+add-i c = search needs
 
 loop-less : tie.Need-loop-less Inv-loop μ-loop
 loop-less c = search needs
@@ -59,8 +59,8 @@ exchange-all-spec =
     element-write-one
     mul-two
     element-write-two
-    exchange-requires
-    add-count
+    heard-requires
+    add-i
     loop-less
     loop-again
     returns-2)

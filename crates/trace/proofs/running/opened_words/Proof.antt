@@ -7,16 +7,25 @@ use Rattle.trace.proofs.running.opened_words.Statement.{statement}
 use Rattle.trace.proofs.running.opened_words.Tie as tie
 
 abbrev Inv-loop : tie.InvT-loop
-Inv-loop trio values₀ i₀ values i = length values ≡ 16
+Inv-loop masks s values₀ i₀ values i = length values ≡ 16
 
 abbrev μ-loop : tie.MeasureT-loop
-μ-loop trio values₀ i₀ values i = 16 - i
+μ-loop masks s values₀ i₀ values i = 16 - i
 
 loop-holds : tie.Need-loop-holds Inv-loop μ-loop
 loop-holds c = search needs
 
-opened-word-requires : tie.Need-opened-word-requires Inv-loop μ-loop
-opened-word-requires c κs = search needs
+opened-requires : tie.Need-opened-requires Inv-loop μ-loop
+opened-requires c κs = search needs
+
+enum-known-value : tie.Need-enum-known-value Inv-loop μ-loop
+enum-known-value c = search needs
+
+word-of-requires : tie.Need-word-of-requires Inv-loop μ-loop
+word-of-requires c κs = search needs
+
+enum-told : tie.Need-enum-told Inv-loop μ-loop
+enum-told c = search needs
 
 mul-values : tie.Need-mul-values Inv-loop μ-loop
 mul-values c = search needs
@@ -43,7 +52,10 @@ opened-words-spec =
     Inv-loop
     μ-loop
     loop-holds
-    opened-word-requires
+    opened-requires
+    enum-known-value
+    word-of-requires
+    enum-told
     mul-values
     array-write-values
     add-i

@@ -1,0 +1,61 @@
+use Prim.Native.Nat.{_-_, _≤_}
+use borrow.Author.Needs.{needs}
+use Rattle.figures.proofs.curves.others.Statement.{statement}
+use Rattle.figures.proofs.curves.others.Tie as tie
+
+abbrev Inv-loop : tie.InvT-loop
+Inv-loop mode sum₀ i₀ sum i = i ≤ 21
+
+abbrev μ-loop : tie.MeasureT-loop
+μ-loop mode sum₀ i₀ sum i = 21 - i
+
+no-trials-requires : tie.Need-no-trials-requires Inv-loop μ-loop
+no-trials-requires c κs = search needs
+
+loop-holds : tie.Need-loop-holds Inv-loop μ-loop
+loop-holds c = search needs
+
+on-table-requires : tie.Need-on-table-requires Inv-loop μ-loop
+on-table-requires c κs = search needs
+
+plus-requires : tie.Need-plus-requires Inv-loop μ-loop
+plus-requires c κs = search needs
+
+add-i : tie.Need-add-i Inv-loop μ-loop
+add-i c = search needs
+
+loop-less : tie.Need-loop-less Inv-loop μ-loop
+loop-less c = search needs
+
+loop-again : tie.Need-loop-again Inv-loop μ-loop
+loop-again c = search needs
+
+wrapping-add-u32-requires : tie.Need-wrapping-add-u32-requires Inv-loop μ-loop
+wrapping-add-u32-requires c κs = search needs
+
+print-values-requires : tie.Need-print-values-requires Inv-loop μ-loop
+print-values-requires c κs = search needs
+
+print-rest-requires : tie.Need-print-rest-requires Inv-loop μ-loop
+print-rest-requires c κs = search needs
+
+returns : tie.Need-returns Inv-loop μ-loop
+returns c = search needs
+
+pub others-spec : {M : Type 1} → statement M
+others-spec =
+    tie.close
+    (tie.spec
+    Inv-loop
+    μ-loop
+    no-trials-requires
+    loop-holds
+    on-table-requires
+    plus-requires
+    add-i
+    loop-less
+    loop-again
+    wrapping-add-u32-requires
+    print-values-requires
+    print-rest-requires
+    returns)

@@ -1,0 +1,79 @@
+// The lines that the program writes. Their names are put together from the pieces below, numbered from 0.
+use std::num::wrapping_add_u32;
+
+// 0 to 14 name the groups of cases (`groups`), 15 is empty.
+const PIECES: [u8; 943] = *b"kind 6, x = 0, k = 1, L = 2^31 opens -2^31
+splitting -2^30, -1, 0 and 2^30 - 1, opened again
+refused 11, splitting 2^30, -2^30 - 1, 2^31 - 1 and -2^31
+curve, readings at and above the last row open alike
+refused 1, hosts 0, 3 and 2^32 - 1
+refused 2, jobs of 0, 1, 3, 6, 255, 257 and 260 words
+refused 3, kinds above 10
+refused 4, registers above 15
+refused 5, fourth words
+refused 5, tables that break their rules
+refused 6, lists one word short
+refused 7, deals one word short
+refused 8, places that are no product or refresh
+refused 9, hearing at the end
+refused 10, shares that disagree in L1, in L2 or in m
+
+kind
+, any words
+, readings in range
+kinds 0 to 9
+curve exact
+curve one-bit
+, house table, counts 0 to 4095
+, house table, readings in range
+, house table, both
+, 21 tables of 2 to 16 rows
+, above C - 2 and below C + 1
+, the fifteen other registers
+, deals, words spoken, rest of the deal buffer
+:
+ cases,
+ mismatches
+; the first:
+";
+
+pub(crate) const NOTHING: u32 = 15;
+
+// Writes a piece.
+fn piece(number: u32) {
+    let pieces: &[u8] = &PIECES;
+    let mut line: u32 = 0;
+    let mut start: usize = 0;
+    let mut at: usize = 0;
+    while at < pieces.len() {
+        if pieces[at] == b'\n' {
+            if line == number {
+                io::write_all(1, &pieces[start..at]);
+            }
+            start = at + 1;
+            line = wrapping_add_u32(line, 1);
+        }
+        at += 1;
+    }
+}
+
+// A piece and a number.
+pub(crate) fn numbered(words: u32, n: u32) {
+    piece(words);
+    io::write_all(1, b" ");
+    io::print_decimal(1, n as u64);
+}
+
+// A line of which the name has three pieces: the cases, those that went wrong, and, where there are any, the input of the first.
+pub(crate) fn print(head: u32, middle: u32, tail: u32, cases: u32, wrong: u32, first: u32) {
+    piece(head);
+    piece(middle);
+    piece(tail);
+    numbered(29, cases);
+    numbered(30, wrong);
+    piece(31);
+    if wrong != 0 {
+        numbered(32, first);
+    }
+    io::write_all(1, b"\n");
+}

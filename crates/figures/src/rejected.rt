@@ -1,0 +1,310 @@
+// The cases of the numbers 1 to 9: which job and table, and which call.
+use crate::lists::entry;
+use crate::lists::part;
+use crate::refusals::case_at;
+use crate::refusals::refused;
+use std::num::wrapping_add_u32;
+
+// One kind 9: 26 words of A, 12 of B, 14 deals, 12 products.
+const RELU: [u32; 4] = [9, 0, 1, 0];
+
+// Only the second of these orders has a product, and only one.
+const MIXED: [u32; 12] = [0, 1, 2, 3, 4, 5, 6, 7, 6, 1, 1, 4];
+
+const HOSTS: [u32; 3] = [0, 3, 4294967295];
+
+// Number 1, a host that is none: starting and hearing, with a good job and with a bad one.
+pub(crate) fn no_host(i: u32) -> u32 {
+    let mut c = case_at(i % 2 * 2 + 2, 1, 0);
+    c.host = entry(&HOSTS, i / 2 % 3);
+    if i < 6 {
+        return refused(c, &RELU, &[]);
+    }
+    refused(c, &[11, 16, 0, 0], &[])
+}
+
+const SIZES: [u32; 7] = [0, 1, 3, 6, 255, 257, 260];
+
+// Number 2, in each of the eight calls.
+pub(crate) fn ill_sized(i: u32) -> u32 {
+    let words = [0u32; 260];
+    let job = part(&words, 0, entry(&SIZES, i / 8));
+    refused(case_at(i % 8, 2, 0), job, &[])
+}
+
+// The orders of the numbers 3 (three), 4 (thirteen) and 5 (twelve), four words to a row.
+const FAULTS: [u32; 112] = [
+    11,
+    0,
+    0,
+    0, //
+    4294967295,
+    0,
+    0,
+    0, //
+    11,
+    16,
+    16,
+    16, //
+    0,
+    16,
+    0,
+    0, //
+    0,
+    0,
+    16,
+    0, //
+    0,
+    0,
+    0,
+    16, //
+    1,
+    0,
+    0,
+    16, //
+    2,
+    16,
+    0,
+    16, //
+    3,
+    0,
+    16,
+    16, //
+    4,
+    0,
+    0,
+    16, //
+    5,
+    16,
+    0,
+    1, //
+    6,
+    0,
+    16,
+    0, //
+    7,
+    4294967295,
+    0,
+    1, //
+    8,
+    0,
+    4294967295,
+    32, //
+    9,
+    16,
+    0,
+    1, //
+    10,
+    0,
+    16,
+    2, //
+    5,
+    0,
+    0,
+    1, //
+    6,
+    0,
+    0,
+    0, //
+    6,
+    0,
+    0,
+    32, //
+    7,
+    0,
+    0,
+    0, //
+    7,
+    0,
+    0,
+    31, //
+    8,
+    0,
+    0,
+    0, //
+    8,
+    0,
+    0,
+    32, //
+    8,
+    0,
+    0,
+    4294967295, //
+    9,
+    0,
+    0,
+    1, //
+    10,
+    0,
+    0,
+    2, //
+    10,
+    15,
+    15,
+    4294967295, //
+    5,
+    15,
+    15,
+    16, //
+];
+
+// A faulty order as the second of three, before another fault.
+fn faulty_job(row: u32) -> [u32; 12] {
+    let order = part(&FAULTS, row % 28 * 4, 4);
+    let kind = entry(order, 0);
+    let target = entry(order, 1);
+    let source = entry(order, 2);
+    [
+        8,
+        2,
+        3,
+        31,
+        kind,
+        target,
+        source,
+        entry(order, 3),
+        11,
+        16,
+        0,
+        0,
+    ]
+}
+
+// From a row on, each order alone and as the second of three, in each of the eight calls.
+pub(crate) fn faulty_order(number: u32, row: u32, i: u32) -> u32 {
+    let index = i / 8 % 2;
+    let job = faulty_job(wrapping_add_u32(row, i / 16));
+    let orders = part(&job, 4 - index * 4, index * 8 + 4);
+    refused(case_at(i % 8, number, index), orders, &tables::HOUSE)
+}
+
+// Seventeen rows, of which the first table has all, the next three 0, 2 and 5 words; then six tables of two rows.
+const TABLES: [u32; 58] = [
+    0,
+    7,
+    1,
+    7,
+    2,
+    7,
+    3,
+    7,
+    4,
+    7,
+    5,
+    7,
+    6,
+    7,
+    7,
+    7,
+    8,
+    7,
+    9,
+    7,
+    10,
+    7,
+    11,
+    7,
+    12,
+    7,
+    13,
+    7,
+    14,
+    7,
+    15,
+    7,
+    16,
+    7, //
+    5,
+    1,
+    4,
+    2, //
+    5,
+    1,
+    5,
+    2, //
+    4096,
+    1,
+    4097,
+    2, //
+    5,
+    1,
+    4096,
+    2, //
+    5,
+    1,
+    6,
+    20001, //
+    5,
+    20001,
+    6,
+    2, //
+];
+
+const LENGTHS: [u32; 4] = [34, 0, 2, 5];
+
+fn broken_table<'a>(tables: &'a [u32], i: u32) -> &'a [u32] {
+    if i < 4 {
+        return part(tables, 0, entry(&LENGTHS, i));
+    }
+    part(tables, i % 10 * 4 + 18, 4)
+}
+
+// Number 5: a curve order on such a table, alone and after an order that needs none, in each of the eight calls.
+pub(crate) fn bad_table(i: u32) -> u32 {
+    let index = i / 8 % 2;
+    let orders: &[u32] = &[9, 2, 3, 0, 10, 1, 2, index];
+    let job = part(orders, 4 - index * 4, index * 4 + 4);
+    refused(case_at(i % 8, 5, index), job, broken_table(&TABLES, i / 16))
+}
+
+// Numbers 6 and 7: the calls from a row on.
+pub(crate) fn short(number: u32, row: u32) -> u32 {
+    refused(case_at(row, number, 0), &RELU, &[])
+}
+
+// Whether the job is MIXED and not RELU, the order and the turn: the places of number 8, then those of 9.
+const PLACES: [u32; 30] = [
+    0,
+    0,
+    12, //
+    0,
+    0,
+    4294967295, //
+    0,
+    1,
+    1, //
+    0,
+    2,
+    0, //
+    0,
+    4294967295,
+    0, //
+    1,
+    0,
+    0, //
+    1,
+    1,
+    1, //
+    1,
+    2,
+    0, //
+    0,
+    1,
+    0, //
+    1,
+    3,
+    0, //
+];
+
+// No product or refresh of an order, past the end, and at the end: both hosts hear there.
+pub(crate) fn at_place(number: u32, i: u32) -> u32 {
+    let place = part(&PLACES, i / 2 % 10 * 3, 3);
+    let mut c = case_at(4, number, 0);
+    c.host = i % 2 + 1;
+    c.order = entry(place, 1);
+    c.turn = entry(place, 2);
+    if entry(place, 0) == 0 {
+        return refused(c, &RELU, &[]);
+    }
+    refused(c, &MIXED, &[])
+}

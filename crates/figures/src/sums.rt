@@ -1,0 +1,53 @@
+// What a sweep of trials counted, and the lines that say so.
+use crate::output::NOTHING;
+use crate::output::print;
+use std::num::wrapping_add_u32;
+
+// The trials, and of these the ones with a wrong value, too far from the curve's line, with another register changed and with wrong
+// counts or a changed rest of the deal buffer; the reading of the first with any of these.
+pub(crate) struct Sums {
+    pub(crate) cases: u32,
+    pub(crate) value: u32,
+    pub(crate) line: u32,
+    pub(crate) kept: u32,
+    pub(crate) counts: u32,
+    pub(crate) first: u32,
+}
+
+pub(crate) fn no_trials() -> Sums {
+    Sums {
+        cases: 0,
+        value: 0,
+        line: 0,
+        kept: 0,
+        counts: 0,
+        first: 0,
+    }
+}
+
+impl Sums {
+    // Both together.
+    pub(crate) fn plus(self, more: Sums) -> Sums {
+        let wrong = self.value | self.line | self.kept | self.counts;
+        let first = if wrong == 0 { more.first } else { self.first };
+        Sums {
+            cases: wrapping_add_u32(self.cases, more.cases),
+            value: wrapping_add_u32(self.value, more.value),
+            line: wrapping_add_u32(self.line, more.line),
+            kept: wrapping_add_u32(self.kept, more.kept),
+            counts: wrapping_add_u32(self.counts, more.counts),
+            first,
+        }
+    }
+}
+
+// The lines of a curve's values, whose name has these two pieces.
+pub(crate) fn print_values(curve: u32, table: u32, t: Sums) {
+    print(curve, table, NOTHING, t.cases, t.value, t.first);
+    print(curve, table, 26, t.cases, t.line, t.first);
+}
+
+pub(crate) fn print_rest(orders: u32, table: u32, t: Sums) {
+    print(orders, table, 27, t.cases, t.kept, t.first);
+    print(orders, table, 28, t.cases, t.counts, t.first);
+}

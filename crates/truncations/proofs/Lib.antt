@@ -1,0 +1,3 @@
+pub mod Carries
+pub mod Adder
+pub mod Truncation
