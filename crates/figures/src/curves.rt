@@ -1,12 +1,17 @@
 // The curve on the house table and on others: what it opens, how close to the line, and that it is level from the last row on.
 use crate::draw::table;
 use crate::lists::entry;
+use crate::lists::nth;
 use crate::lists::part;
+use crate::output::EXACT_CURVE;
+use crate::output::HOUSE_BOTH;
+use crate::output::HOUSE_COUNTS;
+use crate::output::HOUSE_RANGE;
+use crate::output::OTHER_TABLES;
 use crate::sums::Sums;
 use crate::sums::no_trials;
 use crate::sums::print_rest;
 use crate::sums::print_values;
-use crate::sweeps::Plan;
 use crate::sweeps::Readings;
 use crate::sweeps::sweep;
 use crate::trials::Trial;
@@ -14,9 +19,21 @@ use crate::trials::opened;
 use crate::trials::run_trial;
 use std::num::wrapping_add_u32;
 
-// Four tables of two rows; sixteen rows that fall all the way, with slopes that are no whole numbers; sixteen neighbouring counts,
-// from one end of the range to the other and back.
-const TABLES: [u32; 80] = [
+// Where each of six tables begins here and how many words it has; then their words: four of two rows, sixteen rows that fall all the
+// way, with slopes that are no whole numbers, and sixteen neighbouring counts, from one end of the range to the other and back.
+const TABLES: [u32; 92] = [
+    12,
+    4, //
+    16,
+    4, //
+    20,
+    4, //
+    24,
+    4, //
+    28,
+    32, //
+    60,
+    32, //
     0,
     20000,
     4095,
@@ -99,33 +116,15 @@ const TABLES: [u32; 80] = [
     20000, //
 ];
 
-// One of the six, by its number.
-fn fixed_table<'a>(tables: &'a [u32], i: u32) -> &'a [u32] {
-    match i {
-        4 => part(tables, 16, 32),
-        5 => part(tables, 48, 32),
-        _ => part(tables, i % 4 * 4, 4),
-    }
-}
-
-fn curve(mode: u32, readings: Readings, seed: u32) -> Plan {
-    Plan {
-        kind: 10,
-        mode,
-        readings,
-        seed,
-    }
-}
-
 // Every count, then readings of the whole range.
 pub(crate) fn house(mode: u32) {
-    let name = wrapping_add_u32(20, mode);
+    let name = wrapping_add_u32(EXACT_CURVE, mode);
     let rows: &[u32] = &tables::HOUSE;
-    let counts = sweep(curve(mode, Readings::Counts, 21), rows, 4096);
-    print_values(name, 22, counts);
-    let range = sweep(curve(mode, Readings::Range, 22), rows, 1000);
-    print_values(name, 23, range);
-    print_rest(name, 24, counts.plus(range));
+    let counts = sweep(10, mode, Readings::Counts, 21, rows, 4096);
+    print_values(name, HOUSE_COUNTS, counts);
+    let range = sweep(10, mode, Readings::Range, 22, rows, 1000);
+    print_values(name, HOUSE_RANGE, range);
+    print_rest(name, HOUSE_BOTH, counts.plus(range));
 }
 
 // A drawn table with 2 to 16 rows, narrow or wide ones.
@@ -134,11 +133,7 @@ fn on_drawn_table(i: u32, mode: u32) -> Sums {
     let gap = if i % 3 == 0 { 4 } else { 250 };
     let rows = table(seed, gap);
     let length = i % 15 * 2 + 4;
-    sweep(
-        curve(mode, Readings::Near, seed),
-        part(&rows, 0, length),
-        300,
-    )
+    sweep(10, mode, Readings::Near, seed, part(&rows, 0, length), 300)
 }
 
 // Six fixed tables, then fifteen drawn ones.
@@ -146,8 +141,8 @@ fn on_table(i: u32, mode: u32) -> Sums {
     if 5 < i {
         return on_drawn_table(i - 6, mode);
     }
-    let plan = curve(mode, Readings::Near, wrapping_add_u32(31, i));
-    sweep(plan, fixed_table(&TABLES, i), 300)
+    let rows = nth(&TABLES, i);
+    sweep(10, mode, Readings::Near, wrapping_add_u32(31, i), rows, 300)
 }
 
 // Tables of 2 to 16 rows, those that fall among them.
@@ -158,9 +153,9 @@ pub(crate) fn others(mode: u32) {
         sum = sum.plus(on_table(i, mode));
         i += 1;
     }
-    let name = wrapping_add_u32(20, mode);
-    print_values(name, 25, sum);
-    print_rest(name, 25, sum);
+    let name = wrapping_add_u32(EXACT_CURVE, mode);
+    print_values(name, OTHER_TABLES, sum);
+    print_rest(name, OTHER_TABLES, sum);
 }
 
 fn opened_at(rows: &[u32], mode: u32, x: u32) -> i64 {
@@ -205,8 +200,8 @@ pub(crate) fn level_end(i: u32) -> u32 {
     let fixed: &[u32] = &TABLES;
     match i / 24 {
         0 => unlike(&tables::HOUSE, 3572, i),
-        1 => unlike(part(fixed, 0, 4), 4095, i),
-        2 => unlike(part(fixed, 16, 32), 4095, i),
-        _ => unlike(part(fixed, 48, 32), 1015, i),
+        1 => unlike(nth(fixed, 0), 4095, i),
+        2 => unlike(nth(fixed, 4), 4095, i),
+        _ => unlike(nth(fixed, 5), 1015, i),
     }
 }

@@ -1,6 +1,5 @@
 // The groups of cases that are numbered one by one.
 use crate::curves::level_end;
-use crate::lists::entry;
 use crate::output::NOTHING;
 use crate::output::print;
 use crate::rejected::at_place;
@@ -13,52 +12,47 @@ use crate::unmarked::disagreeing;
 use crate::unmarked::slack;
 use crate::unmarked::splitting;
 use std::num::wrapping_add_u32;
-
-// How many cases each group has, in the order of the names in `output`.
-const CASES: [u32; 15] = [4, 4, 4, 96, 12, 56, 48, 208, 192, 160, 8, 4, 16, 4, 5];
+use std::num::wrapping_sub_u32;
 
 // 0 where a group's case goes right.
 fn wrong_case(group: u32, i: u32) -> u32 {
     match group {
         0 => slack(i),
         1 => splitting(i),
-        2 => splitting(wrapping_add_u32(i, 4)),
+        2 => splitting(i),
         3 => level_end(i),
         4 => no_host(i),
         5 => ill_sized(i),
-        6 => faulty_order(3, 0, i),
-        7 => faulty_order(4, 3, i),
-        8 => faulty_order(5, 16, i),
+        6 => faulty_order(3, i),
+        7 => faulty_order(4, i),
+        8 => faulty_order(5, i),
         9 => bad_table(i),
-        10 => short(6, wrapping_add_u32(i, 8)),
-        11 => short(7, wrapping_add_u32(i, 16)),
+        10 => short(6, i),
+        11 => short(7, i),
         12 => at_place(8, i),
-        13 => at_place(9, wrapping_add_u32(i, 16)),
+        13 => at_place(9, i),
         _ => disagreeing(i),
     }
 }
 
-// A group's cases, and its line.
-fn group_line(group: u32) {
-    let n = entry(&CASES, group);
+// A group's cases from one to before another, and its line.
+pub(crate) fn group_line(group: u32, start: u32, end: u32) {
     let mut wrong: u32 = 0;
-    let mut first: u32 = 0;
-    let mut i: u32 = 0;
-    while i < n {
-        if wrong_case(group, i) != 0 {
-            first = if wrong == 0 { i } else { first };
-            wrong = wrapping_add_u32(wrong, 1);
+    let mut first = start;
+    let mut i = start;
+    while i < end {
+        if wrong == 0 {
+            first = i;
         }
+        wrong = wrapping_add_u32(wrong, (wrong_case(group, i) != 0) as u32);
         i += 1;
     }
-    print(group, NOTHING, NOTHING, i, wrong, first);
-}
-
-// The groups from one to before another.
-pub(crate) fn groups(from: u32, end: u32) {
-    let mut group = from;
-    while group < end {
-        group_line(group);
-        group += 1;
-    }
+    print(
+        group,
+        NOTHING,
+        NOTHING,
+        wrapping_sub_u32(i, start),
+        wrong,
+        first,
+    );
 }

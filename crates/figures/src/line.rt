@@ -24,26 +24,24 @@ pub(crate) fn row_count(table: &[u32]) -> u32
 }
 
 // How far x has come from r towards the next row.
-fn way(x: u32, r: u32, next_r: u32) -> u32 {
-    if x <= r {
+fn way(x: u32, r: u32, width: u32) -> u32 {
+    let past = wrapping_sub_u32(x, r);
+    if x < r {
         return 0;
     }
-    if x >= next_r {
-        return wrapping_sub_u32(next_r, r);
-    }
-    x - r
+    if past < width { past } else { width }
 }
 
 // The segment from the row at a place on. A reading below 0 is to come as 0.
 fn segment_at(x: u32, table: &[u32], at: u32) -> Segment {
     let rows = part(table, at, 4);
     let r = entry(rows, 0);
-    let next_r = entry(rows, 2);
+    let width = wrapping_sub_u32(entry(rows, 2), r);
     Segment {
         c: entry(rows, 1),
         next_c: entry(rows, 3),
-        width: wrapping_sub_u32(next_r, r),
-        come: way(x, r, next_r),
+        width,
+        come: way(x, r, width),
     }
 }
 

@@ -15,3 +15,9 @@ pub(crate) fn part<'a>(list: &'a [u32], from: u32, n: u32) -> &'a [u32] {
     }
     &list[start..end]
 }
+
+// One of up to sixteen lists that stand in one: before them, two words for each, are its place and its length.
+pub(crate) fn nth<'a>(lists: &'a [u32], i: u32) -> &'a [u32] {
+    let at = i % 16 * 2;
+    part(lists, entry(lists, at), entry(lists, at + 1))
+}

@@ -13,27 +13,24 @@ mod sweeps;
 mod trials;
 mod unmarked;
 
-use crate::groups::groups;
+use crate::groups::group_line;
+use crate::output::ALL_KINDS;
+use crate::output::ANY_WORDS;
+use crate::output::IN_RANGE;
+use crate::output::KIND;
 use crate::output::NOTHING;
 use crate::output::numbered;
 use crate::output::print;
 use crate::sums::Sums;
 use crate::sums::no_trials;
 use crate::sums::print_rest;
-use crate::sweeps::Plan;
 use crate::sweeps::Readings;
 use crate::sweeps::sweep;
 
 // The trials of a kind, and their line.
 fn kind_sweep(kind: u32, readings: Readings, name: u32) -> Sums {
-    let plan = Plan {
-        kind,
-        mode: 0,
-        readings,
-        seed: 1,
-    };
-    let t = sweep(plan, &tables::HOUSE, 2000);
-    numbered(16, kind);
+    let t = sweep(kind, 0, readings, 1, &tables::HOUSE, 2000);
+    numbered(KIND, kind);
     print(name, NOTHING, NOTHING, t.cases, t.value, t.first);
     t
 }
@@ -43,19 +40,33 @@ fn kinds() {
     let mut sum = no_trials();
     let mut kind: u32 = 0;
     while kind < 10 {
-        sum = sum.plus(kind_sweep(kind, Readings::Words, 17));
+        sum = sum.plus(kind_sweep(kind, Readings::Words, ANY_WORDS));
         kind += 1;
     }
-    sum = sum.plus(kind_sweep(7, Readings::Range, 18));
-    print_rest(19, NOTHING, sum);
+    sum = sum.plus(kind_sweep(7, Readings::Range, IN_RANGE));
+    print_rest(ALL_KINDS, NOTHING, sum);
 }
 
+// Each group by the number of its name in `output`, from its first case to before the one after its last.
 fn main() {
-    groups(0, 3);
+    group_line(0, 0, 4);
+    group_line(1, 0, 4);
+    group_line(2, 4, 8);
     kinds();
     curves::house(0);
     curves::house(1);
     curves::others(0);
     curves::others(1);
-    groups(3, 15);
+    group_line(3, 0, 96);
+    group_line(4, 0, 12);
+    group_line(5, 0, 56);
+    group_line(6, 0, 48);
+    group_line(7, 48, 256);
+    group_line(8, 256, 448);
+    group_line(9, 0, 160);
+    group_line(10, 8, 16);
+    group_line(11, 16, 20);
+    group_line(12, 0, 16);
+    group_line(13, 16, 20);
+    group_line(14, 0, 5);
 }

@@ -39,6 +39,39 @@ curve one-bit
 
 pub(crate) const NOTHING: u32 = 15;
 
+pub(crate) const KIND: u32 = 16;
+
+pub(crate) const ANY_WORDS: u32 = 17;
+
+pub(crate) const IN_RANGE: u32 = 18;
+
+pub(crate) const ALL_KINDS: u32 = 19;
+
+// The one-bit curve's name is the next.
+pub(crate) const EXACT_CURVE: u32 = 20;
+
+pub(crate) const HOUSE_COUNTS: u32 = 22;
+
+pub(crate) const HOUSE_RANGE: u32 = 23;
+
+pub(crate) const HOUSE_BOTH: u32 = 24;
+
+pub(crate) const OTHER_TABLES: u32 = 25;
+
+pub(crate) const CLOSE_TO_LINE: u32 = 26;
+
+pub(crate) const OTHER_REGISTERS: u32 = 27;
+
+pub(crate) const COUNTS: u32 = 28;
+
+const CASES: u32 = 29;
+
+const WRONG: u32 = 30;
+
+const MISMATCHES: u32 = 31;
+
+const FIRST: u32 = 32;
+
 // Writes a piece.
 fn piece(number: u32) {
     let pieces: &[u8] = &PIECES;
@@ -69,11 +102,11 @@ pub(crate) fn print(head: u32, middle: u32, tail: u32, cases: u32, wrong: u32, f
     piece(head);
     piece(middle);
     piece(tail);
-    numbered(29, cases);
-    numbered(30, wrong);
-    piece(31);
+    numbered(CASES, cases);
+    numbered(WRONG, wrong);
+    piece(MISMATCHES);
     if wrong != 0 {
-        numbered(32, first);
+        numbered(FIRST, first);
     }
     io::write_all(1, b"\n");
 }

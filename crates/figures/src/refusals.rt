@@ -96,12 +96,11 @@ pub(crate) fn case_at(row: u32, number: u32, index: u32) -> Case {
 
 // A host's answer: the number and the order's index that are due, and the state that it was given, with so many drawn words to a lane.
 fn host_answer(c: Case, given: u32, r: Answer) -> u32 {
-    let s = r.state;
-    let m = s.m;
-    let mask = s.mask;
+    let m = r.state.m;
+    let mask = r.state.mask;
     let lanes = changed(&m, 73, 0, given) | changed(&mask, 74, 0, given);
     let numbers = (r.number ^ c.number) | (r.index ^ c.index) | r.spoken | r.word;
-    let place = (s.order ^ c.order) | (s.turn ^ c.turn);
+    let place = (r.state.order ^ c.order) | (r.state.turn ^ c.turn);
     lanes | numbers | place
 }
 

@@ -1,15 +1,20 @@
 // The cases of the numbers 1 to 9: which job and table, and which call.
 use crate::lists::entry;
+use crate::lists::nth;
 use crate::lists::part;
+use crate::refusals::Case;
 use crate::refusals::case_at;
 use crate::refusals::refused;
-use std::num::wrapping_add_u32;
 
-// One kind 9: 26 words of A, 12 of B, 14 deals, 12 products.
-const RELU: [u32; 4] = [9, 0, 1, 0];
+// At 0 one kind 9: 26 words of A, 12 of B, 14 deals, 12 products. At 4 a bad order. At 8 three orders of which only the second has a
+// product, and only one.
+const JOBS: [u32; 20] = [9, 0, 1, 0, 11, 16, 0, 0, 0, 1, 2, 3, 4, 5, 6, 7, 6, 1, 1, 4];
 
-// Only the second of these orders has a product, and only one.
-const MIXED: [u32; 12] = [0, 1, 2, 3, 4, 5, 6, 7, 6, 1, 1, 4];
+// A case on one of these, with no table.
+fn on_job(c: Case, from: u32, n: u32) -> u32 {
+    let jobs: &[u32] = &JOBS;
+    refused(c, part(jobs, from, n), part(jobs, 0, 0))
+}
 
 const HOSTS: [u32; 3] = [0, 3, 4294967295];
 
@@ -17,19 +22,17 @@ const HOSTS: [u32; 3] = [0, 3, 4294967295];
 pub(crate) fn no_host(i: u32) -> u32 {
     let mut c = case_at(i % 2 * 2 + 2, 1, 0);
     c.host = entry(&HOSTS, i / 2 % 3);
-    if i < 6 {
-        return refused(c, &RELU, &[]);
-    }
-    refused(c, &[11, 16, 0, 0], &[])
+    on_job(c, i / 6 % 2 * 4, 4)
 }
 
 const SIZES: [u32; 7] = [0, 1, 3, 6, 255, 257, 260];
 
 // Number 2, in each of the eight calls.
 pub(crate) fn ill_sized(i: u32) -> u32 {
-    let words = [0u32; 260];
-    let job = part(&words, 0, entry(&SIZES, i / 8));
-    refused(case_at(i % 8, 2, 0), job, &[])
+    let zeros = [0u32; 260];
+    let words: &[u32] = &zeros;
+    let job = part(words, 0, entry(&SIZES, i / 8));
+    refused(case_at(i % 8, 2, 0), job, part(words, 0, 0))
 }
 
 // The orders of the numbers 3 (three), 4 (thirteen) and 5 (twelve), four words to a row.
@@ -170,16 +173,37 @@ fn faulty_job(row: u32) -> [u32; 12] {
     ]
 }
 
-// From a row on, each order alone and as the second of three, in each of the eight calls.
-pub(crate) fn faulty_order(number: u32, row: u32, i: u32) -> u32 {
+// Each order alone and as the second of three, in each of the eight calls.
+pub(crate) fn faulty_order(number: u32, i: u32) -> u32 {
     let index = i / 8 % 2;
-    let job = faulty_job(wrapping_add_u32(row, i / 16));
+    let job = faulty_job(i / 16);
     let orders = part(&job, 4 - index * 4, index * 8 + 4);
     refused(case_at(i % 8, number, index), orders, &tables::HOUSE)
 }
 
-// Seventeen rows, of which the first table has all, the next three 0, 2 and 5 words; then six tables of two rows.
-const TABLES: [u32; 58] = [
+// Where each of ten tables begins here and how many words it has; then the words: seventeen rows, of which the first table has all, the
+// next three 0, 2 and 5 words, and six tables of two rows.
+const TABLES: [u32; 78] = [
+    20,
+    34, //
+    20,
+    0, //
+    20,
+    2, //
+    20,
+    5, //
+    54,
+    4, //
+    58,
+    4, //
+    62,
+    4, //
+    66,
+    4, //
+    70,
+    4, //
+    74,
+    4, //
     0,
     7,
     1,
@@ -240,71 +264,69 @@ const TABLES: [u32; 58] = [
     2, //
 ];
 
-const LENGTHS: [u32; 4] = [34, 0, 2, 5];
-
-fn broken_table<'a>(tables: &'a [u32], i: u32) -> &'a [u32] {
-    if i < 4 {
-        return part(tables, 0, entry(&LENGTHS, i));
-    }
-    part(tables, i % 10 * 4 + 18, 4)
-}
-
 // Number 5: a curve order on such a table, alone and after an order that needs none, in each of the eight calls.
 pub(crate) fn bad_table(i: u32) -> u32 {
     let index = i / 8 % 2;
     let orders: &[u32] = &[9, 2, 3, 0, 10, 1, 2, index];
     let job = part(orders, 4 - index * 4, index * 4 + 4);
-    refused(case_at(i % 8, 5, index), job, broken_table(&TABLES, i / 16))
+    refused(case_at(i % 8, 5, index), job, nth(&TABLES, i / 16))
 }
 
-// Numbers 6 and 7: the calls from a row on.
+// Numbers 6 and 7: the call of a row.
 pub(crate) fn short(number: u32, row: u32) -> u32 {
-    refused(case_at(row, number, 0), &RELU, &[])
+    on_job(case_at(row, number, 0), 0, 4)
 }
 
-// Whether the job is MIXED and not RELU, the order and the turn: the places of number 8, then those of 9.
-const PLACES: [u32; 30] = [
+// A job's place and words, the order and the turn: the places of number 8, then those of 9.
+const PLACES: [u32; 40] = [
     0,
+    4,
     0,
     12, //
     0,
+    4,
     0,
     4294967295, //
     0,
+    4,
     1,
     1, //
     0,
+    4,
     2,
     0, //
     0,
+    4,
     4294967295,
     0, //
-    1,
+    8,
+    12,
     0,
     0, //
-    1,
+    8,
+    12,
     1,
     1, //
-    1,
+    8,
+    12,
     2,
     0, //
     0,
+    4,
     1,
     0, //
-    1,
+    8,
+    12,
     3,
     0, //
 ];
 
 // No product or refresh of an order, past the end, and at the end: both hosts hear there.
 pub(crate) fn at_place(number: u32, i: u32) -> u32 {
-    let place = part(&PLACES, i / 2 % 10 * 3, 3);
+    let place = part(&PLACES, i / 2 % 10 * 4, 4);
     let mut c = case_at(4, number, 0);
     c.host = i % 2 + 1;
-    c.order = entry(place, 1);
-    c.turn = entry(place, 2);
-    if entry(place, 0) == 0 {
-        return refused(c, &RELU, &[]);
-    }
-    refused(c, &MIXED, &[])
+    c.order = entry(place, 2);
+    c.turn = entry(place, 3);
+    on_job(c, entry(place, 0), entry(place, 1))
 }

@@ -1,5 +1,8 @@
 // What a sweep of trials counted, and the lines that say so.
+use crate::output::CLOSE_TO_LINE;
+use crate::output::COUNTS;
 use crate::output::NOTHING;
+use crate::output::OTHER_REGISTERS;
 use crate::output::print;
 use std::num::wrapping_add_u32;
 
@@ -44,10 +47,10 @@ impl Sums {
 // The lines of a curve's values, whose name has these two pieces.
 pub(crate) fn print_values(curve: u32, table: u32, t: Sums) {
     print(curve, table, NOTHING, t.cases, t.value, t.first);
-    print(curve, table, 26, t.cases, t.line, t.first);
+    print(curve, table, CLOSE_TO_LINE, t.cases, t.line, t.first);
 }
 
 pub(crate) fn print_rest(orders: u32, table: u32, t: Sums) {
-    print(orders, table, 27, t.cases, t.kept, t.first);
-    print(orders, table, 28, t.cases, t.counts, t.first);
+    print(orders, table, OTHER_REGISTERS, t.cases, t.kept, t.first);
+    print(orders, table, COUNTS, t.cases, t.counts, t.first);
 }

@@ -20,13 +20,6 @@ pub(crate) enum Readings {
     Near,
 }
 
-pub(crate) struct Plan {
-    pub(crate) kind: u32,
-    pub(crate) mode: u32,
-    pub(crate) readings: Readings,
-    pub(crate) seed: u32,
-}
-
 const EDGES: [u32; 16] = [
     0,
     1,
@@ -66,34 +59,43 @@ fn reading_at(readings: Readings, i: u32, drawn: u32) -> u32 {
 // A fourth word that the kind allows: any constant, 0, a shift, the mode, or a register.
 fn fourth_word(kind: u32, mode: u32, drawn: u32) -> u32 {
     match kind {
-        2 | 3 => drawn,
-        5 | 9 => 0,
-        6 | 8 => drawn % 31 + 1,
+        2 => drawn,
+        3 => drawn,
+        5 => 0,
+        6 => drawn % 31 + 1,
         7 => drawn % 30 + 1,
+        8 => drawn % 31 + 1,
+        9 => 0,
         10 => mode,
         _ => drawn % 16,
     }
 }
 
-fn trial_at(s: Plan, i: u32) -> Trial {
-    let seed = word(wrapping_add_u32(s.seed, s.kind), i);
-    let readings = s.readings;
+fn trial_at(kind: u32, mode: u32, readings: Readings, seed: u32, i: u32) -> Trial {
+    let own = word(wrapping_add_u32(seed, kind), i);
     Trial {
-        kind: s.kind,
-        target: word(seed, 11) % 16,
-        source: word(seed, 12) % 16,
-        fourth: fourth_word(s.kind, s.mode, word(seed, 13)),
-        x: reading_at(readings, i, word(seed, 14)),
-        seed,
+        kind,
+        target: word(own, 11) % 16,
+        source: word(own, 12) % 16,
+        fourth: fourth_word(kind, mode, word(own, 13)),
+        x: reading_at(readings, i, word(own, 14)),
+        seed: own,
     }
 }
 
-// So many trials; a kind that takes no table is lent one all the same.
-pub(crate) fn sweep(s: Plan, table: &[u32], n: u32) -> Sums {
+// n trials of a kind, or of the curve in a mode; a kind that takes no table is lent one all the same.
+pub(crate) fn sweep(
+    kind: u32,
+    mode: u32,
+    readings: Readings,
+    seed: u32,
+    table: &[u32],
+    n: u32,
+) -> Sums {
     let mut sum = no_trials();
     let mut i: u32 = 0;
     while i < n {
-        sum = sum.plus(compared(trial_at(s, i), table));
+        sum = sum.plus(compared(trial_at(kind, mode, readings, seed, i), table));
         i += 1;
     }
     sum

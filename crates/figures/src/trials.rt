@@ -6,6 +6,7 @@ use crate::draw::word;
 use crate::line::close_to_line;
 use crate::line::row_count;
 use crate::line::scaled_sum;
+use crate::lists::entry;
 use crate::lists::part;
 use crate::plain::carry;
 use crate::plain::floor_shift;
@@ -52,64 +53,52 @@ fn drawn_shares(c: Trial) -> Shared {
     Shared { m, l1, l2 }
 }
 
-// The mask sum of the curve's refresh: each row's kind 9 uses 26 words of A and 12 of B before it takes its two.
-fn refreshed(seed: u32, rows: u32) -> u32 {
-    let first = word(word(seed, 4), product(rows, 26));
-    wrapping_add_u32(first, word(word(seed, 5), product(rows, 12)))
-}
-
+// The one-bit curve adds a carry under the mask sum of its refresh: each row's kind 9 uses 26 words of A and 12 of B before that.
 fn curve_value(c: Trial, table: &[u32]) -> u32 {
     let sum = scaled_sum(positive(c.x), table);
     let floor = floor_shift(sum, 12);
     if c.fourth == 0 {
         return floor;
     }
-    let l = refreshed(c.seed, row_count(table));
-    wrapping_add_u32(floor, carry(sum, l, 12))
+    let rows = row_count(table);
+    let l1 = word(word(c.seed, 4), rows * 26);
+    let l2 = word(word(c.seed, 5), rows * 12);
+    wrapping_add_u32(floor, carry(sum, wrapping_add_u32(l1, l2), 12))
 }
 
-// Kind 6: the two floors that its steps add.
-fn large_slack(x: u32, l: u32, k: u32) -> u32 {
-    let m = wrapping_add_u32(x, l);
-    wrapping_add_u32(floor_shift(wrapping_sub_u32(0, l), k), floor_shift(m, k))
-}
-
-// What the target is to open.
+// What the target is to open. Kind 6: the two floors that its steps add.
 fn plain_value(c: Trial, table: &[u32]) -> u32 {
     let y = value(c, c.fourth);
     let l = mask_sum(c.seed, c.source);
+    let m = wrapping_add_u32(c.x, l);
+    let k = c.fourth;
     let kind = c.kind;
     match kind {
         0 => wrapping_add_u32(c.x, y),
         1 => wrapping_sub_u32(c.x, y),
-        2 => wrapping_add_u32(c.x, c.fourth),
-        3 => product(c.x, c.fourth),
+        2 => wrapping_add_u32(c.x, k),
+        3 => product(c.x, k),
         4 => product(c.x, y),
         5 => c.x,
-        6 => large_slack(c.x, l, c.fourth),
-        7 => one_bit(c.x, l, c.fourth),
-        8 => floor_shift(c.x, c.fourth),
+        6 => wrapping_add_u32(floor_shift(wrapping_sub_u32(0, l), k), floor_shift(m, k)),
+        7 => one_bit(c.x, l, k),
+        8 => floor_shift(c.x, k),
         9 => positive(c.x),
         _ => curve_value(c, table),
     }
 }
 
-// Document 01's table of costs: the deals, times 1000, and the words spoken. The curve has a kind 9 for each row, and more.
+// Document 01's table of costs: the deals, times 1000, and the words spoken. Kinds 0 to 9, the end of the exact curve and that of the
+// one-bit curve, which both have a kind 9 for each row before it.
+const COSTS: [u32; 12] = [0, 0, 0, 0, 1002, 2, 1000, 3002, 16024, 14024, 16024, 3004];
+
 fn due_cost(c: Trial, rows: u32) -> u32 {
-    let kind = c.kind;
-    match kind {
-        4 => 1002,
-        5 => 2,
-        6 => 1000,
-        7 => 3002,
-        8 => 16024,
-        9 => 14024,
-        10 => {
-            let end = if c.fourth == 0 { 16024 } else { 3004 };
-            wrapping_add_u32(end, product(rows, 14024))
-        }
-        _ => 0,
+    let costs: &[u32] = &COSTS;
+    if c.kind != 10 {
+        return entry(costs, c.kind);
     }
+    let end = entry(costs, wrapping_add_u32(10, c.fourth));
+    wrapping_add_u32(end, product(rows, 14024))
 }
 
 // What shares open; those that disagree open what is no word's number.
@@ -141,17 +130,16 @@ fn others_changed(s: Trio, c: Trial) -> u32 {
 fn miscounted(s: Trio, c: Trial, rows: u32) -> u32 {
     let cost = due_cost(c, rows);
     let half = cost % 1000 / 2;
-    let one = s.one;
-    let two = s.two;
-    let refusal = s.number | one.number | two.number;
-    let turn = one.state.turn | two.state.turn;
-    let order = (one.state.order ^ 1) | (two.state.order ^ 1);
-    let spoken = (one.spoken ^ half) | (two.spoken ^ half);
+    let refusal = s.number | s.one.number | s.two.number;
+    let turn = s.one.state.turn | s.two.state.turn;
+    let order = (s.one.state.order ^ 1) | (s.two.state.order ^ 1);
+    let spoken = (s.one.spoken ^ half) | (s.two.spoken ^ half);
     let deals = s.deals ^ (cost / 1000);
     ((refusal | turn | order | spoken | deals) != 0) as u32
 }
 
-// A job run by the three hosts, with so many words of B. Where a word of the deal buffer past the deals has changed, a number says so.
+// A job run by the three hosts on drawn lists, with so many words of B. Where a word of the deal buffer past the deals has changed, a
+// number says so.
 pub(crate) fn run(job: &[u32], table: &[u32], seed: u32, b_words: u32, shares: Shared) -> Trio {
     let a = list(word(seed, 4));
     let b = list(word(seed, 5));
@@ -162,7 +150,7 @@ pub(crate) fn run(job: &[u32], table: &[u32], seed: u32, b_words: u32, shares: S
     s
 }
 
-// What the engine opens at a trial's target.
+// A trial's order on the shares that are drawn for it.
 pub(crate) fn run_trial(c: Trial, table: &[u32]) -> Trio {
     let job = [c.kind, c.target, c.source, c.fourth];
     run(&job, table, c.seed, 512, drawn_shares(c))

@@ -1,6 +1,7 @@
 // The cases of "House table by hand" that document 01 does not mark, the limits of splitting, and shares that disagree. Each function
 // answers 0 where a case goes right.
 use crate::lists::entry;
+use crate::lists::part;
 use crate::plain::number;
 use crate::trials::opened;
 use crate::trials::opening;
@@ -12,30 +13,23 @@ use shares::WorkerShare;
 use std::num::wrapping_sub_u32;
 use trio::Shared;
 
-const MASKS: [u32; 4] = [3735928559, 2147483648, 1, 0];
+// The order, then what the first host's mask is.
+const SLACKS: [u32; 8] = [6, 0, 0, 1, 3735928559, 2147483648, 1, 0];
 
 // Kind 6 with k = 1 on x = 0, under masks that add up to 2^31, in register 0.
 pub(crate) fn slack(i: u32) -> u32 {
-    let mut m = [0u32; 16];
-    let mut l1 = [0u32; 16];
-    let mut l2 = [0u32; 16];
-    let mask = entry(&MASKS, i);
-    m[0] = 2147483648;
-    l1[0] = mask;
-    l2[0] = wrapping_sub_u32(2147483648, mask);
-    let s = run(&[6, 0, 0, 1], &[], 51, 0, Shared { m, l1, l2 });
+    let slacks: &[u32] = &SLACKS;
+    let mask = entry(slacks, i % 4 + 4);
+    let other = wrapping_sub_u32(2147483648, mask);
+    let m = [2147483648, 0, 0, 0, 0, 0, 0, 0, 0, 0, 0, 0, 0, 0, 0, 0];
+    let l1 = [mask, 0, 0, 0, 0, 0, 0, 0, 0, 0, 0, 0, 0, 0, 0, 0];
+    let l2 = [other, 0, 0, 0, 0, 0, 0, 0, 0, 0, 0, 0, 0, 0, 0, 0];
+    let job = part(slacks, 0, 4);
+    let s = run(job, part(slacks, 0, 0), 51, 0, Shared { m, l1, l2 });
     (opened(s, 0) != -2147483648) as u32
 }
 
-// What a reading opens after it was split; number 11 for one that is turned down stands as no word's number.
-fn split(reading: u32) -> i64 {
-    match shares::share(number(reading), 2654435769, 2246822519) {
-        Sharing::Shared(s) => opening(shares::reconstruct(s)),
-        Sharing::OutOfRange => 11000000000,
-    }
-}
-
-// Four that open again, four that are out of range.
+// Four readings that open again when they are split, four that are out of range: number 11.
 const READINGS: [u32; 8] = [
     1073741823,
     3221225472,
@@ -48,9 +42,11 @@ const READINGS: [u32; 8] = [
 ];
 
 pub(crate) fn splitting(i: u32) -> u32 {
-    let reading = entry(&READINGS, i);
-    let due = if i < 4 { number(reading) } else { 11000000000 };
-    (split(reading) != due) as u32
+    let reading = number(entry(&READINGS, i));
+    match shares::share(reading, 2654435769, 2246822519) {
+        Sharing::Shared(s) => { ((3 < i) | (opening(shares::reconstruct(s)) != reading)) as u32 }
+        Sharing::OutOfRange => (i < 4) as u32,
+    }
 }
 
 // Number 10: shares of 7 that differ in l1, in l2, in m, in both masks of host 0, or have the masks the wrong way round.

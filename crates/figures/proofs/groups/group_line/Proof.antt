@@ -1,25 +1,22 @@
-use Prim.Native.Nat.{_-_, _≤_}
+use Prim.Native.Nat.{_-_}
 use borrow.Author.Needs.{needs}
 use Rattle.figures.proofs.groups.group_line.Statement.{statement}
 use Rattle.figures.proofs.groups.group_line.Tie as tie
 
 abbrev Inv-loop : tie.InvT-loop
-Inv-loop group n wrong₀ first₀ i₀ wrong first i = i ≤ n
+Inv-loop group start end wrong₀ first₀ i₀ wrong first i = Unit {0}
 
 abbrev μ-loop : tie.MeasureT-loop
-μ-loop group n wrong₀ first₀ i₀ wrong first i = n - i
-
-slice-aggregate-entry : tie.Need-slice-aggregate-entry Inv-loop μ-loop
-slice-aggregate-entry c = search needs
-
-entry-requires : tie.Need-entry-requires Inv-loop μ-loop
-entry-requires c κs = search needs
+μ-loop group start end wrong₀ first₀ i₀ wrong first i = end - i
 
 loop-holds : tie.Need-loop-holds Inv-loop μ-loop
 loop-holds c = search needs
 
 wrong-case-requires : tie.Need-wrong-case-requires Inv-loop μ-loop
 wrong-case-requires c κs = search needs
+
+cast-wrapping-add-u32 : tie.Need-cast-wrapping-add-u32 Inv-loop μ-loop
+cast-wrapping-add-u32 c = search needs
 
 wrapping-add-u32-requires : tie.Need-wrapping-add-u32-requires Inv-loop μ-loop
 wrapping-add-u32-requires c κs = search needs
@@ -33,6 +30,9 @@ loop-less c = search needs
 loop-again : tie.Need-loop-again Inv-loop μ-loop
 loop-again c = search needs
 
+wrapping-sub-u32-requires : tie.Need-wrapping-sub-u32-requires Inv-loop μ-loop
+wrapping-sub-u32-requires c κs = search needs
+
 print-requires : tie.Need-print-requires Inv-loop μ-loop
 print-requires c κs = search needs
 
@@ -45,13 +45,13 @@ group-line-spec =
     (tie.spec
     Inv-loop
     μ-loop
-    slice-aggregate-entry
-    entry-requires
     loop-holds
     wrong-case-requires
+    cast-wrapping-add-u32
     wrapping-add-u32-requires
     add-i
     loop-less
     loop-again
+    wrapping-sub-u32-requires
     print-requires
     returns)

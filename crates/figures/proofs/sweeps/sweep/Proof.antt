@@ -4,10 +4,10 @@ use Rattle.figures.proofs.sweeps.sweep.Statement.{statement}
 use Rattle.figures.proofs.sweeps.sweep.Tie as tie
 
 abbrev Inv-loop : tie.InvT-loop
-Inv-loop s table n sum₀ i₀ sum i = i ≤ n
+Inv-loop kind mode readings seed table n sum₀ i₀ sum i = i ≤ n
 
 abbrev μ-loop : tie.MeasureT-loop
-μ-loop s table n sum₀ i₀ sum i = n - i
+μ-loop kind mode readings seed table n sum₀ i₀ sum i = n - i
 
 no-trials-requires : tie.Need-no-trials-requires Inv-loop μ-loop
 no-trials-requires c κs = search needs
