@@ -1,6 +1,6 @@
 -- What a list of steps needs of A, of B and of the deals, and what it speaks, as sums over the list; what the lists hold beyond does not matter.
 -- Assumes nothing.
-use mathlib.Core.Path.{_≡_, refl, ap, _∙_}
+use mathlib.Core.Path.{_≡_, refl, sym, ap, _∙_}
 use mathlib.Core.List.{List, [], _∷_, _++_}
 use Prim.Native.Nat.{ℕ, _*_, suc, _+_, _≤_, _<_}
 use native.Mathlib.Nat.{zero-add}
@@ -10,7 +10,8 @@ use Rattle.gates.specs.Steps.{at, Exchange, product, refresh, Step, loca
 use Rattle.gates.specs.Costs.{Cost, plus, step-cost, cost}
 use Rattle.gates.specs.Duet.{utter, words}
 use Rattle.gates.specs.Walk.{whole, far}
-use Rattle.gates.specs.Parties.{Pair, Triple, act0, dealt, deals, act, joint1, joint2}
+use Rattle.gates.specs.Parties.{Pair, Triple, of0, act0, dealt, deals, act, joint1, joint2}
+use Rattle.gates.proofs.Lanes.{of0-act}
 
 pub whole-cursor : {S : Type 0} (f : Step → Cursor → S → S) (ss : List Step) (c : Cursor) (s : S) (t : List S) → whole f ss c s t .cur ≡ far ss c
 unfolding whole far
@@ -170,15 +171,12 @@ module _ (A A′ B B′ : List ℕ) where
       → words (act A B) (joint2 A B) ss c j ≡ words (act A′ B′) (joint2 A′ B′) ss c j
   words2-alike = words-alike (joint2 A B) (joint2 A′ B′) says2
 
-  -- nor for host 0's deals
+  -- nor for host 0's deals; its lanes are the joint walk's, whatever m is
 
   act0-alike : (x : Step) (c : Cursor) (s : Pair) → Alike A A′ (past x c .a) → Alike B B′ (past x c .b) → act0 A B x c s ≡ act0 A′ B′ x c s
-  unfolding act0 past new-at
-  act0-alike (local d m l) c s h k = refl
-  act0-alike (deal d f) c s h k = rw (h (c .a) (omega arith))
-  act0-alike (exchange d (product O a b)) c s h k = rw (h (suc (c .a)) (omega arith), k (c .b) (omega arith))
-  act0-alike (exchange d (refresh O a)) c s h k = rw (h (c .a) (omega arith), k (c .b) (omega arith))
-  act0-alike end c s h k = refl
+  act0-alike x c s h k =
+      let j : Triple = ([], s .0, s .1) in
+      of0-act A B x c j ∙ ap {B = Pair} of0 (act-alike x c j h k) ∙ sym (of0-act A′ B′ x c j)
 
   dealt-alike : (x : Step) (c : Cursor) (s : Pair) (ds : List ℕ) → Alike A A′ (past x c .a) → dealt A B x c s ds ≡ dealt A′ B′ x c s ds
   unfolding dealt past new-at

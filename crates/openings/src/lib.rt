@@ -1,4 +1,4 @@
-// Opening a register in the plant room, which takes the shares of all three hosts.
+// What a register opens, where the three hosts stand in one place; the plant room is sent its six words alone.
 ghost use mathlib.Core.Path.{_≡_};
 ghost use Rattle.gates.specs.Steps.{at};
 ghost use Rattle.shares.specs.Answers.{opening};
