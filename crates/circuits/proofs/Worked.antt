@@ -46,7 +46,8 @@ module _ (A B : List ℕ) (hA : Fits 32 A) (hB : Fits 32 B) (G : Point 32 A B hA
   unfolding one-bit bit-number add sub mul shr bit
   five-by-three e f = five 3 e f
 
-  -- ---- the house table in exact mode
+  -- ---- the house table in exact mode: "-2^30 gives 0; 200 gives 0; 201 gives 0; 202 gives 1; 455 gives 249; 456 gives 250; 3571 gives 4248;
+  -- 3572 gives 4249; 2^30 - 1 gives 4249"
 
   abbrev house-opens : ℤ
   house-opens = opens (num 32 A B hA hB (afters 32 A B hA hB (curve-exact 32 a d (rows house)) G) d)
@@ -58,38 +59,13 @@ module _ (A B : List ℕ) (hA : Fits 32 A) (hB : Fits 32 B) (G : Point 32 A B hA
   unfolding rows house
   house-case z e = ap (signed 32) (exact-curve-opens 32 A B hA hB (lit≤ tt) a d ha hd _ _ G (lit< tt) ∙ ap (λ (x : ℕ). shr-signed 32 12 (word-curve 32 (rows house) x)) e)
 
-  pub house-lowest : source ≡ wrap 32 (negsuc (2 ^ 30 - 1)) → house-opens ≡ pos 0
-  unfolding rows house signed shr-signed floor wrap word-curve word-sum relu-word relu coefficient slope-after slope add sub mul
-  house-lowest e = house-case (negsuc (2 ^ 30 - 1)) e
+  -- where the source reads z, the order opens v
+  abbrev Gives : (z v : ℤ) → Type 0
+  Gives z v = source ≡ wrap 32 z → house-opens ≡ v
 
-  pub house-200 : source ≡ wrap 32 (pos 200) → house-opens ≡ pos 0
+  pub house-by-hand :
+      Gives (negsuc (2 ^ 30 - 1)) (pos 0) × Gives (pos 200) (pos 0) × Gives (pos 201) (pos 0) × Gives (pos 202) (pos 1) × Gives (pos 455) (pos 249)
+      × Gives (pos 456) (pos 250) × Gives (pos 3571) (pos 4248) × Gives (pos 3572) (pos 4249) × Gives (pos (2 ^ 30 - 1)) (pos 4249)
   unfolding rows house signed shr-signed floor wrap word-curve word-sum relu-word relu coefficient slope-after slope add sub mul
-  house-200 e = house-case (pos 200) e
-
-  pub house-201 : source ≡ wrap 32 (pos 201) → house-opens ≡ pos 0
-  unfolding rows house signed shr-signed floor wrap word-curve word-sum relu-word relu coefficient slope-after slope add sub mul
-  house-201 e = house-case (pos 201) e
-
-  pub house-202 : source ≡ wrap 32 (pos 202) → house-opens ≡ pos 1
-  unfolding rows house signed shr-signed floor wrap word-curve word-sum relu-word relu coefficient slope-after slope add sub mul
-  house-202 e = house-case (pos 202) e
-
-  pub house-455 : source ≡ wrap 32 (pos 455) → house-opens ≡ pos 249
-  unfolding rows house signed shr-signed floor wrap word-curve word-sum relu-word relu coefficient slope-after slope add sub mul
-  house-455 e = house-case (pos 455) e
-
-  pub house-456 : source ≡ wrap 32 (pos 456) → house-opens ≡ pos 250
-  unfolding rows house signed shr-signed floor wrap word-curve word-sum relu-word relu coefficient slope-after slope add sub mul
-  house-456 e = house-case (pos 456) e
-
-  pub house-3571 : source ≡ wrap 32 (pos 3571) → house-opens ≡ pos 4248
-  unfolding rows house signed shr-signed floor wrap word-curve word-sum relu-word relu coefficient slope-after slope add sub mul
-  house-3571 e = house-case (pos 3571) e
-
-  pub house-3572 : source ≡ wrap 32 (pos 3572) → house-opens ≡ pos 4249
-  unfolding rows house signed shr-signed floor wrap word-curve word-sum relu-word relu coefficient slope-after slope add sub mul
-  house-3572 e = house-case (pos 3572) e
-
-  pub house-highest : source ≡ wrap 32 (pos (2 ^ 30 - 1)) → house-opens ≡ pos 4249
-  unfolding rows house signed shr-signed floor wrap word-curve word-sum relu-word relu coefficient slope-after slope add sub mul
-  house-highest e = house-case (pos (2 ^ 30 - 1)) e
+  house-by-hand =
+      (house-case (negsuc (2 ^ 30 - 1)), house-case (pos 200), house-case (pos 201), house-case (pos 202), house-case (pos 455), house-case (pos 456), house-case (pos 3571), house-case (pos 3572), house-case (pos (2 ^ 30 - 1)))
