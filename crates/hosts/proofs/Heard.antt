@@ -1,5 +1,6 @@
 -- Hearing at a product or refresh: the lanes, the cursor behind it, and the walk from there. Assumes nothing.
 use mathlib.Core.Path.{_≡_, refl, sym, ap, subst, _∙_}
+use mathlib.Core.Bool.{Bool, true, false}
 use mathlib.Core.List.{List, [], _∷_}
 use Prim.Native.Nat.{ℕ, suc, _+_, _/_, _≤_, _<_}
 use native.Mathlib.Numerals.{add-one}
@@ -25,13 +26,30 @@ use Rattle.parties.specs.Places.{found}
 use Rattle.parties.specs.Calls.{State, report, hear-walk}
 use Rattle.jobs.specs.Walk.{order-at}
 use Rattle.exchanges.specs.Exchanges.{cursor, host-of, heard-at}
-use Rattle.hosts.specs.Walks.{reported, steps-from, Standing}
+use Rattle.hosts.specs.Walks.{reported, steps-from, waiting, Standing}
 use Rattle.hosts.proofs.Walking.{at-gate}
 use Rattle.exchanges.proofs.Shapes.{heard-as}
 use Rattle.hosts.proofs.Advancing.{word-any}
 use Rattle.hosts.proofs.Jobs.{gates-drop}
 
--- ---- the cursor behind a gate
+-- ---- a gate by its shape: whether it waits, and the cursor behind it
+
+abbrev pub waits-at : Shape → Bool
+waits-at Local = false
+waits-at (Dealing d) = false
+waits-at (Product d) = true
+waits-at (Refreshing d) = true
+
+waits-as : (y : Step) → waits-at (shape y) ≡ waiting y
+unfolding shape waiting
+waits-as (local d m l) = refl
+waits-as (deal d f) = refl
+waits-as (exchange d (product O p q)) = refl
+waits-as (exchange d (refresh O p)) = refl
+waits-as end = refl
+
+pub waits-by : (y : Step) (sh t : Shape) → sh ≡ shape y → sh ≡ t → waits-at t ≡ waiting y
+waits-by y sh t e p = ap waits-at (sym p ∙ e) ∙ waits-as y
 
 abbrev pub a-by : Shape → ℕ → ℕ
 a-by Local a = a

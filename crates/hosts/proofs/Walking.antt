@@ -1,6 +1,6 @@
 -- The answer of a walk, step by step: it does not depend on the trail, and each gate of an order takes it on. Assumes nothing.
 use mathlib.Core.Path.{_≡_, refl, ap, _∙_}
-use mathlib.Core.Bool.{Bool, true, false, cond}
+use mathlib.Core.Bool.{Bool, true, false, true≢false, cond}
 use mathlib.Core.List.{List, [], _∷_, _++_}
 use Prim.Native.Nat.{ℕ, zero, suc, _<_}
 use native.Mathlib.Omega.{arith}
@@ -8,18 +8,16 @@ use lib.Dec.{eqb}
 use lib.ListN.{length, drop}
 use Rattle.gates.specs.declared.Gate.{Gate}
 use Rattle.gates.specs.declared.Gate.the-variants.{Add, Sub, Xor, Mul, And, Refresh, Scale, Plus, Up, Bit, Const, Public, Deal, DealBits}
-use Rattle.gates.specs.declared.Shape.the-variants.{Local, Dealing}
-use Rattle.gates.specs.Steps.{at, product, refresh, Step, local, deal, exchange, end, Cursor, past}
+use Rattle.gates.specs.Steps.{at, Step, local, deal, exchange, end, Cursor, past}
 use Rattle.gates.specs.Meaning.{meaning, order-steps}
 use Rattle.gates.specs.Walk.{walk, Exchanging}
 use Rattle.gates.specs.Parties.{Pair, on-m, on-mask, act1, act2}
-use Rattle.gates.specs.Speech.{shape}
 use Rattle.lookup.specs.declared.Fetched.the-variants.{At, Past}
 use Rattle.lookup.specs.Fetch.{fetched}
 use Rattle.parties.specs.Lent.{Party, party1, party2, party-of}
 use Rattle.parties.specs.Calls.{word-at, spoken-at, report}
 use Rattle.exchanges.specs.Exchanges.{cursor, host-of, deal-taken}
-use Rattle.hosts.specs.Walks.{reported}
+use Rattle.hosts.specs.Walks.{reported, waiting}
 
 -- ---- the trail
 
@@ -62,22 +60,13 @@ pub never : {S : Type 0} → _≡_ {A = ℕ} 0 1 → S
 never e = absurd (omega arith)
 
 module _ (P : Party) (ss : List Step) (o x a b k : ℕ) (s : Pair) where
-  pub passes-local : (y : Step) → OfGate y → shape y ≡ Local → reported P (y ∷ ss) (cursor o x a b k) s ≡ reported P ss (cursor o x a b k) (P .act y (cursor o x a b k) s)
-  unfolding reported walk past shape
-  passes-local (local d m l) g e = refl
-  passes-local (deal d f) g e = never (cc)
-  passes-local (exchange d (product O p q)) g e = never (cc)
-  passes-local (exchange d (refresh O p)) g e = never (cc)
-  passes-local end g e = absurd g
-
-  pub passes-deal : (y : Step) (d : ℕ) → shape y ≡ Dealing d
-      → reported P (y ∷ ss) (cursor o x a b k) s ≡ reported P ss (cursor o x (suc a) b (suc k)) (P .act y (cursor o x a b k) s)
-  unfolding reported walk past shape
-  passes-deal (local d m l) d′ e = never (cc)
-  passes-deal (deal d f) d′ e = refl
-  passes-deal (exchange d (product O p q)) d′ e = never (cc)
-  passes-deal (exchange d (refresh O p)) d′ e = never (cc)
-  passes-deal end d′ e = never (cc)
+  pub passes : (y : Step) → OfGate y → waiting y ≡ false
+      → reported P (y ∷ ss) (cursor o x a b k) s ≡ reported P ss (cursor o x (past y (cursor 0 0 a 0 k) .a) b (past y (cursor 0 0 a 0 k) .k)) (P .act y (cursor o x a b k) s)
+  unfolding reported walk past waiting
+  passes (local d m l) g e = refl
+  passes (deal d f) g e = refl
+  passes (exchange d q) g e = absurd (true≢false e)
+  passes end g e = absurd g
 
   pub passes-end : (act-end : P .act end (cursor o x a b k) s ≡ s) → reported P (end ∷ ss) (cursor o x a b k) s ≡ reported P ss (cursor (suc o) 0 a b k) s
   unfolding reported walk past

@@ -4,8 +4,6 @@ ghost use mathlib.Core.Bool.{_&&_, cond};
 ghost use Prim.Native.Nat.{_+_, _^_, _<_};
 ghost use lib.Dec.{eqb};
 ghost use lib.ListN.{drop};
-ghost use Rattle.gates.specs.Steps.{past};
-ghost use Rattle.gates.specs.Meaning.{meaning};
 ghost use Rattle.jobs.specs.Job.{job-gates};
 ghost use Rattle.parties.specs.Places.{found};
 ghost use Rattle.parties.specs.Calls as Calls;
@@ -17,17 +15,15 @@ use crate::Answer;
 use crate::State;
 use crate::answering::refused;
 use crate::walk::advance;
+use crate::walk::behind;
 use exchanges::Reach;
 use exchanges::meet;
-use gates::Gate;
-use gates::Shape;
 use lendings::check_lent;
 use lookup::Fetched;
 use lookup::fetch;
 use orders::order_at;
 use places::Sought;
 use places::seek;
-use shapes::shape_of;
 
 // Conditions 8 and 9 past the last order: the end is the number of orders and 0.
 fn end_fault(order: usize, n: usize, turn: u32) -> u32
@@ -40,30 +36,6 @@ fn end_fault(order: usize, n: usize, turn: u32) -> u32
         return 8;
     }
     8
-}
-
-// Behind a product or refresh: a product takes g1 and a deal besides.
-fn behind(g: Gate, at: Reach) -> Reach
-    requires { ⌜ (at .gate < 2 ^ 40) × (at .a < 2 ^ 40) × (at .k < 2 ^ 40) ⌝ }
-    ensures { λ r. ⌜ (r .gate ≡ at .gate + 1) × (r .a ≡ past (meaning 32 g) (cursor 0 0 (at .a) 0 (at .k)) .a) × (r .k ≡ past (meaning 32 g) (cursor 0 0 (at .a) 0 (at .k)) .k) ⌝ }
-{
-    let gate = at.gate + 1;
-    let a = at.a;
-    let k = at.k;
-    match shape_of(g) {
-        Shape::Product { d: _ } => Reach {
-            gate,
-            a: a + 2,
-            k: k + 1,
-        },
-        Shape::Refreshing { d: _ } => Reach { gate, a: a + 1, k },
-        Shape::Dealing { d: _ } => Reach {
-            gate,
-            a: a + 1,
-            k: k + 1,
-        },
-        Shape::Local => Reach { gate, a, k },
-    }
 }
 
 // The other's word is heard at the product or refresh where the state stands, with b words spoken before it.

@@ -2,12 +2,14 @@
 ghost use mathlib.Core.Path.{_≡_};
 ghost use Prim.Native.Nat.{_/_, _+_, _^_, _≤_, _<_};
 ghost use lib.ListN.{length, drop};
+ghost use Rattle.gates.specs.Steps.{past};
+ghost use Rattle.gates.specs.Meaning.{meaning};
 ghost use Rattle.tables.specs.Table.{rows};
 ghost use Rattle.circuits.specs.Orders.{program};
 ghost use Rattle.jobs.specs.Job.{job-gates};
 ghost use Rattle.hosts.specs.Answers.{answer-of};
 ghost use Rattle.exchanges.specs.Exchanges.{cursor, host-of};
-ghost use Rattle.hosts.specs.Walks.{steps-from, reported, Walked, Sized};
+ghost use Rattle.hosts.specs.Walks.{steps-from, reported, waiting, Walked, Sized};
 use crate::Answer;
 use crate::State;
 use crate::answering::answered;
@@ -15,11 +17,48 @@ use circuits::Order;
 use exchanges::Reach;
 use exchanges::say;
 use exchanges::step;
+use gates::Gate;
 use gates::Shape;
 use lookup::Fetched;
 use lookup::fetch;
 use orders::order_at;
 use shapes::shape_of;
+
+// A product or refresh waits for the other's word.
+fn waits(g: Gate) -> bool
+    ensures { λ r. ⌜ r ≡ waiting (meaning 32 g) ⌝ }
+{
+    match shape_of(g) {
+        Shape::Product { d: _ } => true,
+        Shape::Refreshing { d: _ } => true,
+        Shape::Dealing { d: _ } => false,
+        Shape::Local => false,
+    }
+}
+
+// Behind a gate: a deal takes a word of A and a deal, a product g1 of A besides, a refresh no deal.
+pub(crate) fn behind(g: Gate, at: Reach) -> Reach
+    requires { ⌜ (at .gate < 2 ^ 62) × (at .a < 2 ^ 62) × (at .k < 2 ^ 62) ⌝ }
+    ensures { λ r. ⌜ (r .gate ≡ at .gate + 1) × (r .a ≡ past (meaning 32 g) (cursor 0 0 (at .a) 0 (at .k)) .a) × (r .k ≡ past (meaning 32 g) (cursor 0 0 (at .a) 0 (at .k)) .k) ⌝ }
+{
+    let gate = at.gate + 1;
+    let a = at.a;
+    let k = at.k;
+    match shape_of(g) {
+        Shape::Product { d: _ } => Reach {
+            gate,
+            a: a + 2,
+            k: k + 1,
+        },
+        Shape::Refreshing { d: _ } => Reach { gate, a: a + 1, k },
+        Shape::Dealing { d: _ } => Reach {
+            gate,
+            a: a + 1,
+            k: k + 1,
+        },
+        Shape::Local => Reach { gate, a, k },
+    }
+}
 
 // Up to the order's next product or refresh, or past its last gate. Each gate writes its one slot in place.
 fn walk_order(
@@ -35,27 +74,16 @@ fn walk_order(
     requires { ⌜ (length (program 32 (rows (now table)) o) ≤ 1000) × (from .gate ≤ 1000) × (from .a < 2 ^ 61) × (from .k < 2 ^ 61) ⌝ }
     ensures { λ r. ⌜ Walked 32 (host-of host (now (masks .entry)) (now (deals .entry))) (program 32 (rows (now (table .entry))) o) (from .gate) (from .a) (from .k) (now (m .entry), now (mask .entry)) (r .gate) (r .a) (r .k) (now (m .exit), now (mask .exit)) ⌝ }
 {
-    let mut gate = from.gate;
-    let mut a = from.a;
-    let mut k = from.k;
+    let mut at = from;
     loop {
-        let Fetched::At { gate: g } = fetch(o, table, gate) else {
-            return Reach { gate, a, k };
+        let Fetched::At { gate: g } = fetch(o, table, at.gate) else {
+            return at;
         };
-        match shape_of(g) {
-            Shape::Product { d: _ } => return Reach { gate, a, k },
-            Shape::Refreshing { d: _ } => return Reach { gate, a, k },
-            Shape::Local => {
-                step(host, g, masks, deals, a, k, m, mask);
-                gate += 1;
-            }
-            Shape::Dealing { d: _ } => {
-                step(host, g, masks, deals, a, k, m, mask);
-                gate += 1;
-                a += 1;
-                k += 1;
-            }
+        if waits(g) {
+            return at;
         }
+        step(host, g, masks, deals, at.a, at.k, m, mask);
+        at = behind(g, at);
     }
 }
 

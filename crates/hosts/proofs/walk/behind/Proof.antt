@@ -3,8 +3,8 @@ use Rattle.gates.specs.Meaning.{meaning}
 use Rattle.gates.specs.declared.Shape.the-variants.{Local, Dealing, Product, Refreshing}
 use Rattle.hosts.proofs.Heard.{behind-is}
 use borrow.Author.Needs.{needs}
-use Rattle.hosts.proofs.hearing.behind.Statement.{statement}
-use Rattle.hosts.proofs.hearing.behind.Tie as tie
+use Rattle.hosts.proofs.walk.behind.Statement.{statement}
+use Rattle.hosts.proofs.walk.behind.Tie as tie
 
 add-gate : tie.Need-add-gate
 add-gate c = search needs
