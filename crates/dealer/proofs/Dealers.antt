@@ -1,5 +1,5 @@
 -- Host 0's walk as its code takes it, one step at a time, and as the definition of preparation has it. Assumes nothing.
-use mathlib.Core.Path.{_≡_, refl, ap, subst}
+use mathlib.Core.Path.{_≡_, refl, sym, ap, subst}
 use mathlib.Core.List.{List, [], _∷_, _++_}
 use Prim.Native.Nat.{ℕ, _+_, _<_}
 use native.Mathlib.Numerals.{towards-suc}
@@ -10,11 +10,10 @@ use Rattle.gates.specs.Steps.{Lane, at, product, refresh, Step, local, deal, ex
 use Rattle.gates.specs.Walk.{whole, far}
 use Rattle.gates.specs.Parties.{Pair, on-mask, act0, dealt, deals}
 use Rattle.gates.specs.Speech.{dealt-word, shape}
-use Rattle.gates.specs.declared.Shape.{Shape}
-use Rattle.gates.specs.Costs.{Cost, plus, step-cost, cost}
+use Rattle.gates.specs.Costs.{Cost, plus, step-cost, used-at, cost}
 use Rattle.gates.proofs.Needs.{cost-append}
-use Rattle.dealings.specs.declared.Used.{Used}
-use Rattle.dealings.specs.Dealings.{Dealer, dealer, Holds, shaped, dealing}
+use Rattle.gates.specs.declared.Used.{Used}
+use Rattle.dealings.specs.Dealings.{Dealer, dealer, Holds, dealing}
 use Rattle.dealer.specs.Preparation.{Counts, deal-all, Room}
 
 -- a cursor, two lanes and a buffer
@@ -25,10 +24,20 @@ stands c s buf = record { a = c .a; b = c .b; k = c .k; l1 = s .0; l2 = s .1; bu
 pub joined : (s : Dealer) (u : Used) (l1 l2 : Lane) (buf : List ℕ) → Counts s u → Holds s l1 l2 buf → dealer u l1 l2 buf ≡ s
 joined s u l1 l2 buf c h = λ i. record { a = c .0 i; b = c .1 i; k = c .2 i; l1 = h .0 i; l2 = h .1 i; buffer = h .2 i }
 
--- its counts, by the shape of a step
-pub counts-by : (A B : List ℕ) (x : Step) (s : Dealer) (y : Shape) → y ≡ shape x → (u : Used) → Counts (shaped A B y x s) u → Counts (dealing A B x s) u
-unfolding dealing
-counts-by A B x s y e u h = subst (λ (z : Shape). Counts (shaped A B z x s) u) e h
+-- its counts behind a step, with what the step uses
+abbrev more : Dealer → Used → Used
+more s u = record { a = s .a + u .a; b = s .b + u .b; deals = s .k + u .deals }
+
+counts-at : (A B : List ℕ) (x : Step) (s : Dealer) → Counts (dealing A B x s) (more s (used-at x))
+unfolding dealing shape used-at step-cost
+counts-at A B (local d m l) s = (omega arith, omega arith, omega arith)
+counts-at A B (deal d f) s = (refl, omega arith, refl)
+counts-at A B (exchange d (product O p q)) s = (refl, refl, refl)
+counts-at A B (exchange d (refresh O p)) s = (refl, refl, omega arith)
+counts-at A B end s = (omega arith, omega arith, omega arith)
+
+pub counts-behind : (A B : List ℕ) (x : Step) (s : Dealer) (u : Used) → u ≡ used-at x → Counts (dealing A B x s) (more s u)
+counts-behind A B x s u e = subst (λ (v : Used). Counts (dealing A B x s) (more s v)) (sym e) (counts-at A B x s)
 
 module _ (A B : List ℕ) where
   -- the code's walk is `whole`'s, whatever its trail, and its buffer has the deals one after another

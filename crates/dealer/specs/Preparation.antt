@@ -6,7 +6,7 @@ use lib.ListN.{length}
 use Rattle.gates.specs.Steps.{Lane, Step}
 use Rattle.gates.specs.Costs.{cost}
 use Rattle.parties.specs.Calls as Calls
-use Rattle.dealings.specs.declared.Used.{Used}
+use Rattle.gates.specs.declared.Used.{Used}
 use Rattle.dealings.specs.Dealings.{Dealer, dealing}
 use Rattle.dealer.specs.declared.Prepared.{Prepared}
 

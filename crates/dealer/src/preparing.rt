@@ -14,16 +14,15 @@ ghost use Rattle.dealer.specs.Preparation.{answer, outset, Counts, deal-
 use crate::Masks;
 use crate::Prepared;
 use circuits::Order;
-use dealings::Used;
 use dealings::deal_gate;
 use gates::Gate;
-use gates::Shape;
+use gates::Used;
 use lendings::check_dealer;
 use lendings::fresh;
 use lookup::Fetched;
 use lookup::fetch;
 use orders::order_at;
-use shapes::shape_of;
+use shapes::used_by;
 
 // ---- the lanes: the registers, with temporaries behind them that are 0 at first
 
@@ -39,31 +38,16 @@ fn registers(lane: [u32; 24]) -> [u32; 16]
     kept
 }
 
-// What is used behind a gate: a product takes g1, two masks and a deal.
+// What is used behind a gate.
 fn behind(g: Gate, used: Used) -> Used
     requires { ⌜ (used .a < 2 ^ 62) × (used .b < 2 ^ 62) × (used .deals < 2 ^ 62) ⌝ }
     ensures { λ r. ⌜ ((A B : List ℕ) (l1 l2 : Lane) (buffer : List ℕ) → Counts (dealing A B (meaning 32 g) (dealer used l1 l2 buffer)) r) ⌝ }
 {
-    let a = used.a;
-    let b = used.b;
-    let deals = used.deals;
-    match shape_of(g) {
-        Shape::Local => used,
-        Shape::Dealing { d: _ } => Used {
-            a: a + 1,
-            b,
-            deals: deals + 1,
-        },
-        Shape::Product { d: _ } => Used {
-            a: a + 2,
-            b: b + 1,
-            deals: deals + 1,
-        },
-        Shape::Refreshing { d: _ } => Used {
-            a: a + 1,
-            b: b + 1,
-            deals,
-        },
+    let more = used_by(g);
+    Used {
+        a: used.a + more.a,
+        b: used.b + more.b,
+        deals: used.deals + more.deals,
     }
 }
 

@@ -1,26 +1,43 @@
 -- A step of host 0 by its shape. Assumes nothing.
-use mathlib.Core.Path.{_≡_, ap, subst, _∙_}
+use mathlib.Core.Path.{_≡_, refl, ap, subst, sym, _∙_}
 use mathlib.Core.List.{List}
 use Prim.Native.Nat.{ℕ, _+_}
 use lib.ListN.{set}
 use Rattle.gates.specs.declared.Shape.{Shape}
-use Rattle.gates.specs.Steps.{Lane, at, Step}
+use Rattle.gates.specs.declared.Shape.the-variants.{Local, Dealing, Product, Refreshing}
+use Rattle.gates.specs.Steps.{Lane, at, product, refresh, Step, local, deal, exchange, end}
+use Rattle.gates.specs.Parties.{on-mask}
 use Rattle.gates.specs.Speech.{dealt-word, shape}
-use Rattle.dealings.specs.Dealings.{Dealer, Holds, with-deal, with-product, shaped, dealing}
+use Rattle.dealings.specs.Dealings.{Dealer, Holds, next-deal, dealing}
 
-pub by-shape : (A B : List ℕ) (x : Step) (s : Dealer) (y : Shape) → y ≡ shape x → (l1 l2 : Lane) (buf : List ℕ) → Holds (shaped A B y x s) l1 l2 buf → Holds (dealing A B x s) l1 l2 buf
-unfolding dealing
-by-shape A B x s y e l1 l2 buf h = subst (λ (z : Shape). Holds (shaped A B z x s) l1 l2 buf) e h
+-- host 0's lanes and its buffer
+abbrev Memory : Type 0
+Memory = Lane × Lane × List ℕ
 
--- ---- what a deal and a product write, by the words that the code has in hand: x the next word of A, v the deal
+abbrev pub Has : Dealer → Memory → Type 0
+Has s w = Holds s (w .0) (w .1) (w .2)
 
-module _ (A : List ℕ) (y : Step) (d : ℕ) (s : Dealer) (x v : ℕ) (ex : x ≡ at A (s .a)) (ev : v ≡ dealt-word y x (s .l1) (s .l2)) where
-  is-dealt : v ≡ dealt-word y (at A (s .a)) (s .l1) (s .l2)
-  is-dealt = ev ∙ ap (λ (n : ℕ). dealt-word y n (s .l1) (s .l2)) ex
+module _ (A B : List ℕ) (s : Dealer) where
+  -- l1 and l2 have the step on masks behind them; what is left to write goes by the shape. x is the next word of A, v the deal
+  abbrev pub finished : Shape → (x v : ℕ) (l1 l2 : Lane) → Memory
+  finished Local x v l1 l2 = (l1, l2, s .buffer)
+  finished (Dealing d) x v l1 l2 = (l1, l2, set (s .buffer) (s .k) v)
+  finished (Product d) x v l1 l2 = (set l1 d (at A (s .a + 1)), set l2 d (at B (s .b)), set (s .buffer) (s .k) v)
+  finished (Refreshing d) x v l1 l2 = (set l1 d x, set l2 d (at B (s .b)), s .buffer)
 
-  pub deal-written : (l1 l2 : Lane) (buf : List ℕ) → l1 ≡ set (s .l1) d x → l2 ≡ set (s .l2) d v → buf ≡ set (s .buffer) (s .k) v → Holds (with-deal A y d s) l1 l2 buf
-  deal-written l1 l2 buf e1 e2 eb = (e1 ∙ ap (set (s .l1) d) ex, e2 ∙ ap (set (s .l2) d) is-dealt, eb ∙ ap (set (s .buffer) (s .k)) is-dealt)
+  -- a step on each lane alone asks on-mask for no word, and at an exchange on-mask writes nothing
+  finishes : (y : Step) → Has (dealing A B y s) (finished (shape y) (at A (s .a)) (next-deal A y s) (on-mask y (at A (s .a)) (s .l1)) (on-mask y (next-deal A y s) (s .l2)))
+  unfolding dealing shape on-mask
+  finishes (local d m l) = (refl, refl, refl)
+  finishes (deal d f) = (refl, refl, refl)
+  finishes (exchange d (product O a b)) = (refl, refl, refl)
+  finishes (exchange d (refresh O a)) = (refl, refl, refl)
+  finishes end = (refl, refl, refl)
 
-  pub product-written : (B : List ℕ) (p q : ℕ) → p ≡ at A (s .a + 1) → q ≡ at B (s .b) → (l1 l2 : Lane) (buf : List ℕ) → l1 ≡ set (s .l1) d p → l2 ≡ set (s .l2) d q → buf ≡ set (s .buffer) (s .k) v
-      → Holds (with-product A B y d s) l1 l2 buf
-  product-written B p q ep eq l1 l2 buf e1 e2 eb = (e1 ∙ ap (set (s .l1) d) ep, e2 ∙ ap (set (s .l2) d) eq, eb ∙ ap (set (s .buffer) (s .k)) is-dealt)
+  -- the same by the words and the lanes that the code has in hand
+  pub by-shape : (y : Step) (x v : ℕ) → x ≡ at A (s .a) → v ≡ dealt-word y x (s .l1) (s .l2) → (l1 l2 : Lane) → l1 ≡ on-mask y x (s .l1) → l2 ≡ on-mask y v (s .l2) → (t : Shape) → t ≡ shape y → Has (dealing A B y s) (finished t x v l1 l2)
+  by-shape y x v ex ev l1 l2 e1 e2 t et =
+      let dealt : v ≡ next-deal A y s = ev ∙ ap (λ (n : ℕ). dealt-word y n (s .l1) (s .l2)) ex in
+      let f1 = e1 ∙ ap (λ (n : ℕ). on-mask y n (s .l1)) ex in
+      let f2 = e2 ∙ ap (λ (n : ℕ). on-mask y n (s .l2)) dealt in
+      subst (Has (dealing A B y s)) (sym (λ i. finished (et i) (ex i) (dealt i) (f1 i) (f2 i))) (finishes y)

@@ -8,7 +8,7 @@ use Rattle.gates.specs.declared.Shape.the-variants.{Local, Dealing, Product, Re
 use Rattle.gates.specs.Steps.{Lane, at, Step}
 use Rattle.gates.specs.Parties.{on-mask}
 use Rattle.gates.specs.Speech.{dealt-word, shape}
-use Rattle.dealings.specs.declared.Used.{Used}
+use Rattle.gates.specs.declared.Used.{Used}
 
 -- host 0 on its way: the words used of A and of B, the deals written, its lanes and the buffer
 pub record Dealer : Type 0 where

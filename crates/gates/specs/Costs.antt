@@ -1,6 +1,7 @@
 -- Document 01's counts, of a step and of a list of steps: deals, words spoken, and words used of A and of B. Assumes nothing.
 use mathlib.Core.List.{List, [], _∷_}
 use Prim.Native.Nat.{ℕ, _+_}
+use Rattle.gates.specs.declared.Used.{Used}
 use Rattle.gates.specs.Steps.{product, refresh, Step, local, deal, exchange, end}
 
 pub record Cost : Type 0 where
@@ -22,6 +23,10 @@ step-cost (deal d f) = cost-of 1 0 1 0
 step-cost (exchange d (product O a b)) = cost-of 1 2 2 1
 step-cost (exchange d (refresh O a)) = cost-of 0 2 1 1
 step-cost end = cost-of 0 0 0 0
+
+-- what a walk uses of A, of B and of the deals at a step
+unfoldable pub used-at : Step → Used
+used-at x = record { a = step-cost x .a; b = step-cost x .b; deals = step-cost x .deals }
 
 unfoldable pub cost : List Step → Cost
 cost [] = cost-of 0 0 0 0

@@ -51,3 +51,10 @@ pub enum Shape {
     Product { d: u32 },
     Refreshing { d: u32 },
 }
+
+// Words used of A and of B, and deals.
+pub struct Used {
+    pub a: usize,
+    pub b: usize,
+    pub deals: usize,
+}

@@ -1,6 +1,5 @@
 -- Hearing at a product or refresh: the lanes, the cursor behind it, and the walk from there. Assumes nothing.
 use mathlib.Core.Path.{_≡_, refl, sym, ap, subst, _∙_}
-use mathlib.Core.Bool.{Bool, true, false}
 use mathlib.Core.List.{List, [], _∷_}
 use Prim.Native.Nat.{ℕ, suc, _+_, _/_, _≤_, _<_}
 use native.Mathlib.Numerals.{add-one}
@@ -8,13 +7,13 @@ use native.Mathlib.Omega.{arith}
 use lib.ListN.{length, drop}
 use Rattle.tables.specs.Table.{rows}
 use Rattle.gates.specs.declared.Gate.{Gate}
-use Rattle.gates.specs.declared.Shape.{Shape}
-use Rattle.gates.specs.declared.Shape.the-variants.{Local, Dealing, Product, Refreshing}
-use Rattle.gates.specs.Steps.{Lane, product, refresh, Step, local, deal, exchange, end, new-at, past-deal, Cursor, past}
+use Rattle.gates.specs.declared.Used.{Used}
+use Rattle.gates.specs.Costs.{used-at}
+use Rattle.gates.specs.Steps.{Lane, Step, local, deal, exchange, end, Cursor, past}
 use Rattle.gates.specs.Meaning.{meaning, order-steps, job-steps}
 use Rattle.gates.specs.Walk.{Exchanging}
 use Rattle.gates.specs.Parties.{Pair}
-use Rattle.gates.specs.Speech.{shape}
+use Rattle.gates.proofs.Uses.{behind-a, behind-k}
 use Rattle.circuits.specs.declared.Order.{Order}
 use Rattle.lookup.specs.declared.Fetched.{Fetched}
 use Rattle.lookup.specs.declared.Fetched.the-variants.{At, Past}
@@ -26,62 +25,13 @@ use Rattle.parties.specs.Places.{found}
 use Rattle.parties.specs.Calls.{State, report, hear-walk}
 use Rattle.jobs.specs.Walk.{order-at}
 use Rattle.exchanges.specs.Exchanges.{cursor, host-of, heard-at}
-use Rattle.hosts.specs.Walks.{reported, steps-from, waiting, Standing}
+use Rattle.hosts.specs.Walks.{reported, steps-from, Standing}
 use Rattle.hosts.proofs.Walking.{at-gate}
 use Rattle.exchanges.proofs.Shapes.{heard-as}
 use Rattle.hosts.proofs.Advancing.{word-any}
 use Rattle.hosts.proofs.Jobs.{gates-drop}
 
--- ---- a gate by its shape: whether it waits, and the cursor behind it
-
-abbrev pub waits-at : Shape → Bool
-waits-at Local = false
-waits-at (Dealing d) = false
-waits-at (Product d) = true
-waits-at (Refreshing d) = true
-
-waits-as : (y : Step) → waits-at (shape y) ≡ waiting y
-unfolding shape waiting
-waits-as (local d m l) = refl
-waits-as (deal d f) = refl
-waits-as (exchange d (product O p q)) = refl
-waits-as (exchange d (refresh O p)) = refl
-waits-as end = refl
-
-pub waits-by : (y : Step) (sh t : Shape) → sh ≡ shape y → sh ≡ t → waits-at t ≡ waiting y
-waits-by y sh t e p = ap waits-at (sym p ∙ e) ∙ waits-as y
-
-abbrev pub a-by : Shape → ℕ → ℕ
-a-by Local a = a
-a-by (Dealing d) a = a + 1
-a-by (Product d) a = a + 2
-a-by (Refreshing d) a = a + 1
-
-abbrev pub k-by : Shape → ℕ → ℕ
-k-by Local k = k
-k-by (Dealing d) k = k + 1
-k-by (Product d) k = k + 1
-k-by (Refreshing d) k = k
-
-past-by : (y : Step) (a k : ℕ) → (a-by (shape y) a ≡ past y (cursor 0 0 a 0 k) .a) × (k-by (shape y) k ≡ past y (cursor 0 0 a 0 k) .k)
-unfolding shape past new-at past-deal
-past-by (local d m l) a k = (refl, refl)
-past-by (deal d f) a k = (omega arith, omega arith)
-past-by (exchange d (product O p q)) a k = (omega arith, omega arith)
-past-by (exchange d (refresh O p)) a k = (omega arith, refl)
-past-by end a k = (refl, refl)
-
-pub behind-is : (y : Step) (a k : ℕ) (sh t : Shape) → sh ≡ shape y → sh ≡ t → (a-by t a ≡ past y (cursor 0 0 a 0 k) .a) × (k-by t k ≡ past y (cursor 0 0 a 0 k) .k)
-behind-is y a k sh t e p =
-    subst (λ (z : Shape). (a-by z a ≡ past y (cursor 0 0 a 0 k) .a) × (k-by z k ≡ past y (cursor 0 0 a 0 k) .k)) (sym e ∙ p) (past-by y a k)
-
-pub past-few : (y : Step) (a k : ℕ) → (past y (cursor 0 0 a 0 k) .a ≤ a + 2) × (past y (cursor 0 0 a 0 k) .k ≤ k + 1)
-unfolding past new-at past-deal
-past-few (local d m l) a k = (omega arith, omega arith)
-past-few (deal d f) a k = (omega arith, omega arith)
-past-few (exchange d (product O p q)) a k = (omega arith, omega arith)
-past-few (exchange d (refresh O p)) a k = (omega arith, omega arith)
-past-few end a k = (omega arith, omega arith)
+-- ---- the cursor behind a product or refresh
 
 past-exchange : (y : Step) → Exchanging (y ∷ []) → (o x a b k : ℕ)
     → past y (cursor o x a b k) ≡ cursor o (suc x) (past y (cursor 0 0 a 0 k) .a) (suc b) (past y (cursor 0 0 a 0 k) .k)
@@ -117,14 +67,14 @@ module _ (h : ℕ) (J T M D : List ℕ) (o i : ℕ) (e : o < length J / 4) (g : 
   unfolding steps-from
   steps-at = rw (gates-drop 32 J T o e, add-one i) (at-gate 32 (program 32 (rows T) (order-at J o)) i g (job-steps 32 (drop (suc o) (job-gates 32 J T))) eg)
 
-  pub resumed : Exchanging (meaning 32 g ∷ []) → (s : State) (v a b k i′ a′ k′ : ℕ) (m l : Lane)
+  pub resumed : Exchanging (meaning 32 g ∷ []) → (s : State) (v a b k i′ a′ k′ : ℕ) (m l : Lane) (u : Used) → u ≡ used-at (meaning 32 g)
       → (m, l) ≡ heard-at (host-of h M D) (meaning 32 g) (cursor 0 0 a b k) (s .m, s .mask) v
-      → i′ ≡ i + 1 → a′ ≡ past (meaning 32 g) (cursor 0 0 a 0 k) .a → k′ ≡ past (meaning 32 g) (cursor 0 0 a 0 k) .k
+      → i′ ≡ i + 1 → a′ ≡ a + u .a → k′ ≡ k + u .deals
       → reported (host-of h M D) (steps-from 32 i′ (drop o (job-gates 32 J T))) (cursor o (s .turn + 1) a′ (b + 1) k′) (m, l)
       ≡ report (host-of h M D) (hear-walk (host-of h M D) s v (found (steps-from 32 i (drop o (job-gates 32 J T))) (cursor o (s .turn) a b k)))
-  resumed w s v a b k i′ a′ k′ m l em ei ea ek =
+  resumed w s v a b k i′ a′ k′ m l u eu em ei ea ek =
       let y = meaning 32 g in
-      let c : past y (cursor o (s .turn) a b k) ≡ cursor o (s .turn + 1) a′ (b + 1) k′ = rw (add-one (s .turn), add-one b, ea, ek) (past-exchange y w o (s .turn) a b k) in
+      let c : past y (cursor o (s .turn) a b k) ≡ cursor o (s .turn + 1) a′ (b + 1) k′ = rw (add-one (s .turn), add-one b, ea, ek, behind-a y u eu (cursor 0 0 a 0 k), behind-k y u eu (cursor 0 0 a 0 k)) (past-exchange y w o (s .turn) a b k) in
       ap (λ (n : ℕ). reported (host-of h M D) (steps-from 32 n (drop o (job-gates 32 J T))) (cursor o (s .turn + 1) a′ (b + 1) k′) (m, l)) ei
       ∙ sym
       (ap (λ (ss : List Step). report (host-of h M D) (hear-walk (host-of h M D) s v (found ss (cursor o (s .turn) a b k)))) steps-at

@@ -1,6 +1,6 @@
 -- The answer of a walk, step by step: it does not depend on the trail, and each gate of an order takes it on. Assumes nothing.
 use mathlib.Core.Path.{_≡_, refl, ap, _∙_}
-use mathlib.Core.Bool.{Bool, true, false, true≢false, cond}
+use mathlib.Core.Bool.{Bool, true, false, cond}
 use mathlib.Core.List.{List, [], _∷_, _++_}
 use Prim.Native.Nat.{ℕ, zero, suc, _<_}
 use native.Mathlib.Omega.{arith}
@@ -8,7 +8,8 @@ use lib.Dec.{eqb}
 use lib.ListN.{length, drop}
 use Rattle.gates.specs.declared.Gate.{Gate}
 use Rattle.gates.specs.declared.Gate.the-variants.{Add, Sub, Xor, Mul, And, Refresh, Scale, Plus, Up, Bit, Const, Public, Deal, DealBits}
-use Rattle.gates.specs.Steps.{at, Step, local, deal, exchange, end, Cursor, past}
+use Rattle.gates.specs.Steps.{at, product, refresh, Step, local, deal, exchange, end, Cursor, past}
+use Rattle.gates.specs.Costs.{step-cost}
 use Rattle.gates.specs.Meaning.{meaning, order-steps}
 use Rattle.gates.specs.Walk.{walk, Exchanging}
 use Rattle.gates.specs.Parties.{Pair, on-m, on-mask, act1, act2}
@@ -17,7 +18,7 @@ use Rattle.lookup.specs.Fetch.{fetched}
 use Rattle.parties.specs.Lent.{Party, party1, party2, party-of}
 use Rattle.parties.specs.Calls.{word-at, spoken-at, report}
 use Rattle.exchanges.specs.Exchanges.{cursor, host-of, deal-taken}
-use Rattle.hosts.specs.Walks.{reported, waiting}
+use Rattle.hosts.specs.Walks.{reported}
 
 -- ---- the trail
 
@@ -60,12 +61,13 @@ pub never : {S : Type 0} → _≡_ {A = ℕ} 0 1 → S
 never e = absurd (omega arith)
 
 module _ (P : Party) (ss : List Step) (o x a b k : ℕ) (s : Pair) where
-  pub passes : (y : Step) → OfGate y → waiting y ≡ false
+  pub passes : (y : Step) → OfGate y → step-cost y .b ≡ 0
       → reported P (y ∷ ss) (cursor o x a b k) s ≡ reported P ss (cursor o x (past y (cursor 0 0 a 0 k) .a) b (past y (cursor 0 0 a 0 k) .k)) (P .act y (cursor o x a b k) s)
-  unfolding reported walk past waiting
+  unfolding reported walk past step-cost
   passes (local d m l) g e = refl
   passes (deal d f) g e = refl
-  passes (exchange d q) g e = absurd (true≢false e)
+  passes (exchange d (product O p q)) g e = absurd (omega arith)
+  passes (exchange d (refresh O p)) g e = absurd (omega arith)
   passes end g e = absurd g
 
   pub passes-end : (act-end : P .act end (cursor o x a b k) s ≡ s) → reported P (end ∷ ss) (cursor o x a b k) s ≡ reported P ss (cursor (suc o) 0 a b k) s

@@ -1,11 +1,10 @@
 -- What the functions behind starting and hearing do: gate by gate within an order, and from an order on. Assumes nothing.
 use mathlib.Core.Path.{_≡_}
-use mathlib.Core.Bool.{Bool, true, false}
 use mathlib.Core.List.{List, [], _∷_}
 use Prim.Native.Nat.{ℕ, _+_, _*_, _/_, _≤_, _<_}
 use lib.ListN.{length, drop}
 use Rattle.gates.specs.declared.Gate.{Gate}
-use Rattle.gates.specs.Steps.{Step, local, deal, exchange, end, Cursor}
+use Rattle.gates.specs.Steps.{Step, Cursor}
 use Rattle.gates.specs.Meaning.{meaning, order-steps, job-steps}
 use Rattle.gates.specs.Walk.{walk, Exchanging}
 use Rattle.gates.specs.Parties.{Pair}
@@ -27,13 +26,6 @@ reported P ss c s = report P (walk (P .act) ss c s [])
 unfoldable pub steps-from : (w i : ℕ) → List (List Gate) → List Step
 steps-from w i [] = []
 steps-from w i (gs ∷ os) = order-steps w (drop i gs) (job-steps w os)
-
--- a product or refresh waits for the other's word
-unfoldable pub waiting : Step → Bool
-waiting (local d m l) = false
-waiting (deal d f) = false
-waiting (exchange d e) = true
-waiting end = false
 
 -- the walk of an order halts: at a product or refresh, or past the last gate
 abbrev pub Halting : ℕ → Fetched → Type 0

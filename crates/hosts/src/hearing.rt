@@ -24,6 +24,7 @@ use lookup::fetch;
 use orders::order_at;
 use places::Sought;
 use places::seek;
+use shapes::used_by;
 
 // Conditions 8 and 9 past the last order: the end is the number of orders and 0.
 fn end_fault(order: usize, n: usize, turn: u32) -> u32
@@ -68,7 +69,16 @@ fn resume(
         order,
         turn,
     };
-    advance(host, job, table, masks, deals, next, behind(g, at), b + 1)
+    advance(
+        host,
+        job,
+        table,
+        masks,
+        deals,
+        next,
+        behind(used_by(g), at),
+        b + 1,
+    )
 }
 
 impl State {

@@ -2,14 +2,12 @@
 ghost use mathlib.Core.Path.{_≡_};
 ghost use Prim.Native.Nat.{_/_, _+_, _^_, _≤_, _<_};
 ghost use lib.ListN.{length, drop};
-ghost use Rattle.gates.specs.Steps.{past};
-ghost use Rattle.gates.specs.Meaning.{meaning};
 ghost use Rattle.tables.specs.Table.{rows};
 ghost use Rattle.circuits.specs.Orders.{program};
 ghost use Rattle.jobs.specs.Job.{job-gates};
 ghost use Rattle.hosts.specs.Answers.{answer-of};
 ghost use Rattle.exchanges.specs.Exchanges.{cursor, host-of};
-ghost use Rattle.hosts.specs.Walks.{steps-from, reported, waiting, Walked, Sized};
+ghost use Rattle.hosts.specs.Walks.{steps-from, reported, Walked, Sized};
 use crate::Answer;
 use crate::State;
 use crate::answering::answered;
@@ -17,50 +15,25 @@ use circuits::Order;
 use exchanges::Reach;
 use exchanges::say;
 use exchanges::step;
-use gates::Gate;
-use gates::Shape;
+use gates::Used;
 use lookup::Fetched;
 use lookup::fetch;
 use orders::order_at;
-use shapes::shape_of;
+use shapes::used_by;
 
-// A product or refresh waits for the other's word.
-fn waits(g: Gate) -> bool
-    ensures { λ r. ⌜ r ≡ waiting (meaning 32 g) ⌝ }
+// Behind a gate at which so much is used.
+pub(crate) fn behind(used: Used, at: Reach) -> Reach
+    requires { ⌜ (used .a ≤ 2) × (used .deals ≤ 1) × (at .gate < 2 ^ 62) × (at .a < 2 ^ 62) × (at .k < 2 ^ 62) ⌝ }
+    ensures { λ r. ⌜ (r .gate ≡ at .gate + 1) × (r .a ≡ at .a + used .a) × (r .k ≡ at .k + used .deals) ⌝ }
 {
-    match shape_of(g) {
-        Shape::Product { d: _ } => true,
-        Shape::Refreshing { d: _ } => true,
-        Shape::Dealing { d: _ } => false,
-        Shape::Local => false,
+    Reach {
+        gate: at.gate + 1,
+        a: at.a + used.a,
+        k: at.k + used.deals,
     }
 }
 
-// Behind a gate: a deal takes a word of A and a deal, a product g1 of A besides, a refresh no deal.
-pub(crate) fn behind(g: Gate, at: Reach) -> Reach
-    requires { ⌜ (at .gate < 2 ^ 62) × (at .a < 2 ^ 62) × (at .k < 2 ^ 62) ⌝ }
-    ensures { λ r. ⌜ (r .gate ≡ at .gate + 1) × (r .a ≡ past (meaning 32 g) (cursor 0 0 (at .a) 0 (at .k)) .a) × (r .k ≡ past (meaning 32 g) (cursor 0 0 (at .a) 0 (at .k)) .k) ⌝ }
-{
-    let gate = at.gate + 1;
-    let a = at.a;
-    let k = at.k;
-    match shape_of(g) {
-        Shape::Product { d: _ } => Reach {
-            gate,
-            a: a + 2,
-            k: k + 1,
-        },
-        Shape::Refreshing { d: _ } => Reach { gate, a: a + 1, k },
-        Shape::Dealing { d: _ } => Reach {
-            gate,
-            a: a + 1,
-            k: k + 1,
-        },
-        Shape::Local => Reach { gate, a, k },
-    }
-}
-
-// Up to the order's next product or refresh, or past its last gate. Each gate writes its one slot in place.
+// Up to the order's next product or refresh, where alone a mask of B is used, or past its last gate. Each gate writes its one slot in place.
 fn walk_order(
     host: u32,
     o: Order,
@@ -79,11 +52,12 @@ fn walk_order(
         let Fetched::At { gate: g } = fetch(o, table, at.gate) else {
             return at;
         };
-        if waits(g) {
+        let used = used_by(g);
+        if used.b != 0 {
             return at;
         }
         step(host, g, masks, deals, at.a, at.k, m, mask);
-        at = behind(g, at);
+        at = behind(used, at);
     }
 }
 

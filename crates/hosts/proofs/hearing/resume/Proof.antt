@@ -1,9 +1,11 @@
 use mathlib.Core.Path.{_∙_}
 use denote.Ref.{now}
+use Prim.Native.Nat.{_≤_}
 use native.Mathlib.Omega.{arith}
 use Rattle.gates.specs.Meaning.{meaning}
 use Rattle.hosts.specs.Answers.{state-of}
-use Rattle.hosts.proofs.Heard.{past-few, resumed, not-past, fetched-there, speaks-there}
+use Rattle.gates.proofs.Uses.{few-used}
+use Rattle.hosts.proofs.Heard.{resumed, not-past, fetched-there, speaks-there}
 use borrow.Author.Needs.{needs}
 use Rattle.hosts.proofs.hearing.resume.Statement.{statement}
 use Rattle.hosts.proofs.hearing.resume.Tie as tie
@@ -39,23 +41,33 @@ returns c =
 meet-requires : tie.Need-meet-requires
 meet-requires c κs = search needs
 
+used-by-requires : tie.Need-used-by-requires
+used-by-requires c κs = search needs
+
+few : (c : tie.After-used-by) → (c .used-by .result .a ≤ 2) × (c .used-by .result .deals ≤ 1)
+few c =
+    let n = few-used (meaning 32 (c .before .before .before .before .before .before .before .g .given .0 .0)) _ (c .used-by .ensures) in
+    (omega (arith, n), omega (arith, n))
+
 behind-requires : tie.Need-behind-requires
-behind-requires c κs = search needs
+behind-requires c κs =
+    let p = c .before .before .before .before .before .before .before .before .before .before .before .before .before .before .before .before .pre in
+    (few c .0, few c .1, omega (arith, p .2), omega (arith, p .4), omega (arith, p .5))
 
 add-advance : tie.Need-add-advance
-add-advance c = search needs
+add-advance c = omega (arith, c .before .before .before .before .before .before .before .before .before .before .before .before .before .before .before .before .before .pre .6)
 
 advance-requires : tie.Need-advance-requires
 advance-requires c κs =
-    let a = c .before .before .before .before .before .before .before .before .before .before .before .before .before .before .before .before .args in
-    let p = c .before .before .before .before .before .before .before .before .before .before .before .before .before .before .before .before .pre in
+    let p = c .before .before .before .before .before .before .before .before .before .before .before .before .before .before .before .before .before .pre in
     let b = c .behind .ensures in
-    let q = past-few (meaning 32 (c .before .before .before .before .before .before .before .g .given .0 .0)) (a .at .a) (a .at .k) in
+    let q = few (c .before) in
     (p .0, omega (arith, b .0, p .2), omega (arith, b .1, q .0, p .4), omega (arith, b .2, q .1, p .5), omega (arith, p .6))
 
 returns-2 : tie.Need-returns-2
 returns-2 c =
-    let g = c .before .before .before .before .before .before .before .before in
+    let u = c .before .before in
+    let g = u .before .before .before .before .before .before .before in
     let f = g .before .before in
     let a = f .before .before .before .before .before .before .before .args in
     let p = f .before .before .before .before .before .before .before .pre in
@@ -63,7 +75,7 @@ returns-2 c =
     c .advance .ensures
     ∙ resumed (a .host) (now (a .job)) (now (a .table)) (now (a .masks)) (now (a .deals)) (a .s .order) (a .at .gate) (p .1 .in-job) _
     (fetched-there (now (a .job)) (now (a .table)) (a .s .order) (a .at .gate) (p .1) _ (f .before .order-at .ensures) _ (f .fetch .ensures) _ (g .g .given .1)) (speaks-there (now (a .job)) (now (a .table)) (a .s .order) (a .at .gate) (p .1) _ (f .before .order-at .ensures) _ (f .fetch .ensures) _ (g .g .given .1))
-    (state-of (a .s)) (a .heard) (a .at .a) (a .b) (a .at .k) _ _ _ _ _ (c .before .before .meet .ensures) (b .0) (b .1) (b .2)
+    (state-of (a .s)) (a .heard) (a .at .a) (a .b) (a .at .k) _ _ _ _ _ _ (u .used-by .ensures) (u .before .meet .ensures) (b .0) (b .1) (b .2)
 
 pub resume-spec : {M : Type 1} → statement M
 resume-spec =
@@ -78,6 +90,7 @@ resume-spec =
     refused-requires
     returns
     meet-requires
+    used-by-requires
     behind-requires
     add-advance
     advance-requires

@@ -4,7 +4,9 @@ use native.Mathlib.Omega.{arith}
 use Prim.Native.Nat.{_-_}
 use Rattle.tables.specs.Table.{rows}
 use Rattle.circuits.specs.Orders.{program}
+use Rattle.gates.specs.Meaning.{meaning}
 use Rattle.exchanges.specs.Exchanges.{host-of}
+use Rattle.gates.proofs.Uses.{few-used}
 use Rattle.hosts.proofs.Turns.{Going, going-from, ran-out, at-exchange, passed}
 use Rattle.hosts.proofs.walk.walk_order.Statement.{statement}
 use Rattle.hosts.proofs.walk.walk_order.Tie as tie
@@ -35,39 +37,42 @@ returns c =
     let a = f .before .before .before .before .before .args in
     ran-out 32 (a .host) (now (a .masks)) (now (a .deals)) (program 32 (rows (now (a .table))) (a .o)) (a .from .gate) (a .from .a) (a .from .k) (now (a .m), now (a .mask)) (l .at .gate) (l .at .a) (l .at .k) (l .m) (l .mask) (l .inv) _ (f .fetch .ensures) (c .enum-told .given .1)
 
-waits-requires : tie.Need-waits-requires Inv-loop μ-loop
-waits-requires c κs = search needs
+used-by-requires : tie.Need-used-by-requires Inv-loop μ-loop
+used-by-requires c κs = search needs
 
 returns-2 : tie.Need-returns-2 Inv-loop μ-loop
 returns-2 c =
-    let f = c .before .before .before .before .before in
+    let w = c .before .before in
+    let f = w .before .before .before .before in
     let l = f .before .loop in
     let a = f .before .before .before .before .before .args in
     at-exchange 32 (a .host) (now (a .masks)) (now (a .deals)) (program 32 (rows (now (a .table))) (a .o)) (a .from .gate) (a .from .a) (a .from .k) (now (a .m), now (a .mask)) (l .at .gate) (l .at .a) (l .at .k) (l .m) (l .mask) (l .inv)
-    _ (f .fetch .ensures) _ (c .before .before .before .g .given .1) _ (c .before .waits .ensures) (c .if1 .taken)
+    _ (f .fetch .ensures) _ (w .before .before .g .given .1) _ (w .used-by .ensures) (c .if1 .taken)
 
 step-requires : tie.Need-step-requires Inv-loop μ-loop
 step-requires c κs = search needs
 
 behind-requires : tie.Need-behind-requires Inv-loop μ-loop
 behind-requires c κs =
-    let f = c .before .before .before .before .before .before .before .before in
+    let w = c .before .before .before .before .before in
+    let f = w .before .before .before .before in
     let l = f .before .loop .inv in
     let p = f .before .before .before .before .before .pre in
-    (omega (arith, l .few), omega (arith, l .few, l .few-a, p), omega (arith, l .few, l .few-k, p))
+    let n = few-used (meaning 32 (w .before .before .g .given .0 .0)) _ (w .used-by .ensures) in
+    (omega (arith, n), omega (arith, n), omega (arith, l .few), omega (arith, l .few, l .few-a, p), omega (arith, l .few, l .few-k, p))
 
 loop-less : tie.Need-loop-less Inv-loop μ-loop
-loop-less c = omega (arith, c .behind .ensures .0, c .before .before .before .before .before .before .before .before .before .before .loop .inv .few)
+loop-less c = omega (arith, c .behind .ensures .0, c .before .before .before .before .before .before .before .before .before .before .before .loop .inv .few)
 
 loop-again : tie.Need-loop-again Inv-loop μ-loop
 loop-again c =
-    let w = c .before .before .before .before .before in
+    let w = c .before .before .before .before .before .before in
     let f = w .before .before .before .before in
     let l = f .before .loop in
     let s = f .before .before .before .before .before in
     let a = s .args in
     passed 32 (a .host) (now (a .masks)) (now (a .deals)) (program 32 (rows (now (a .table))) (a .o)) (a .from .gate) (a .from .a) (a .from .k) (now (a .m), now (a .mask)) (l .at .gate) (l .at .a) (l .at .k) (l .m) (l .mask) (l .inv)
-    _ (f .fetch .ensures) _ (w .before .before .g .given .1) _ (w .waits .ensures) (c .before .before .before .before .if1 .left) (s .pre .0) _ _ (c .before .step .ensures .0) (c .before .step .ensures .1) _ _ _ (c .behind .ensures .0) (c .behind .ensures .1) (c .behind .ensures .2)
+    _ (f .fetch .ensures) _ (w .before .before .g .given .1) _ (w .used-by .ensures) (c .before .before .before .before .if1 .left) (s .pre .0) _ _ (c .before .step .ensures .0) (c .before .step .ensures .1) _ _ _ (c .behind .ensures .0) (c .behind .ensures .1) (c .behind .ensures .2)
 
 pub walk-order-spec : {M : Type 1} → statement M
 walk-order-spec =
@@ -80,7 +85,7 @@ walk-order-spec =
     enum-known-g
     enum-told
     returns
-    waits-requires
+    used-by-requires
     returns-2
     step-requires
     behind-requires
