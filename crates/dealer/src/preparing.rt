@@ -41,7 +41,8 @@ fn registers(lane: [u32; 24]) -> [u32; 16]
 // What is used behind a gate.
 fn behind(g: Gate, used: Used) -> Used
     requires { ⌜ (used .a < 2 ^ 62) × (used .b < 2 ^ 62) × (used .deals < 2 ^ 62) ⌝ }
-    ensures { λ r. ⌜ ((A B : List ℕ) (l1 l2 : Lane) (buffer : List ℕ) → Counts (dealing A B (meaning 32 g) (dealer used l1 l2 buffer)) r) ⌝ }
+    ensures { λ r.
+        ⌜ ((A B : List ℕ) (l1 l2 : Lane) (buffer : List ℕ) → Counts (dealing A B (meaning 32 g) (dealer used l1 l2 buffer)) r) ⌝ }
 {
     let more = used_by(g);
     Used {
@@ -63,7 +64,10 @@ fn deal_order(
     deals: &mut [u32],
 ) -> Used
     requires { ⌜ Room (now a) (now b) (order-steps 32 (program 32 (rows (now table)) o) []) (dealer used (now l1) (now l2) (now deals)) ⌝ }
-    ensures { λ r. ⌜ dealer r (now (l1 .exit)) (now (l2 .exit)) (now (deals .exit)) ≡ deal-all (now (a .entry)) (now (b .entry)) (order-steps 32 (program 32 (rows (now (table .entry))) o) []) (dealer used (now (l1 .entry)) (now (l2 .entry)) (now (deals .entry))) ⌝ }
+    ensures { λ r.
+        ⌜ dealer r (now (l1 .exit)) (now (l2 .exit)) (now (deals .exit))
+        ≡ deal-all (now (a .entry)) (now (b .entry)) (order-steps 32 (program 32 (rows (now (table .entry))) o) [])
+        (dealer used (now (l1 .entry)) (now (l2 .entry)) (now (deals .entry))) ⌝ }
 {
     let mut at = used;
     let mut i = 0;
@@ -86,7 +90,10 @@ fn deal_job(
     deals: &mut [u32],
 ) -> Used
     requires { ⌜ Room (now a) (now b) (steps-of 32 (now job) (now table)) (outset (now l1) (now l2) (now deals)) ⌝ }
-    ensures { λ r. ⌜ dealer r (now (l1 .exit)) (now (l2 .exit)) (now (deals .exit)) ≡ deal-all (now (a .entry)) (now (b .entry)) (steps-of 32 (now (job .entry)) (now (table .entry))) (outset (now (l1 .entry)) (now (l2 .entry)) (now (deals .entry))) ⌝ }
+    ensures { λ r.
+        ⌜ dealer r (now (l1 .exit)) (now (l2 .exit)) (now (deals .exit))
+        ≡ deal-all (now (a .entry)) (now (b .entry)) (steps-of 32 (now (job .entry)) (now (table .entry)))
+        (outset (now (l1 .entry)) (now (l2 .entry)) (now (deals .entry))) ⌝ }
 {
     let n = job.len() / 4;
     let mut used = Used {
@@ -111,7 +118,10 @@ pub fn prepare(
     deals: &mut [u32],
     masks: Masks,
 ) -> Prepared
-    ensures { λ r. ⌜ answer r (now (deals .exit)) ≡ Calls.prepare 32 (now (job .entry)) (now (table .entry)) (now (a .entry)) (now (b .entry)) (now (deals .entry)) (masks .l1, masks .l2) ⌝ }
+    ensures { λ r.
+        ⌜ answer r (now (deals .exit))
+        ≡ Calls.prepare 32 (now (job .entry)) (now (table .entry)) (now (a .entry)) (now (b .entry)) (now (deals .entry))
+        (masks .l1, masks .l2) ⌝ }
 {
     let found = check_dealer(job, table, a, b, deals);
     if found.number != 0 {

@@ -24,7 +24,10 @@ pub fn deal_gate(
     l2: &mut [u32; 24],
     deals: &mut [u32],
 )
-    ensures { λ r. ⌜ Holds (dealing (now (a .entry)) (now (b .entry)) (meaning 32 g) (dealer used (now (l1 .entry)) (now (l2 .entry)) (now (deals .entry)))) (now (l1 .exit)) (now (l2 .exit)) (now (deals .exit)) ⌝ }
+    ensures { λ r.
+        ⌜ Holds
+        (dealing (now (a .entry)) (now (b .entry)) (meaning 32 g) (dealer used (now (l1 .entry)) (now (l2 .entry)) (now (deals .entry))))
+        (now (l1 .exit)) (now (l2 .exit)) (now (deals .exit)) ⌝ }
 {
     let x = word_at(a, used.a);
     // of the masks before the gate; 0 where nothing is dealt

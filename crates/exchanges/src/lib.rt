@@ -47,7 +47,10 @@ pub fn step(
     m: &mut [u32; 24],
     mask: &mut [u32; 24],
 )
-    ensures { λ r. ⌜ (now (m .exit) ≡ on-m (meaning 32 g) (now (m .entry))) × (now (mask .exit) ≡ on-mask (meaning 32 g) (deal-taken host (now (masks .entry)) (now (deals .entry)) a k) (now (mask .entry))) ⌝ }
+    ensures { λ r.
+        ⌜ (now (m .exit) ≡ on-m (meaning 32 g) (now (m .entry)))
+        × (now (mask .exit)
+        ≡ on-mask (meaning 32 g) (deal-taken host (now (masks .entry)) (now (deals .entry)) a k) (now (mask .entry))) ⌝ }
 {
     step_m(g, m);
     step_mask(g, deal_taken(host, masks, deals, a, k), mask);
@@ -88,7 +91,10 @@ pub fn say(
     m: &[u32; 24],
     mask: &[u32; 24],
 ) -> u32
-    ensures { λ r. ⌜ r ≡ word-at (host-of host (now (masks .entry)) (now (deals .entry)) .say) (meaning 32 g ∷ []) (cursor 0 0 (at .a) b (at .k)) (now (m .entry), now (mask .entry)) ⌝ }
+    ensures { λ r.
+        ⌜ r
+        ≡ word-at (host-of host (now (masks .entry)) (now (deals .entry)) .say) (meaning 32 g ∷ []) (cursor 0 0 (at .a) b (at .k))
+        (now (m .entry), now (mask .entry)) ⌝ }
 {
     let new = new_mask(host, g, masks, at.a, b);
     if host == 1 {
@@ -121,7 +127,10 @@ pub fn meet(
     m: &mut [u32; 24],
     mask: &mut [u32; 24],
 )
-    ensures { λ r. ⌜ (now (m .exit), now (mask .exit)) ≡ heard-at (host-of host (now (masks .entry)) (now (deals .entry))) (meaning 32 g) (cursor 0 0 (at .a) b (at .k)) (now (m .entry), now (mask .entry)) heard ⌝ }
+    ensures { λ r.
+        ⌜ (now (m .exit), now (mask .exit))
+        ≡ heard-at (host-of host (now (masks .entry)) (now (deals .entry))) (meaning 32 g) (cursor 0 0 (at .a) b (at .k))
+        (now (m .entry), now (mask .entry)) heard ⌝ }
 {
     let own = say(host, g, masks, deals, at, b, m, mask);
     let new = new_mask(host, g, masks, at.a, b);

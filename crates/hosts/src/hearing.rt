@@ -51,8 +51,14 @@ fn resume(
     at: Reach,
     b: usize,
 ) -> Answer
-    requires { ⌜ Sized (now job) (now table) × Standing (now job) (now table) (s .order) (at .gate) × (at .gate < 1000) × (s .turn < 1000) × (at .a < 2 ^ 30) × (at .k < 2 ^ 30) × (b < 2 ^ 30) ⌝ }
-    ensures { λ r. ⌜ answer-of r ≡ Calls.report (host-of host (now (masks .entry)) (now (deals .entry))) (Calls.hear-walk (host-of host (now (masks .entry)) (now (deals .entry))) (state-of s) heard (found (steps-from 32 (at .gate) (drop (s .order) (job-gates 32 (now (job .entry)) (now (table .entry))))) (cursor (s .order) (s .turn) (at .a) b (at .k)))) ⌝ }
+    requires { ⌜ Sized (now job) (now table) × Standing (now job) (now table) (s .order) (at .gate) × (at .gate < 1000) × (s .turn < 1000)
+        × (at .a < 2 ^ 30) × (at .k < 2 ^ 30) × (b < 2 ^ 30) ⌝ }
+    ensures { λ r.
+        ⌜ answer-of r
+        ≡ Calls.report (host-of host (now (masks .entry)) (now (deals .entry)))
+        (Calls.hear-walk (host-of host (now (masks .entry)) (now (deals .entry))) (state-of s) heard
+        (found (steps-from 32 (at .gate) (drop (s .order) (job-gates 32 (now (job .entry)) (now (table .entry)))))
+        (cursor (s .order) (s .turn) (at .a) b (at .k)))) ⌝ }
 {
     let order = s.order;
     let turn = s.turn + 1;
@@ -92,7 +98,10 @@ impl State {
         deals: &[u32],
         heard: u32,
     ) -> Answer
-        ensures { λ r. ⌜ answer-of r ≡ Calls.hear 32 (lent host (now (job .entry)) (now (table .entry)) (now (masks .entry)) (now (deals .entry))) (state-of self) heard ⌝ }
+        ensures { λ r.
+            ⌜ answer-of r
+            ≡ Calls.hear 32 (lent host (now (job .entry)) (now (table .entry)) (now (masks .entry)) (now (deals .entry)))
+            (state-of self) heard ⌝ }
     {
         let s = self;
         let order = s.order as usize;

@@ -21,7 +21,10 @@ pub fn start(
     deals: &[u32],
     registers: Registers,
 ) -> Answer
-    ensures { λ r. ⌜ answer-of r ≡ Calls.start 32 (lent host (now (job .entry)) (now (table .entry)) (now (masks .entry)) (now (deals .entry))) (lanes-of registers) ⌝ }
+    ensures { λ r.
+        ⌜ answer-of r
+        ≡ Calls.start 32 (lent host (now (job .entry)) (now (table .entry)) (now (masks .entry)) (now (deals .entry)))
+        (lanes-of registers) ⌝ }
 {
     let m = registers.m;
     let mask = registers.mask;

@@ -45,7 +45,9 @@ fn walk_order(
     mask: &mut [u32; 24],
 ) -> Reach
     requires { ⌜ (length (program 32 (rows (now table)) o) ≤ 1000) × (from .gate ≤ 1000) × (from .a < 2 ^ 61) × (from .k < 2 ^ 61) ⌝ }
-    ensures { λ r. ⌜ Walked 32 (host-of host (now (masks .entry)) (now (deals .entry))) (program 32 (rows (now (table .entry))) o) (from .gate) (from .a) (from .k) (now (m .entry), now (mask .entry)) (r .gate) (r .a) (r .k) (now (m .exit), now (mask .exit)) ⌝ }
+    ensures { λ r.
+        ⌜ Walked 32 (host-of host (now (masks .entry)) (now (deals .entry))) (program 32 (rows (now (table .entry))) o)
+        (from .gate) (from .a) (from .k) (now (m .entry), now (mask .entry)) (r .gate) (r .a) (r .k) (now (m .exit), now (mask .exit)) ⌝ }
 {
     let mut at = from;
     loop {
@@ -73,7 +75,11 @@ pub(crate) fn advance(
     b: usize,
 ) -> Answer
     requires { ⌜ Sized (now job) (now table) × (from .gate ≤ 1000) × (from .a < 2 ^ 40) × (from .k < 2 ^ 40) × (b < 2 ^ 31) ⌝ }
-    ensures { λ r. ⌜ answer-of r ≡ reported (host-of host (now (masks .entry)) (now (deals .entry))) (steps-from 32 (from .gate) (drop (s .order) (job-gates 32 (now (job .entry)) (now (table .entry))))) (cursor (s .order) (s .turn) (from .a) b (from .k)) (s .m, s .mask) ⌝ }
+    ensures { λ r.
+        ⌜ answer-of r
+        ≡ reported (host-of host (now (masks .entry)) (now (deals .entry)))
+        (steps-from 32 (from .gate) (drop (s .order) (job-gates 32 (now (job .entry)) (now (table .entry)))))
+        (cursor (s .order) (s .turn) (from .a) b (from .k)) (s .m, s .mask) ⌝ }
 {
     let n = job.len() / 4;
     let mut m = s.m;

@@ -24,7 +24,10 @@ pub fn leftover<'a>(
     list: &'a [u32],
     number: &mut u32,
 ) -> &'a [u32]
-    ensures part { λ r. ⌜ now r ≡ leftover-part (leftover-number 32 (now (job .entry)) (now (table .entry)) which (now (list .entry))) 32 (now (job .entry)) (now (table .entry)) which (now (list .entry)) ⌝ }
+    ensures part { λ r.
+        ⌜ now r
+        ≡ leftover-part (leftover-number 32 (now (job .entry)) (now (table .entry)) which (now (list .entry)))
+        32 (now (job .entry)) (now (table .entry)) which (now (list .entry)) ⌝ }
     ensures said { λ r. ⌜ now (number .exit) ≡ leftover-number 32 (now (job .entry)) (now (table .entry)) which (now (list .entry)) ⌝ }
 {
     match check(job, table) {

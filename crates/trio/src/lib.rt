@@ -40,7 +40,11 @@ fn first(
     deals: &[u32],
     registers: Registers,
 ) -> Answer
-    ensures { λ r. ⌜ answer-of r ≡ Calls.unless number (number, index) (Calls.given (lanes-of registers)) (Calls.start 32 (lent host (now (job .entry)) (now (table .entry)) (now (masks .entry)) (now (deals .entry))) (lanes-of registers)) ⌝ }
+    ensures { λ r.
+        ⌜ answer-of r
+        ≡ Calls.unless number (number, index) (Calls.given (lanes-of registers))
+        (Calls.start 32 (lent host (now (job .entry)) (now (table .entry)) (now (masks .entry)) (now (deals .entry)))
+        (lanes-of registers)) ⌝ }
 {
     if number == 0 {
         return start(host, job, table, masks, deals, registers);
@@ -72,7 +76,10 @@ fn begin(
     deals: &mut [u32],
     registers: Shared,
 ) -> Trio
-    ensures { λ r. ⌜ trio-of r (now (deals .exit)) ≡ begun 32 (lending (now (job .entry)) (now (table .entry)) (now (a .entry)) (now (b .entry))) (shared registers) (now (deals .entry)) ⌝ }
+    ensures { λ r.
+        ⌜ trio-of r (now (deals .exit))
+        ≡ begun 32 (lending (now (job .entry)) (now (table .entry)) (now (a .entry)) (now (b .entry))) (shared registers)
+        (now (deals .entry)) ⌝ }
 {
     let m = registers.m;
     let l1 = registers.l1;
@@ -113,7 +120,10 @@ fn begin(
 
 // Each host hears the word that the other spoke last.
 fn exchange(job: &[u32], table: &[u32], a: &[u32], b: &[u32], deals: &[u32], s: Trio) -> Trio
-    ensures { λ r. ⌜ trio-of r (now (deals .entry)) ≡ heard 32 (lending (now (job .entry)) (now (table .entry)) (now (a .entry)) (now (b .entry))) (trio-of s (now (deals .entry))) ⌝ }
+    ensures { λ r.
+        ⌜ trio-of r (now (deals .entry))
+        ≡ heard 32 (lending (now (job .entry)) (now (table .entry)) (now (a .entry)) (now (b .entry)))
+        (trio-of s (now (deals .entry))) ⌝ }
 {
     let first = s.one.state;
     let second = s.two.state;
@@ -141,7 +151,10 @@ fn carry(
     l1: [u32; 16],
     l2: [u32; 16],
 ) -> Trio
-    ensures { λ r. ⌜ trio-of r (now (deals .exit)) ≡ together 32 (lending (now (job .entry)) (now (table .entry)) (now (a .entry)) (now (b .entry))) (m, l1, l2) (now (deals .entry)) ⌝ }
+    ensures { λ r.
+        ⌜ trio-of r (now (deals .exit))
+        ≡ together 32 (lending (now (job .entry)) (now (table .entry)) (now (a .entry)) (now (b .entry))) (m, l1, l2)
+        (now (deals .entry)) ⌝ }
 {
     let mut s = begin(job, table, a, b, deals, Shared { m, l1, l2 });
     if s.number != 0 {
@@ -163,7 +176,10 @@ pub fn run(
     deals: &mut [u32],
     registers: Shared,
 ) -> Trio
-    ensures { λ r. ⌜ trio-of r (now (deals .exit)) ≡ together 32 (lending (now (job .entry)) (now (table .entry)) (now (a .entry)) (now (b .entry))) (shared registers) (now (deals .entry)) ⌝ }
+    ensures { λ r.
+        ⌜ trio-of r (now (deals .exit))
+        ≡ together 32 (lending (now (job .entry)) (now (table .entry)) (now (a .entry)) (now (b .entry))) (shared registers)
+        (now (deals .entry)) ⌝ }
 {
     let m = registers.m;
     let l1 = registers.l1;
