@@ -1,12 +1,12 @@
-// What a call of host 1 or 2 is lent: the checks 1 to 7 of document 01, "Turned down".
+// What a call is lent: the checks 1 to 7 of document 01, "Turned down", for each host.
 ghost use mathlib.Core.Path.{_≡_};
 ghost use Prim.Native.Nat.{_*_};
 ghost use lib.ListN.{take};
 ghost use Rattle.gates.specs.Costs.{cost-of};
 ghost use Rattle.jobs.specs.Job.{job-fault, job-cost};
 ghost use Rattle.jobs.specs.Walk.{counted};
-ghost use Rattle.parties.specs.Lent.{lent, lists, or-else, lists-fault, lent-fault, passed};
-ghost use Rattle.lendings.specs.Faults.{fault-of};
+ghost use Rattle.parties.specs.Lent.{lent, or-else, lent-fault, passed, dealer-lists-fault, dealer-fault};
+ghost use Rattle.lendings.specs.Faults.{fault-of, needs-of};
 use checks::survey;
 use jobs::Counts;
 
@@ -17,7 +17,7 @@ pub struct Lending {
     pub counts: Counts,
 }
 
-pub(crate) fn turned_down(number: u32, index: u32) -> Lending
+fn turned_down(number: u32, index: u32) -> Lending
     ensures { λ r. ⌜ (fault-of r ≡ (number, index)) × (counted (r .counts) ≡ cost-of 0 0 0 0) ⌝ }
 {
     Lending {
@@ -32,43 +32,68 @@ pub(crate) fn turned_down(number: u32, index: u32) -> Lending
     }
 }
 
-// Conditions 6 and 7: host 1 uses A and takes no notice of deals, host 2 uses B and the deals.
-fn lists_fault(host: u32, masks: &[u32], deals: &[u32], need: u32, a: u32, b: u32) -> u32
-    ensures { λ r. ⌜ r ≡ lists-fault (cost-of need 0 a b) (lists host (now (masks .entry)) (now (deals .entry))) ⌝ }
+// What a host needs of a job's counts: host 1 its words of A, host 2 its words of B and its deals, host 0 all three.
+fn needs_of(host: u32, whole: Counts) -> Counts
+    ensures { λ r. ⌜ counted r ≡ needs-of host (counted whole) ⌝ }
 {
-    if host == 1 {
-        if masks.len() < a as usize {
-            return 6;
-        }
-        return 0;
+    match host {
+        1 => Counts {
+            deals: 0,
+            words: 0,
+            a: whole.a,
+            b: 0,
+        },
+        2 => Counts {
+            deals: whole.deals,
+            words: 0,
+            a: 0,
+            b: whole.b,
+        },
+        _ => whole,
     }
-    if masks.len() < b as usize {
+}
+
+// Conditions 6 and 7.
+fn lists_fault(need: Counts, a: &[u32], b: &[u32], deals: &[u32]) -> u32
+    ensures { λ r. ⌜ r ≡ dealer-lists-fault (counted need) (now (a .entry)) (now (b .entry)) (now (deals .entry)) ⌝ }
+{
+    if a.len() < need.a as usize {
         return 6;
     }
-    if deals.len() < need as usize {
+    if b.len() < need.b as usize {
+        return 6;
+    }
+    if deals.len() < need.deals as usize {
         return 7;
     }
     0
 }
 
-// Conditions 2 to 7.
+// Conditions 2 to 7, and the counts of the orders before a place.
 fn check_job(
     host: u32,
     job: &[u32],
     table: &[u32],
-    masks: &[u32],
+    a: &[u32],
+    b: &[u32],
     deals: &[u32],
     place: usize,
 ) -> Lending
-    ensures fault { λ r. ⌜ fault-of r ≡ or-else (job-fault 32 (now (job .entry)) (now (table .entry))) (lists-fault (job-cost 32 (now (job .entry)) (now (table .entry))) (lists host (now (masks .entry)) (now (deals .entry)))) ⌝ }
-    ensures counts { λ r. ⌜ counted (r .counts) ≡ passed (r .number) (job-cost 32 (take (place * 4) (now (job .entry))) (now (table .entry))) ⌝ }
+    ensures fault { λ r.
+        ⌜ fault-of r
+        ≡ or-else (job-fault 32 (now (job .entry)) (now (table .entry)))
+        (dealer-lists-fault (needs-of host (job-cost 32 (now (job .entry)) (now (table .entry)))) (now (a .entry)) (now (b .entry))
+        (now (deals .entry))) ⌝ }
+    ensures counts { λ r.
+        ⌜ counted (r .counts)
+        ≡ passed (r .number) (job-cost 32 (take (place * 4) (now (job .entry))) (now (table .entry))) ⌝ }
 {
     let found = survey(job, table, place);
     if found.number != 0 {
         return turned_down(found.number, found.index);
     }
-    let need = found.whole;
-    let number = lists_fault(host, masks, deals, need.deals, need.a, need.b);
+    let whole = found.whole;
+    let number = lists_fault(needs_of(host, whole), a, b, deals);
     if number != 0 {
         return turned_down(number, 0);
     }
@@ -80,7 +105,7 @@ fn check_job(
     }
 }
 
-// Conditions 1 to 7, and the counts of the orders before a place.
+// Hosts 1 and 2: conditions 1 to 7, and the counts of the orders before a place. The one list is lent as A and as B.
 pub fn check_lent(
     host: u32,
     job: &[u32],
@@ -89,12 +114,25 @@ pub fn check_lent(
     deals: &[u32],
     place: usize,
 ) -> Lending
-    ensures fault { λ r. ⌜ fault-of r ≡ lent-fault 32 (lent host (now (job .entry)) (now (table .entry)) (now (masks .entry)) (now (deals .entry))) ⌝ }
-    ensures counts { λ r. ⌜ counted (r .counts) ≡ passed (r .number) (job-cost 32 (take (place * 4) (now (job .entry))) (now (table .entry))) ⌝ }
+    ensures fault { λ r.
+        ⌜ fault-of r
+        ≡ lent-fault 32 (lent host (now (job .entry)) (now (table .entry)) (now (masks .entry)) (now (deals .entry))) ⌝ }
+    ensures counts { λ r.
+        ⌜ counted (r .counts)
+        ≡ passed (r .number) (job-cost 32 (take (place * 4) (now (job .entry))) (now (table .entry))) ⌝ }
 {
     match host {
-        1 => check_job(host, job, table, masks, deals, place),
-        2 => check_job(host, job, table, masks, deals, place),
+        1 | 2 => check_job(host, job, table, masks, masks, deals, place),
         _ => turned_down(1, 0),
     }
+}
+
+// Host 0: conditions 2 to 7, and the counts of all orders, as before a place that none reaches.
+pub fn check_dealer(job: &[u32], table: &[u32], a: &[u32], b: &[u32], deals: &[u32]) -> Lending
+    ensures fault { λ r.
+        ⌜ fault-of r
+        ≡ dealer-fault 32 (now (job .entry)) (now (table .entry)) (now (a .entry)) (now (b .entry)) (now (deals .entry)) ⌝ }
+    ensures counts { λ r. ⌜ counted (r .counts) ≡ passed (r .number) (job-cost 32 (now (job .entry)) (now (table .entry))) ⌝ }
+{
+    check_job(0, job, table, a, b, deals, job.len())
 }

@@ -3,11 +3,10 @@ ghost use mathlib.Core.Path.{_≡_};
 ghost use Rattle.parties.specs.Calls as Calls;
 
 mod lending;
-mod preparing;
 
 pub use lending::Lending;
+pub use lending::check_dealer;
 pub use lending::check_lent;
-pub use preparing::check_dealer;
 
 // Sixteen registers, and kept words that are 0.
 pub fn fresh(registers: [u32; 16]) -> [u32; 24]

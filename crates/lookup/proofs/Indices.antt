@@ -40,6 +40,10 @@ fetched-after [] hs i j e = let s : i ≡ j = omega arith in rw s
 fetched-after (g ∷ gs) hs zero j e = absurd (omega arith)
 fetched-after (g ∷ gs) hs (suc i) j e = fetched-after gs hs i j (omega arith)
 
+pub fetched-here : (g : Gate) (gs : List Gate) (i : ℕ) → i ≡ 0 → At g ≡ fetched (g ∷ gs) i
+unfolding fetched
+fetched-here g gs i z = rw z
+
 pub fetched-next : (g : Gate) (gs : List Gate) (i : ℕ) → (i ≡ 0 → ⊥) → fetched gs (i - 1) ≡ fetched (g ∷ gs) i
 unfolding fetched
 fetched-next g gs zero n = absurd (n refl)

@@ -1,4 +1,4 @@
--- The packed gates of kinds 6 to 9 are the gates of their programs, by one computation for each table. Assumes nothing.
+-- What a packed gate's fields stand for, and the gate at an index of a packed program. Assumes nothing.
 use mathlib.Core.Path.{_≡_, refl, sym, ap, _∙_}
 use mathlib.Core.List.{List, [], _∷_, map}
 use Prim.Native.Nat.{ℕ, zero, suc, _+_, _-_, _*_, _%_, _^_, _≤_, _<_}
@@ -8,16 +8,14 @@ use lib.ListN.{length, getD, length-map, List·getD-map, List·getD-eq-default}
 use lib.Pow.{pow-lt}
 use Rattle.words.specs.Words.{add, sub, neg}
 use Rattle.words.proofs.Words.{sub-of}
-use Rattle.truncations.specs.Adder.{doubled, distances, updates}
 use Rattle.gates.specs.declared.Part.{Part}
 use Rattle.gates.specs.declared.Part.the-variants.{Signed}
 use Rattle.gates.specs.declared.Dealt.the-variants.{OfSum, OfNegated, OfBits}
 use Rattle.gates.specs.declared.Gate.{Gate}
 use Rattle.gates.specs.declared.Gate.the-variants.{Add, Sub, Xor, Mul, And, Scale, Plus, Up, Bit, Const, Public, Deal, DealBits}
 use Rattle.lookup.specs.declared.Fetched.the-variants.{At, Past}
-use Rattle.circuits.specs.Programs.{update-gates, rounds, adder, to-number, relu-program, slack-program, one-bit-program, exact-program}
 use Rattle.lookup.specs.Fetch.{fetched}
-use Rattle.lookup.specs.Packed.{slot-of, constants, constant-of, parts, part-of, on-slots, with-constant, with-part, gate-of, unpacked}
+use Rattle.lookup.specs.Packed.{constants, constant-of, parts, part-of, on-slots, with-constant, with-part, unpacked}
 
 -- ---- a `match` on the numbers below n
 
@@ -85,57 +83,11 @@ fetched-at [] i o h = absurd (omega arith)
 fetched-at (g ∷ gs) zero o h = refl
 fetched-at (g ∷ gs) (suc i) o h = fetched-at gs i o (omega arith)
 
--- a program that a table packs
-module _ (k x d : ℕ) (table : List ℕ) (gs : List Gate) (same : map (unpacked k x d) table ≡ gs) (i : ℕ) where
-  pub packed-at : i < length table → At (unpacked k x d (getD table i 0)) ≡ fetched gs i
+-- of a packed program
+module _ (k x d : ℕ) (ps : List ℕ) (i : ℕ) where
+  pub packed-at : i < length ps → At (unpacked k x d (getD ps i 0)) ≡ fetched (map (unpacked k x d) ps) i
   packed-at h =
-      ap At (sym (List·getD-map (unpacked k x d) table i 0)) ∙ fetched-at (map (unpacked k x d) table) i (unpacked k x d 0) (rw (length-map table (unpacked k x d)) h)
-      ∙ ap (λ (hs : List Gate). fetched hs i) same
+      ap At (sym (List·getD-map (unpacked k x d) ps i 0)) ∙ fetched-at (map (unpacked k x d) ps) i (unpacked k x d 0) (rw (length-map ps (unpacked k x d)) h)
 
-  pub packed-past : length table ≤ i → Past ≡ fetched gs i
-  packed-past h = fetched-past (map (unpacked k x d) table) i (rw (length-map table (unpacked k x d)) h) ∙ ap (λ (hs : List Gate). fetched hs i) same
-
--- ---- slack
-
-abbrev pub slack-table : List ℕ
-slack-table =
-    12162404 ∷ 10172404 ∷ 251617 ∷ []
-
-pub slack-gates : (k x d : ℕ) → map (unpacked k x d) slack-table ≡ slack-program k x d
-unfolding unpacked gate-of on-slots with-constant with-part slot-of constant-of part-of slack-program
-slack-gates k x d = refl
-
--- ---- one-bit
-
-abbrev pub one-bit-table : List ℕ
-one-bit-table =
-    6212407 ∷ 11162102 ∷ 11172103 ∷ 10182102 ∷ 10192103 ∷ 3201917 ∷ 5202001 ∷ 171917 ∷ 1171720 ∷ 5171709 ∷ 1181816 ∷ 181817 ∷ 6251810 ∷ []
-
-pub one-bit-gates : (k x d : ℕ) → map (unpacked k x d) one-bit-table ≡ one-bit-program 32 k x d
-unfolding unpacked gate-of on-slots with-constant with-part slot-of constant-of part-of one-bit-program
-one-bit-gates k x d = refl
-
--- ---- exact
-
-abbrev pub exact-table : List ℕ
-exact-table =
-    6212408 ∷ 12232101 ∷ 10202101 ∷ 232320 ∷ 14162100 ∷ 10172100 ∷ 4181716 ∷ 2171716 ∷ 8161706 ∷ 7191800 ∷ 4201719 ∷ 2181820 ∷ 7191700 ∷ 4171719 ∷ 7191801 ∷ 4201719
-    ∷ 2181820 ∷ 7191701 ∷ 4171719 ∷ 7191802 ∷ 4201719 ∷ 2181820 ∷ 7191702 ∷ 4171719 ∷ 7191803 ∷ 4201719 ∷ 2181820 ∷ 7191703 ∷ 4171719 ∷ 7191804 ∷ 4201719 ∷ 2181820
-    ∷ 8201813 ∷ 13192000 ∷ 10172000 ∷ 3201719 ∷ 5202001 ∷ 171719 ∷ 1201720 ∷ 232320 ∷ 8201806 ∷ 13192000 ∷ 10172000 ∷ 3201719 ∷ 5202001 ∷ 171719 ∷ 1201720 ∷ 5202011
-    ∷ 1232320 ∷ 6252312 ∷ []
-
-pub exact-gates : (k x d : ℕ) → map (unpacked k x d) exact-table ≡ exact-program 32 k x d
-unfolding unpacked gate-of on-slots with-constant with-part slot-of constant-of part-of exact-program adder rounds update-gates updates distances doubled to-number
-exact-gates k x d = refl
-
--- ---- relu
-
-abbrev pub relu-table : List ℕ
-relu-table =
-    14162400 ∷ 10172400 ∷ 4181716 ∷ 2171716 ∷ 8161706 ∷ 7191800 ∷ 4201719 ∷ 2181820 ∷ 7191700 ∷ 4171719 ∷ 7191801 ∷ 4201719 ∷ 2181820 ∷ 7191701 ∷ 4171719 ∷ 7191802
-    ∷ 4201719 ∷ 2181820 ∷ 7191702 ∷ 4171719 ∷ 7191803 ∷ 4201719 ∷ 2181820 ∷ 7191703 ∷ 4171719 ∷ 7191804 ∷ 4201719 ∷ 2181820 ∷ 8201805 ∷ 2202016 ∷ 13192000 ∷ 10172000
-    ∷ 3201719 ∷ 5202001 ∷ 171719 ∷ 1201720 ∷ 9190000 ∷ 1191920 ∷ 3252419 ∷ []
-
-pub relu-gates : (x d : ℕ) → map (unpacked 0 x d) relu-table ≡ relu-program 32 x d
-unfolding unpacked gate-of on-slots with-constant with-part slot-of constant-of part-of relu-program adder rounds update-gates updates distances doubled to-number
-relu-gates x d = refl
+  pub packed-past : length ps ≤ i → Past ≡ fetched (map (unpacked k x d) ps) i
+  packed-past h = fetched-past (map (unpacked k x d) ps) i (rw (length-map ps (unpacked k x d)) h)

@@ -4,9 +4,8 @@ ghost use mathlib.Core.List.{_∷_};
 ghost use Prim.Native.Nat.{_*_, _%_, _^_, _<_};
 ghost use lib.IntN.{pos};
 ghost use lib.ListN.{length, getD};
-ghost use Rattle.gates.specs.declared.Gate.the-variants.{Refresh};
 ghost use Rattle.tables.specs.Table.{rows, row-at, slopes};
-ghost use Rattle.circuits.specs.Programs.{one-bit-program, row-program};
+ghost use Rattle.circuits.specs.Programs.{row-program};
 ghost use Rattle.circuits.specs.Orders.{curve-program};
 ghost use Rattle.lookup.specs.Fetch.{fetched};
 ghost use Rattle.lookup.specs.Packed.{change};
@@ -46,10 +45,10 @@ fn slope_after(table: &[u32], row: usize) -> i64
 fn slope_before(table: &[u32], row: usize) -> i64
     ensures { λ s. ⌜ s ≡ getD (pos 0 ∷ slopes (rows (now (table .entry)))) row (pos 0) ⌝ }
 {
-    if row == 0 {
-        return 0;
+    match row {
+        0 => 0,
+        _ => slope_after(table, row - 1),
     }
-    slope_after(table, row - 1)
 }
 
 // The difference is taken of words, which asks for no bound on the slopes of a table that breaks the rules.
@@ -66,16 +65,15 @@ fn row_gate(x: u32, table: &[u32], row: usize, i: usize) -> Fetched
     requires { ⌜ row < length (rows (now table)) ⌝ }
     ensures { λ f. ⌜ f ≡ fetched (row-program 32 x (row-at (rows (now (table .entry))) row .r) (change (rows (now (table .entry))) row)) i ⌝ }
 {
-    if i == 0 {
-        let n = minus(table[2 * row]);
-        return Fetched::At {
-            gate: Gate::Plus { d: 21, a: x, n },
-        };
-    }
-    if i < 40 {
-        return relu_gate(21, 23, i - 1);
-    }
     match i {
+        0 => Fetched::At {
+            gate: Gate::Plus {
+                d: 21,
+                a: x,
+                n: minus(table[2 * row]),
+            },
+        },
+        1..=39 => relu_gate(21, 23, i - 1),
         40 => Fetched::At {
             gate: Gate::Scale {
                 d: 23,
@@ -92,18 +90,6 @@ fn row_gate(x: u32, table: &[u32], row: usize, i: usize) -> Fetched
         },
         _ => Fetched::Past,
     }
-}
-
-// A refresh, and then the one-bit truncation.
-fn refreshed_gate(d: u32, i: usize) -> Fetched
-    ensures { λ f. ⌜ f ≡ fetched (Refresh 22 22 ∷ one-bit-program 32 12 22 d) i ⌝ }
-{
-    if i == 0 {
-        return Fetched::At {
-            gate: Gate::Refresh { d: 22, a: 22 },
-        };
-    }
-    one_bit_gate(12, 22, d, i - 1)
 }
 
 // Rows are counted by division, so that no index of any table overflows.
@@ -126,7 +112,11 @@ pub(crate) fn curve_gate(mode: u32, x: u32, d: u32, table: &[u32], i: usize) -> 
     let rest = i - 1 - 42 * count;
     if mode == 0 {
         exact_gate(12, 22, d, rest)
+    } else if rest == 0 {
+        Fetched::At {
+            gate: Gate::Refresh { d: 22, a: 22 },
+        }
     } else {
-        refreshed_gate(d, rest)
+        one_bit_gate(12, 22, d, rest - 1)
     }
 }

@@ -1,6 +1,7 @@
 // The gate at an index of an order's program.
 ghost use mathlib.Core.Path.{_≡_};
-ghost use mathlib.Core.List.{[], _∷_};
+ghost use mathlib.Core.List.{[]};
+ghost use Prim.Native.Nat.{_<_};
 ghost use Rattle.tables.specs.Table.{rows};
 ghost use Rattle.circuits.specs.Orders.{program};
 ghost use Rattle.lookup.specs.Fetch.{fetched};
@@ -13,15 +14,27 @@ use crate::templates::slack_gate;
 use circuits::Order;
 use gates::Gate;
 
-// A program of one gate.
-fn only(gate: Gate, i: usize) -> Fetched
-    ensures { λ f. ⌜ f ≡ fetched (gate ∷ []) i ⌝ }
+// Kinds 0 to 5: a program of one gate.
+fn one_gate(o: Order, i: usize) -> Fetched
+    requires { ⌜ o .kind < 6 ⌝ }
+    ensures { λ f. ⌜ f ≡ fetched (program 32 [] o) i ⌝ }
 {
-    if i == 0 {
-        Fetched::At { gate }
-    } else {
-        Fetched::Past
+    if 0 < i {
+        return Fetched::Past;
     }
+    let kind = o.kind;
+    let d = o.target;
+    let a = o.source;
+    let c = o.fourth;
+    let gate = match kind {
+        0 => Gate::Add { d, a, b: c },
+        1 => Gate::Sub { d, a, b: c },
+        2 => Gate::Plus { d, a, n: c },
+        3 => Gate::Scale { d, a, n: c },
+        4 => Gate::Mul { d, a, b: c },
+        _ => Gate::Refresh { d, a },
+    };
+    Fetched::At { gate }
 }
 
 // Nothing is asked of the order or of the table: a kind above 10 has no gates, and a shift out of range has its gates too.
@@ -33,12 +46,7 @@ pub fn fetch(o: Order, table: &[u32], i: usize) -> Fetched
     let a = o.source;
     let c = o.fourth;
     match kind {
-        0 => only(Gate::Add { d, a, b: c }, i),
-        1 => only(Gate::Sub { d, a, b: c }, i),
-        2 => only(Gate::Plus { d, a, n: c }, i),
-        3 => only(Gate::Scale { d, a, n: c }, i),
-        4 => only(Gate::Mul { d, a, b: c }, i),
-        5 => only(Gate::Refresh { d, a }, i),
+        0..=5 => one_gate(o, i),
         6 => slack_gate(c, a, d, i),
         7 => one_bit_gate(c, a, d, i),
         8 => exact_gate(c, a, d, i),

@@ -1,6 +1,7 @@
 // Kinds 6 to 9 as constants, one packed gate for each gate of a program, and their gate at an index.
 // A packed gate is decimal, two digits each for operation, target, source and third field (`decode`).
 ghost use mathlib.Core.Path.{_≡_};
+ghost use mathlib.Core.List.{map};
 ghost use Prim.Native.Nat.{_-_, _%_, _^_, _≤_};
 ghost use Rattle.words.specs.Words.{neg};
 ghost use Rattle.circuits.specs.Programs.{relu-program, slack-program, one-bit-program, exact-program};
@@ -22,12 +23,19 @@ fn slot(code: u32, x: u32, d: u32) -> u32
     }
 }
 
+// a - b, and 0 where b is larger.
+fn less(a: u32, b: u32) -> u32
+    ensures { λ n. ⌜ n ≡ a - b ⌝ }
+{
+    if b <= a { a - b } else { 0 }
+}
+
 // 2^(top - k), and 1 from k = top on.
 fn power(top: u32, k: u32) -> u32
     requires { ⌜ top ≤ 31 ⌝ }
     ensures { λ n. ⌜ n ≡ 2 ^ (top - k) ⌝ }
 {
-    if k < top { 1u32 << (top - k) } else { 1 }
+    1u32 << less(top, k)
 }
 
 pub(crate) fn minus(n: u32) -> u32
@@ -36,18 +44,14 @@ pub(crate) fn minus(n: u32) -> u32
     std::num::wrapping_sub_u32(0, n)
 }
 
-// a - b, and 0 where b is larger.
-fn less(a: u32, b: u32) -> u32
-    ensures { λ n. ⌜ n ≡ a - b ⌝ }
-{
-    if b <= a { a - b } else { 0 }
-}
-
 // 2^(32 - k) as a word: 0 for k = 0, which is no shift of a valid order.
 fn full_power(k: u32) -> u32
     ensures { λ n. ⌜ n ≡ 2 ^ (32 - k) % 2 ^ 32 ⌝ }
 {
-    if k == 0 { 0 } else { power(31, k - 1) }
+    match k {
+        0 => 0,
+        _ => power(31, k - 1),
+    }
 }
 
 // The constants of the programs; from code 9 on they depend on the shift k.
@@ -150,18 +154,26 @@ fn decode(packed: u32, k: u32, x: u32, d: u32) -> Gate
     part_gate(op - 10, to, a, part(b, k))
 }
 
+// The gate at an index of a packed program, for its shift, source and target.
+// A table is lent by a function of its own, since a function stores what it lends each time that it is called.
+fn unpack(template: &[u32], k: u32, x: u32, d: u32, i: usize) -> Fetched
+    ensures { λ f. ⌜ f ≡ fetched (map (unpacked k x d) (now (template .entry))) i ⌝ }
+{
+    if i < template.len() {
+        Fetched::At {
+            gate: decode(template[i], k, x, d),
+        }
+    } else {
+        Fetched::Past
+    }
+}
+
 const SLACK: [u32; 3] = [12_16_24_04, 10_17_24_04, 00_25_16_17];
 
 pub(crate) fn slack_gate(k: u32, x: u32, d: u32, i: usize) -> Fetched
     ensures { λ f. ⌜ f ≡ fetched (slack-program k x d) i ⌝ }
 {
-    if i < 3 {
-        Fetched::At {
-            gate: decode(SLACK[i], k, x, d),
-        }
-    } else {
-        Fetched::Past
-    }
+    unpack(&SLACK, k, x, d, i)
 }
 
 const ONE_BIT: [u32; 13] = [
@@ -183,13 +195,7 @@ const ONE_BIT: [u32; 13] = [
 pub(crate) fn one_bit_gate(k: u32, x: u32, d: u32, i: usize) -> Fetched
     ensures { λ f. ⌜ f ≡ fetched (one-bit-program 32 k x d) i ⌝ }
 {
-    if i < 13 {
-        Fetched::At {
-            gate: decode(ONE_BIT[i], k, x, d),
-        }
-    } else {
-        Fetched::Past
-    }
+    unpack(&ONE_BIT, k, x, d, i)
 }
 
 const EXACT: [u32; 50] = [
@@ -248,13 +254,7 @@ const EXACT: [u32; 50] = [
 pub(crate) fn exact_gate(k: u32, x: u32, d: u32, i: usize) -> Fetched
     ensures { λ f. ⌜ f ≡ fetched (exact-program 32 k x d) i ⌝ }
 {
-    if i < 50 {
-        Fetched::At {
-            gate: decode(EXACT[i], k, x, d),
-        }
-    } else {
-        Fetched::Past
-    }
+    unpack(&EXACT, k, x, d, i)
 }
 
 const RELU: [u32; 39] = [
@@ -302,11 +302,5 @@ const RELU: [u32; 39] = [
 pub(crate) fn relu_gate(x: u32, d: u32, i: usize) -> Fetched
     ensures { λ f. ⌜ f ≡ fetched (relu-program 32 x d) i ⌝ }
 {
-    if i < 39 {
-        Fetched::At {
-            gate: decode(RELU[i], 0, x, d),
-        }
-    } else {
-        Fetched::Past
-    }
+    unpack(&RELU, 0, x, d, i)
 }

@@ -5,78 +5,12 @@ use mathlib.Core.List.{List}
 use Prim.Native.Nat.{ℕ, zero, suc, _*_, _≤_, _<_}
 use native.Mathlib.Omega.{arith}
 use borrow.Author.Tests.{eq-eqb, ne-eqb, lt-ltb, le-ltb}
-use lib.Dec.{eqb, ltb}
+use lib.Dec.{eqb}
 use lib.ListN.{length, take}
 use Rattle.gates.specs.Costs.{Cost, cost-of}
-use Rattle.jobs.specs.declared.Checked.the-variants.{Accepted, Refused}
 use Rattle.jobs.specs.Job.{Fault, job-fault, job-cost, short-a, short-b, short-deals}
-use Rattle.jobs.specs.Answers.{Verdict, refusal, verdict, judged, check-job, counts-before}
-use Rattle.parties.specs.Lent.{Lent, lent, lists, or-else, lists-fault, lent-fault, dealer-lists-fault, dealer-fault, passed}
-
--- ---- the lists
-
-module _ (h n a b : ℕ) (M D : List ℕ) where
-  module _ (one : h ≡ 1) where
-    pub short-1 : length M < a → 6 ≡ lists-fault (cost-of n 0 a b) (lists h M D)
-    unfolding lists-fault short-a
-    short-1 q = rw (eq-eqb h 1 one, lt-ltb (length M) a q)
-
-    pub enough-1 : a ≤ length M → 0 ≡ lists-fault (cost-of n 0 a b) (lists h M D)
-    unfolding lists-fault short-a
-    enough-1 q = rw (eq-eqb h 1 one, le-ltb (length M) a q)
-
-  module _ (two : h ≡ 1 → ⊥) where
-    pub short-2 : length M < b → 6 ≡ lists-fault (cost-of n 0 a b) (lists h M D)
-    unfolding lists-fault short-b
-    short-2 q = rw (ne-eqb h 1 two, lt-ltb (length M) b q)
-
-    pub few-deals : b ≤ length M → length D < n → 7 ≡ lists-fault (cost-of n 0 a b) (lists h M D)
-    unfolding lists-fault short-b short-deals
-    few-deals q r = rw (ne-eqb h 1 two, le-ltb (length M) b q, lt-ltb (length D) n r)
-
-    pub enough-2 : b ≤ length M → n ≤ length D → 0 ≡ lists-fault (cost-of n 0 a b) (lists h M D)
-    unfolding lists-fault short-b short-deals
-    enough-2 q r = rw (ne-eqb h 1 two, le-ltb (length M) b q, le-ltb (length D) n r)
-
--- ---- the job
-
--- a job without needs has lists enough
-no-needs : (L : Lent) → lists-fault (cost-of 0 0 0 0) L ≡ 0
-unfolding lists-fault short-a short-b short-deals
-no-needs L = go (eqb (L .host) 1)
-  where
-    go : (t : Bool) → cond {A = ℕ} t (cond (ltb (length (L .masks)) 0) 6 0) (cond (ltb (length (L .masks)) 0) 6 (cond (ltb (length (L .deals)) 0) 7 0)) ≡ 0
-    go true = rw (le-ltb (length (L .masks)) 0 (omega arith))
-    go false = rw (le-ltb (length (L .masks)) 0 (omega arith), le-ltb (length (L .deals)) 0 (omega arith))
-
-module _ (L : Lent) (k : Cost) where
-  refused-by : (n i m j : ℕ) → refusal (n, i) ≡ judged m (m, j) k → (n, i) ≡ or-else (m, j) (lists-fault k L)
-  unfolding judged or-else
-  refused-by n i zero j e =
-      let en : n ≡ 0 = ap (λ (v : Verdict). v .number) e in
-      let ei : i ≡ 0 = ap (λ (v : Verdict). v .index) e in
-      let ek : cost-of 0 0 0 0 ≡ k = ap (λ (v : Verdict). v .counts) e in
-      rw (en, ei, ← ek, no-needs L)
-  refused-by n i (suc m) j e =
-      let en : n ≡ suc m = ap (λ (v : Verdict). v .number) e in
-      let ei : i ≡ j = ap (λ (v : Verdict). v .index) e in
-      rw (en, ei, ne-eqb (suc m) 0 (λ z. omega arith))
-
-  accepted-by : (n s a b m j r : ℕ) → verdict (Accepted n s a b) ≡ judged m (m, j) k → r ≡ lists-fault (cost-of n 0 a b) L
-      → (r, 0) ≡ or-else (m, j) (lists-fault k L)
-  unfolding judged or-else lists-fault short-a short-b short-deals
-  accepted-by n s a b zero j r e p = let ek : cost-of n s a b ≡ k = ap (λ (v : Verdict). v .counts) e in rw (p, ← ek)
-  accepted-by n s a b (suc m) j r e p = let z : 0 ≡ suc m = ap (λ (v : Verdict). v .number) e in absurd (omega arith)
-
-module _ (J T : List ℕ) (L : Lent) where
-  pub job-refused : (n i : ℕ) → verdict (Refused n i) ≡ check-job 32 J T → (n, i) ≡ or-else (job-fault 32 J T) (lists-fault (job-cost 32 J T) L)
-  unfolding check-job
-  job-refused n i e = refused-by L (job-cost 32 J T) n i (job-fault 32 J T .0) (job-fault 32 J T .1) e
-
-  pub job-accepted : (n s a b r : ℕ) → verdict (Accepted n s a b) ≡ check-job 32 J T → r ≡ lists-fault (cost-of n 0 a b) L
-      → (r, 0) ≡ or-else (job-fault 32 J T) (lists-fault (job-cost 32 J T) L)
-  unfolding check-job
-  job-accepted n s a b r e p = accepted-by L (job-cost 32 J T) n s a b (job-fault 32 J T .0) (job-fault 32 J T .1) r e p
+use Rattle.jobs.specs.Answers.{Verdict, refusal, judged, check-job, counts-before}
+use Rattle.parties.specs.Lent.{lent, or-else, lists-fault, lent-fault, dealer-lists-fault, passed}
 
 -- ---- from the job's verdict, whatever number the lists have
 
@@ -122,7 +56,7 @@ pub counts-passed : (J T : List ℕ) (place : ℕ) (k : Cost) → record { accep
 unfolding counts-before judged
 counts-passed J T place k e = ap (λ (m : ℕ). judged m (job-fault 32 J T) (job-cost 32 (take (place * 4) J) T) .counts) (accepted-tells J T k e .0)
 
--- ---- host 0
+-- ---- the lists
 
 -- by the tests of the three lengths; the counts' words play no part
 module _ (n m i j : ℕ) (A B D : List ℕ) where
@@ -142,29 +76,9 @@ module _ (n m i j : ℕ) (A B D : List ℕ) where
   unfolding dealer-lists-fault short-a short-b short-deals
   long-enough f g h = rw (le-ltb (length A) i f, le-ltb (length B) j g, le-ltb (length D) n h)
 
-module _ (J T A B D : List ℕ) where
-  pub dealer-refused : (n i : ℕ) → refusal (n, i) ≡ check-job 32 J T → (n ≡ 0 → ⊥) → (n, i) ≡ dealer-fault 32 J T A B D
-  unfolding dealer-fault
-  dealer-refused n i e ne = or-refused J T _ n i e ne
-
-  pub dealer-accepted : (n m i j x : ℕ) → record { accepted = true; number = 0; index = 0; counts = cost-of n m i j } ≡ check-job 32 J T → x ≡ dealer-lists-fault (cost-of n 0 i j) A B D
-      → (x, 0) ≡ dealer-fault 32 J T A B D
-  unfolding dealer-fault dealer-lists-fault short-a short-b short-deals
-  dealer-accepted n m i j x e ex =
-      let t = accepted-tells J T (cost-of n m i j) e in
-      ap {B = Fault} (λ (y : ℕ). (y, 0)) (ex ∙ ap (λ (k : Cost). dealer-lists-fault k A B D) (sym (t .1))) ∙ or-accepted J T _ (t .0)
-
 -- ---- the host
 
 module _ (h : ℕ) (J T M D : List ℕ) where
-  pub of-host-1 : (f : Fault) → h ≡ 1 → f ≡ or-else (job-fault 32 J T) (lists-fault (job-cost 32 J T) (lists h M D)) → f ≡ lent-fault 32 (lent h J T M D)
-  unfolding lent-fault lists-fault
-  of-host-1 f p e = rw (eq-eqb h 1 p) (rw (eq-eqb h 1 p) at e)
-
-  pub of-host-2 : (f : Fault) → h ≡ 2 → f ≡ or-else (job-fault 32 J T) (lists-fault (job-cost 32 J T) (lists h M D)) → f ≡ lent-fault 32 (lent h J T M D)
-  unfolding lent-fault lists-fault
-  of-host-2 f p e = rw (p) (rw p at e)
-
   pub no-host : (h ≡ 1 → ⊥) → (h ≡ 2 → ⊥) → (1, 0) ≡ lent-fault 32 (lent h J T M D)
   unfolding lent-fault
   no-host p q = rw (ne-eqb h 1 p, ne-eqb h 2 q)

@@ -3,7 +3,7 @@ use Prim.Native.Nat.{ℕ}
 use native.Mathlib.Omega.{arith}
 use borrow.Author.Needs.{needs}
 use Rattle.circuits.proofs.CurveGates.{rows-count}
-use Rattle.lookup.proofs.Indices.{curve-first, curve-row, exact-rest, refreshed-rest}
+use Rattle.lookup.proofs.Indices.{fetched-here, fetched-next, curve-first, curve-row, exact-rest, refreshed-rest}
 use Rattle.lookup.specs.declared.Fetched.the-variants.{At}
 use Rattle.gates.specs.declared.Gate.the-variants.{Const}
 use Rattle.lookup.proofs.curve_gates.curve_gate.Statement.{statement}
@@ -41,20 +41,30 @@ sub-rest-2 c = search needs
 exact-gate-requires : tie.Need-exact-gate-requires
 exact-gate-requires c κs = search needs
 
-refreshed-gate-requires : tie.Need-refreshed-gate-requires
-refreshed-gate-requires c κs = search needs
+sub-one-bit-gate : tie.Need-sub-one-bit-gate
+sub-one-bit-gate c = search needs
+
+one-bit-gate-requires : tie.Need-one-bit-gate-requires
+one-bit-gate-requires c κs = search needs
 
 returns-3 : tie.Need-returns-3
 returns-3 c =
-    let s = c .before .before .before .before .before in
-    c .exact-gate .ensures
-    ∙ exact-rest (s .args .x) (s .args .d) (s .args .table .now) (s .args .mode) (s .args .i) (c .before .before .before .if1 .left) (c .before .before .if2 .left) (c .before .if3 .taken)
+    let e = c .before .before in
+    let s = e .before .before .before in
+    c .exact-gate .ensures ∙ exact-rest (s .args .x) (s .args .d) (s .args .table .now) (s .args .mode) (s .args .i) (e .before .if1 .left) (e .if2 .left) (c .before .if3 .taken)
 
 returns-4 : tie.Need-returns-4
 returns-4 c =
-    let s = c .before .before .before .before .before in
-    c .refreshed-gate .ensures
-    ∙ refreshed-rest (s .args .x) (s .args .d) (s .args .table .now) (s .args .mode) (s .args .i) (c .before .before .before .if1 .left) (c .before .before .if2 .left) (c .before .if3 .left)
+    let e = c .before .before in
+    let s = e .before .before .before in
+    fetched-here _ _ _ (c .if4 .taken) ∙ refreshed-rest (s .args .x) (s .args .d) (s .args .table .now) (s .args .mode) (s .args .i) (e .before .if1 .left) (e .if2 .left) (c .before .if3 .left)
+
+returns-5 : tie.Need-returns-5
+returns-5 c =
+    let e = c .before .before .before in
+    let s = e .before .before .before in
+    c .one-bit-gate .ensures ∙ fetched-next _ _ _ (c .before .if4 .left)
+    ∙ refreshed-rest (s .args .x) (s .args .d) (s .args .table .now) (s .args .mode) (s .args .i) (e .before .if1 .left) (e .if2 .left) (c .before .before .if3 .left)
 
 pub curve-gate-spec : {M : Type 1} → statement M
 curve-gate-spec =
@@ -70,6 +80,8 @@ curve-gate-spec =
     mul-rest
     sub-rest-2
     exact-gate-requires
-    refreshed-gate-requires
+    sub-one-bit-gate
+    one-bit-gate-requires
     returns-3
-    returns-4)
+    returns-4
+    returns-5)

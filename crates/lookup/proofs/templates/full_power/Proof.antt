@@ -11,10 +11,10 @@ power-requires : tie.Need-power-requires
 power-requires c κs = search needs
 
 returns : tie.Need-returns
-returns c = simp (c .if1 .taken)
+returns c = simp (c .match .keys1)
 
 returns-2 : tie.Need-returns-2
-returns-2 c = c .power .ensures ∙ full _ (c .before .if1 .left)
+returns-2 c = c .power .ensures ∙ full _ (c .before .match .rest .1)
 
 pub full-power-spec : {M : Type 1} → statement M
 full-power-spec = tie.close (tie.spec sub-power power-requires returns returns-2)

@@ -1,0 +1,17 @@
+use mathlib.Core.Path.{_∙_}
+use borrow.Author.Needs.{needs}
+use Rattle.parties.specs.Lent.{dealer-fault}
+use Rattle.lendings.specs.Faults.{needs-of}
+use Rattle.lendings.proofs.Hosts.{all-before}
+use Rattle.lendings.proofs.lending.check_dealer.Statement.{statement}
+use Rattle.lendings.proofs.lending.check_dealer.Tie as tie
+
+check-job-requires : tie.Need-check-job-requires
+check-job-requires c κs = search needs
+
+returns : tie.Need-returns
+unfolding dealer-fault needs-of
+returns c = (c .check-job .ensures .0, c .check-job .ensures .1 ∙ all-before _ _ _)
+
+pub check-dealer-spec : {M : Type 1} → statement M
+check-dealer-spec = tie.close (tie.spec check-job-requires returns)
