@@ -14,7 +14,7 @@ use Rattle.parties.specs.Lent.{dealer-fault}
 use Rattle.runs.specs.Runs.{Setting}
 use Rattle.runs.proofs.Started.{or-else-none}
 use Rattle.runs.proofs.Progress.{unless-zero}
-use Rattle.trio.specs.Together.{Lending, lending, Trio, to1, to2, preparation, prepared, left, ended, begun, heard, together}
+use Rattle.trio.specs.Together.{Sixteen, Lending, lending, Trio, to1, to2, preparation, prepared, left, ended, begun, heard, together}
 use Rattle.trio.proofs.Positions.{lent-of, given-of, P, Standing, prepare-number, begun-stands}
 use Rattle.trio.proofs.Ends.{ahead, Turn, turn, finish}
 
@@ -38,12 +38,6 @@ unfolding begun prepared
 begins w L r buf D p a b e d f g = rw (f, g, ← d, e)
 
 -- ---- the loop
-
--- the registers given: sixteen shares
-pub record Sixteen (r : Triple) : Type 0 where
-  pub m : length (r .0) ≡ 16
-  pub l1 : length (r .1) ≡ 16
-  pub l2 : length (r .2) ≡ 16
 
 abbrev pub setting : (L : Lending) (r : Triple) → Sixteen r → Setting
 setting L r h =

@@ -1,4 +1,5 @@
 -- Document 01, "Stepping": a job that the three hosts run in one place, each word carried to the other host at once. Assumes nothing.
+use mathlib.Core.Path.{_≡_}
 use mathlib.Core.List.{List, []}
 use Prim.Native.Nat.{ℕ}
 use lib.ListN.{length}
@@ -48,6 +49,12 @@ trio-of s buf =
 -- the lanes m, L1 and L2 of the registers given
 abbrev pub shared : Shared → Triple
 shared r = (r .m, r .l1, r .l2)
+
+-- sixteen shares
+pub record Sixteen (r : Triple) : Type 0 where
+  pub m : length (r .0) ≡ 16
+  pub l1 : length (r .1) ≡ 16
+  pub l2 : length (r .2) ≡ 16
 
 -- host 1 is lent A, host 2 B; both the deals, of which host 1 takes no notice
 abbrev pub to1 : Lending → (deals : List ℕ) → Lent

@@ -3,7 +3,7 @@ ghost use mathlib.Core.Path.{_≡_};
 ghost use Rattle.parties.specs.Calls as Calls;
 ghost use Rattle.parties.specs.Lent.{lent};
 ghost use Rattle.hosts.specs.Answers.{answer-of, lanes-of};
-ghost use Rattle.trio.specs.Together.{trio-of, shared, lending, begun, heard, together};
+ghost use Rattle.trio.specs.Together.{trio-of, shared, Sixteen, lending, begun, heard, together};
 use dealer::Masks;
 use dealer::prepare;
 use hosts::Answer;
@@ -74,16 +74,16 @@ fn begin(
     a: &[u32],
     b: &[u32],
     deals: &mut [u32],
-    registers: Shared,
+    m: [u32; 16],
+    l1: [u32; 16],
+    l2: [u32; 16],
 ) -> Trio
     ensures { λ r.
         ⌜ trio-of r (now (deals .exit))
-        ≡ begun 32 (lending (now (job .entry)) (now (table .entry)) (now (a .entry)) (now (b .entry))) (shared registers)
+        ≡ begun 32 (lending (now (job .entry)) (now (table .entry)) (now (a .entry)) (now (b .entry))) (m, l1, l2)
         (now (deals .entry)) ⌝ }
+    ensures { λ r. ⌜ Sixteen (m, l1, l2) ⌝ }
 {
-    let m = registers.m;
-    let l1 = registers.l1;
-    let l2 = registers.l2;
     let done = prepare(job, table, a, b, deals, Masks { l1, l2 });
     let number = done.number;
     let index = done.index;
@@ -140,34 +140,7 @@ fn exchange(job: &[u32], table: &[u32], a: &[u32], b: &[u32], deals: &[u32], s: 
     }
 }
 
-// Words go to and fro until the hosts are at the job's end.
-fn carry(
-    job: &[u32],
-    table: &[u32],
-    a: &[u32],
-    b: &[u32],
-    deals: &mut [u32],
-    m: [u32; 16],
-    l1: [u32; 16],
-    l2: [u32; 16],
-) -> Trio
-    ensures { λ r.
-        ⌜ trio-of r (now (deals .exit))
-        ≡ together 32 (lending (now (job .entry)) (now (table .entry)) (now (a .entry)) (now (b .entry))) (m, l1, l2)
-        (now (deals .entry)) ⌝ }
-{
-    let mut s = begin(job, table, a, b, deals, Shared { m, l1, l2 });
-    if s.number != 0 {
-        return s;
-    }
-    let orders = (job.len() / 4) as u32;
-    while s.one.state.order < orders {
-        s = exchange(job, table, a, b, deals, s);
-    }
-    s
-}
-
-// The whole job, or the preparation's refusal.
+// The whole job, or the preparation's refusal: words go to and fro until the hosts are at the job's end.
 pub fn run(
     job: &[u32],
     table: &[u32],
@@ -184,5 +157,13 @@ pub fn run(
     let m = registers.m;
     let l1 = registers.l1;
     let l2 = registers.l2;
-    carry(job, table, a, b, deals, m, l1, l2)
+    let mut s = begin(job, table, a, b, deals, m, l1, l2);
+    if s.number != 0 {
+        return s;
+    }
+    let orders = (job.len() / 4) as u32;
+    while s.one.state.order < orders {
+        s = exchange(job, table, a, b, deals, s);
+    }
+    s
 }

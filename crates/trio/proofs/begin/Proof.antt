@@ -1,6 +1,7 @@
 use mathlib.Core.Path.{refl}
 use denote.Ref.{now}
-use Rattle.trio.specs.Together.{lending, shared, preparation}
+use native.Mathlib.Omega.{arith}
+use Rattle.trio.specs.Together.{lending, preparation}
 use Rattle.trio.proofs.Turns.{begins}
 use borrow.Author.Needs.{needs}
 use Rattle.trio.proofs.begin.Statement.{statement}
@@ -22,8 +23,11 @@ returns : tie.Need-returns
 unfolding preparation
 returns c =
     let p = c .before .before .before .before .before .before .before in
-    let a = p .before .before .before .before .before .before .before .before .before .before .args in
-    begins 32 (lending (now (a .job)) (now (a .table)) (now (a .a)) (now (a .b))) (shared (a .registers)) (now (a .deals)) _ _ _ _ (p .prepare .ensures) refl (c .before .before .first .ensures) (c .first2 .ensures)
+    let s = p .before .before .before .before .before .before .before in
+    let a = s .args in (
+      begins 32 (lending (now (a .job)) (now (a .table)) (now (a .a)) (now (a .b))) (a .m, a .l1, a .l2) (now (a .deals)) _ _ _ _ (p .prepare .ensures) refl (c .before .before .first .ensures) (c .first2 .ensures),
+      record { m = omega (arith, s .good); l1 = omega (arith, s .good); l2 = omega (arith, s .good) },
+    )
 
 pub begin-spec : {M : Type 1} → statement M
 begin-spec =
