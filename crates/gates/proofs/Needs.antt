@@ -35,13 +35,13 @@ unfolding cost plus
 cost-append [] ts = cost-path (omega arith) (omega arith) (omega arith) (omega arith)
 cost-append (x ∷ ss) ts = rw (cost-append ss ts) (cost-path (omega arith) (omega arith) (omega arith) (omega arith))
 
--- the cursor behind a list of steps has used its counts
-pub record Used (c : Cursor) (k : Cost) (e : Cursor) : Type 0 where
+-- the cursor e is further than c by the counts k
+pub record Further (c : Cursor) (k : Cost) (e : Cursor) : Type 0 where
   pub a : e .a ≡ c .a + k .a
   pub b : e .b ≡ c .b + k .b
   pub deals : e .k ≡ c .k + k .deals
 
-pub past-used : (x : Step) (c : Cursor) → Used c (step-cost x) (past x c)
+pub past-used : (x : Step) (c : Cursor) → Further c (step-cost x) (past x c)
 unfolding past step-cost new-at past-deal
 past-used (local d m l) c = omega arith
 past-used (deal d f) c = omega arith
@@ -49,12 +49,12 @@ past-used (exchange d (product O a b)) c = omega arith
 past-used (exchange d (refresh O a)) c = omega arith
 past-used end c = omega arith
 
-pub far-used : (ss : List Step) (c : Cursor) → Used c (cost ss) (far ss c)
+pub far-used : (ss : List Step) (c : Cursor) → Further c (cost ss) (far ss c)
 unfolding far cost plus
 far-used [] c = omega arith
 far-used (x ∷ ss) c =
-    let p : Used c (step-cost x) (past x c) = past-used x c in
-    let q : Used (past x c) (cost ss) (far ss (past x c)) = far-used ss (past x c) in
+    let p : Further c (step-cost x) (past x c) = past-used x c in
+    let q : Further (past x c) (cost ss) (far ss (past x c)) = far-used ss (past x c) in
     record { a = omega arith; b = omega arith; deals = omega arith }
 
 -- the two hosts speak as many words as are counted

@@ -10,7 +10,7 @@ use Rattle.gates.specs.Steps.{Step, local, deal, exchange, end, Cursor, origin,
 use Rattle.gates.specs.Meaning.{meaning, order-steps, job-steps}
 use Rattle.gates.specs.Walk.{far}
 use Rattle.gates.specs.Costs.{Cost, cost}
-use Rattle.gates.proofs.Needs.{Used, far-used}
+use Rattle.gates.proofs.Needs.{Further, far-used}
 use Rattle.places.specs.declared.Sought.the-variants.{Nowhere}
 use Rattle.places.specs.Seek.{sought}
 use Rattle.parties.specs.Places.{nowhere, found, seek}
@@ -101,7 +101,7 @@ module _ (w : ℕ) (os : List (List Gate)) (o x : ℕ) where
   unfolding job-steps
   at-place h i a k q =
       let p = skip-all w o x o os origin (omega arith) (omega arith) refl in
-      let u : Used origin (before w os o) (p .0 .cur) = subst (λ (c : Cursor). Used origin (before w os o) c) (p .1) (far-used (job-steps w (take o os)) origin) in
+      let u : Further origin (before w os o) (p .0 .cur) = subst (λ (c : Cursor). Further origin (before w os o) c) (p .1) (far-used (job-steps w (take o os)) origin) in
       let r = q .reached o x (p .0 .cur) (omega (arith, p .0 .in-order)) (omega (arith, p .0 .at-turn)) in
       let e : seek o x (job-steps w (drop o os)) (p .0 .cur) ≡ found (meaning w (q .gate) ∷ order-steps w (drop (suc (q .j)) (getD os o [])) (job-steps w (drop (suc o) os))) (r .cur) = rw (drop-cons os o [] h) (r .is) in
       p .0 .same ∙ e ∙ ap (λ (c : Cursor). found (meaning w (q .gate) ∷ order-steps w (drop (suc (q .j)) (getD os o [])) (job-steps w (drop (suc o) os))) c)

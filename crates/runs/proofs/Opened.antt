@@ -18,7 +18,7 @@ use Rattle.gates.specs.Steps.{Lane, at, end, origin, past}
 use Rattle.gates.specs.Meaning.{meaning, order-steps}
 use Rattle.gates.specs.Parties.{Triple}
 use Rattle.gates.specs.Costs.{plus, cost, step-cost}
-use Rattle.gates.proofs.Needs.{Used, past-used}
+use Rattle.gates.proofs.Needs.{Further, past-used}
 use Rattle.circuits.specs.declared.Order.{Order}
 use Rattle.circuits.specs.Programs.{sum-program}
 use Rattle.circuits.specs.Orders.{program}
@@ -119,22 +119,22 @@ module _ (w : ℕ) (S : Setting) (words : Words w S) where
 
   -- ---- the cursor
 
-  afters-used : (gs : List Gate) (G : Pt) → Used (G .c) (program-cost w gs) (run gs G .c)
+  afters-used : (gs : List Gate) (G : Pt) → Further (G .c) (program-cost w gs) (run gs G .c)
   unfolding afters after program-cost order-steps cost step-cost plus
   afters-used [] G = omega arith
   afters-used (g ∷ gs) G =
-      let p : Used (G .c) (step-cost (meaning w g)) (past (meaning w g) (G .c)) = past-used (meaning w g) (G .c) in
-      let q : Used (past (meaning w g) (G .c)) (cost (order-steps w gs [])) (run gs (after w (S .A) (S .B) (words .A) (words .B) g G) .c) = afters-used gs (after w (S .A) (S .B) (words .A) (words .B) g G) in
+      let p : Further (G .c) (step-cost (meaning w g)) (past (meaning w g) (G .c)) = past-used (meaning w g) (G .c) in
+      let q : Further (past (meaning w g) (G .c)) (cost (order-steps w gs [])) (run gs (after w (S .A) (S .B) (words .A) (words .B) g G) .c) = afters-used gs (after w (S .A) (S .B) (words .A) (words .B) g G) in
       record { a = omega arith; b = omega arith; deals = omega arith }
 
-  before-used : (os : List (List Gate)) (G : Pt) (q : ℕ) → Used (G .c) (first-counts w q os) (point-before w (S .A) (S .B) (words .A) (words .B) os G q .c)
+  before-used : (os : List (List Gate)) (G : Pt) (q : ℕ) → Further (G .c) (first-counts w q os) (point-before w (S .A) (S .B) (words .A) (words .B) os G q .c)
   unfolding first-counts point-before past plus
   before-used [] G zero = omega arith
   before-used [] G (suc q) = omega arith
   before-used (o ∷ os) G zero = omega arith
   before-used (o ∷ os) G (suc q) =
-      let p : Used (G .c) (program-cost w o) (run o G .c) = afters-used o G in
-      let r : Used (past end (run o G .c)) (first-counts w q os) (point-before w (S .A) (S .B) (words .A) (words .B) os (ended w (S .A) (S .B) (words .A) (words .B) (run o G)) q .c) = before-used os (ended w (S .A) (S .B) (words .A) (words .B) (run o G)) q in
+      let p : Further (G .c) (program-cost w o) (run o G .c) = afters-used o G in
+      let r : Further (past end (run o G .c)) (first-counts w q os) (point-before w (S .A) (S .B) (words .A) (words .B) os (ended w (S .A) (S .B) (words .A) (words .B) (run o G)) q .c) = before-used os (ended w (S .A) (S .B) (words .A) (words .B) (run o G)) q in
       record { a = omega arith; b = omega arith; deals = omega arith }
 
   -- the mask of the refresh of order q, where it is a curve in one-bit mode
