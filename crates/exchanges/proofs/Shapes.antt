@@ -4,32 +4,37 @@ use mathlib.Core.Bool.{Bool, true, false, cond}
 use mathlib.Core.List.{List, [], _∷_}
 use Prim.Native.Nat.{ℕ, suc, _+_}
 use native.Mathlib.Numerals.{add-one}
+use native.Mathlib.Omega.{arith}
 use borrow.Author.Tests.{eq-eqb, ne-eqb}
 use lib.Dec.{eqb}
 use lib.ListN.{set}
 use Rattle.gates.specs.declared.Shape.{Shape}
 use Rattle.gates.specs.declared.Shape.the-variants.{Local, Dealing, Product, Refreshing}
+use Rattle.gates.specs.declared.Used.{Used}
+use Rattle.gates.specs.Costs.{step-cost, used-at}
 use Rattle.gates.specs.Steps.{Lane, at, Exchange, product, refresh, Step, local, deal, exchange, end, new-at}
 use Rattle.gates.specs.Parties.{Pair, word-of1, word-of2, hear1, hear2}
 use Rattle.gates.specs.Speech.{spoken1, spoken2, met, shape}
 use Rattle.parties.specs.Lent.{Party, party1, party2, party-of}
 use Rattle.parties.specs.Calls.{word-at}
-use Rattle.exchanges.specs.Exchanges.{cursor, host-of, new-mask, sum-of, heard-at}
+use Rattle.exchanges.specs.Exchanges.{cursor, host-of, first-at, new-mask, sum-of, heard-at}
 
--- the new mask: after g1 of a product
-abbrev pub new-by : Shape → (h : ℕ) (M : List ℕ) (a b : ℕ) → ℕ
-new-by Local h M a b = 0
-new-by (Dealing d) h M a b = 0
-new-by (Product d) h M a b = cond (eqb h 1) (at M (suc a)) (at M b)
-new-by (Refreshing d) h M a b = cond (eqb h 1) (at M a) (at M b)
+-- host 1's new mask stands after g1 where a step uses two words of A
+first-after : (y : Step) (a : ℕ) → used-at y .a ≡ 2 → first-at y a ≡ suc a
+unfolding used-at step-cost first-at new-at
+first-after (local d m l) a e = absurd (omega arith)
+first-after (deal d f) a e = absurd (omega arith)
+first-after (exchange d (product O p q)) a e = refl
+first-after (exchange d (refresh O p)) a e = absurd (omega arith)
+first-after end a e = absurd (omega arith)
 
-pub new-mask-by : (h : ℕ) (M : List ℕ) (y : Step) (a b : ℕ) → new-mask h M y a b ≡ new-by (shape y) h M a b
-unfolding new-mask shape new-at
-new-mask-by h M (local d m l) a b = refl
-new-mask-by h M (deal d f) a b = refl
-new-mask-by h M (exchange d (product O p q)) a b = refl
-new-mask-by h M (exchange d (refresh O p)) a b = refl
-new-mask-by h M end a b = refl
+first-next : (y : Step) (a : ℕ) → (used-at y .a ≡ 2 → ⊥) → first-at y a ≡ a
+unfolding used-at step-cost first-at new-at
+first-next (local d m l) a n = refl
+first-next (deal d f) a n = refl
+first-next (exchange d (product O p q)) a n = absurd (n refl)
+first-next (exchange d (refresh O p)) a n = refl
+first-next end a n = refl
 
 -- the word spoken, with the new mask
 abbrev words : Bool → (M D : List ℕ) → Step → (a k new : ℕ) → Pair → ℕ
@@ -75,7 +80,7 @@ module _ (M D : List ℕ) (o x a b k : ℕ) (s : Pair) where
 
   module _ (h : ℕ) (y : Step) where
     new-here : (d : ℕ) (e : Exchange) → y ≡ exchange d e → new-mask h M y a b ≡ cond (eqb h 1) (at M (new-at e a)) (at M b)
-    unfolding new-mask
+    unfolding new-mask first-at
     new-here d e p = rw p
 
     pub word-by : word-at (host-of h M D .say) (y ∷ []) (cursor o x a b k) s ≡ words (eqb h 1) M D y a k (new-mask h M y a b) s
@@ -87,30 +92,21 @@ module _ (M D : List ℕ) (o x a b k : ℕ) (s : Pair) where
     unfolding host-of party-of sum-of
     heard-as own v p = heard-if (eqb h 1) y (new-mask h M y a b) own v new-here p
 
--- ---- as the code has them in hand: the shape that it found, and its test of the host
+-- ---- as the code has them in hand: what it found to be used, and its test of the host
 
-module _ (h : ℕ) (M : List ℕ) (y : Step) (a b : ℕ) (sh : Shape) (e : sh ≡ shape y) where
-  new-when : (t : Shape) → sh ≡ t → new-mask h M y a b ≡ new-by t h M a b
-  new-when t p = new-mask-by h M y a b ∙ ap (λ (z : Shape). new-by z h M a b) (sym e ∙ p)
+module _ (h : ℕ) (M : List ℕ) (y : Step) (a b : ℕ) where
+  module _ (u : Used) (e : u ≡ used-at y) (one : h ≡ 1) where
+    pub mask-after : u .a ≡ 2 → at M (a + 1) ≡ new-mask h M y a b
+    unfolding new-mask
+    mask-after p = rw (eq-eqb h 1 one, first-after y a (sym (ap (λ (v : Used). v .a) e) ∙ p), add-one)
 
-  module _ (d : ℕ) where
-    pub product-1 : sh ≡ Product d → h ≡ 1 → at M (a + 1) ≡ new-mask h M y a b
-    product-1 p q = rw (new-when (Product d) p, eq-eqb h 1 q, add-one)
+    pub mask-next : (u .a ≡ 2 → ⊥) → at M a ≡ new-mask h M y a b
+    unfolding new-mask
+    mask-next n = rw (eq-eqb h 1 one, first-next y a (λ z. n (ap (λ (v : Used). v .a) e ∙ z)))
 
-    pub product-2 : sh ≡ Product d → (h ≡ 1 → ⊥) → at M b ≡ new-mask h M y a b
-    product-2 p q = rw (new-when (Product d) p, ne-eqb h 1 q)
-
-    pub refresh-1 : sh ≡ Refreshing d → h ≡ 1 → at M a ≡ new-mask h M y a b
-    refresh-1 p q = rw (new-when (Refreshing d) p, eq-eqb h 1 q)
-
-    pub refresh-2 : sh ≡ Refreshing d → (h ≡ 1 → ⊥) → at M b ≡ new-mask h M y a b
-    refresh-2 p q = rw (new-when (Refreshing d) p, ne-eqb h 1 q)
-
-    pub none-new : sh ≡ Dealing d → 0 ≡ new-mask h M y a b
-    none-new p = rw (new-when (Dealing d) p)
-
-  pub no-new : sh ≡ Local → 0 ≡ new-mask h M y a b
-  no-new p = rw (new-when Local p)
+  pub mask-of-b : (h ≡ 1 → ⊥) → at M b ≡ new-mask h M y a b
+  unfolding new-mask
+  mask-of-b n = rw (ne-eqb h 1 n)
 
 module _ (M D : List ℕ) (a b k : ℕ) (m l : Lane) (h : ℕ) (y : Step) where
   module _ (x new : ℕ) (en : new ≡ new-mask h M y a b) where

@@ -19,12 +19,16 @@ host-of h M D = party-of (lists h M D)
 unfoldable pub deal-taken : (host : ℕ) (masks deals : List ℕ) (a k : ℕ) → ℕ
 deal-taken h M D a k = cond (eqb h 1) (at M a) (at D k)
 
--- its new mask of a product or refresh: host 1's from A, after g1, host 2's from B
+-- where L1 of a product or refresh stands in A: after g1
+unfoldable pub first-at : Step → ℕ → ℕ
+first-at (local d m l) a = a
+first-at (deal d f) a = a
+first-at (exchange d e) a = new-at e a
+first-at end a = a
+
+-- its new mask of a product or refresh: host 1's from A, host 2's from B; no other step asks for one
 unfoldable pub new-mask : (host : ℕ) (masks : List ℕ) → Step → (a b : ℕ) → ℕ
-new-mask h M (local d m l) a b = 0
-new-mask h M (deal d f) a b = 0
-new-mask h M (exchange d e) a b = cond (eqb h 1) (at M (new-at e a)) (at M b)
-new-mask h M end a b = 0
+new-mask h M y a b = cond (eqb h 1) (at M (first-at y a)) (at M b)
 
 -- the new m from the host's own word and the other's
 unfoldable pub sum-of : (host : ℕ) → Step → (own heard : ℕ) → ℕ

@@ -11,6 +11,7 @@ use gates::Shape;
 use lanes::step_m;
 use lanes::step_mask;
 use shapes::shape_of;
+use shapes::used_by;
 use slots::put;
 use slots::word_after;
 use slots::word_at;
@@ -56,27 +57,17 @@ pub fn step(
     step_mask(g, deal_taken(host, masks, deals, a, k), mask);
 }
 
-// Where a new mask stands in A: after g1 of a product.
+// Host 1's new mask is from A, after g1 where the gate uses two words of it, host 2's from B.
 fn new_mask(host: u32, g: Gate, masks: &[u32], a: usize, b: usize) -> u32
     ensures { λ r. ⌜ r ≡ new-mask host (now (masks .entry)) (meaning 32 g) a b ⌝ }
 {
-    match shape_of(g) {
-        Shape::Product { d: _ } => {
-            if host == 1 {
-                word_after(masks, a)
-            } else {
-                word_at(masks, b)
-            }
-        }
-        Shape::Refreshing { d: _ } => {
-            if host == 1 {
-                word_at(masks, a)
-            } else {
-                word_at(masks, b)
-            }
-        }
-        Shape::Local => 0,
-        Shape::Dealing { d: _ } => 0,
+    let used = used_by(g).a;
+    match host {
+        1 => match used {
+            2 => word_after(masks, a),
+            _ => word_at(masks, a),
+        },
+        _ => word_at(masks, b),
     }
 }
 
