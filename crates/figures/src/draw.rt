@@ -1,5 +1,5 @@
 // Words from a fixed generator: mask lists, registers, readings and tables, the same in every run.
-use crate::plain::remainder;
+use crate::lists::entry;
 use std::num::wrapping_add_u32;
 
 // A linear congruential step.
@@ -18,15 +18,14 @@ pub(crate) fn word(seed: u32, i: u32) -> u32 {
     next(next(step(start)))
 }
 
-// The stream's words in a lent list of at most 512.
+// The stream's words in a lent list.
 fn fill(drawn: &mut [u32], seed: u32) {
     let mut i: u32 = 0;
-    while i < 512 {
-        let at = i as usize;
-        if at < drawn.len() {
-            drawn[at] = word(seed, i);
-        }
-        i += 1;
+    let mut at: usize = 0;
+    while at < drawn.len() {
+        drawn[at] = word(seed, i);
+        i = wrapping_add_u32(i, 1);
+        at += 1;
     }
 }
 
@@ -50,23 +49,21 @@ pub(crate) fn list(seed: u32) -> [u32; 512] {
     drawn
 }
 
-// Not 0 where a list of at most 512 words has changed: from a place on it is to have the first n words of the stream, then 0.
+// Not 0 where a list has changed: from a place on it is to have the first n words of the stream and then, to 512, only 0 or no more
+// words.
 pub(crate) fn changed(list: &[u32], seed: u32, from: u32, n: u32) -> u32 {
     let mut difference: u32 = 0;
     let mut i = from;
     while i < 512 {
-        let at = i as usize;
-        if at < list.len() {
-            let due = if i < n { word(seed, i) } else { 0 };
-            difference = difference | (list[at] ^ due);
-        }
+        let due = if i < n { word(seed, i) } else { 0 };
+        difference = difference | (entry(list, i) ^ due);
         i += 1;
     }
     difference
 }
 
-// Sixteen rows: r rises by 1 to `gap`, c is drawn below 20001.
-pub(crate) fn table(seed: u32, gap: u32) -> [u32; 32] {
+// Sixteen rows: r rises by 1 to 4 where they are narrow, by 1 to 250 elsewhere; c is drawn below 20001.
+pub(crate) fn table(seed: u32, narrow: bool) -> [u32; 32] {
     let mut rows = [0u32; 32];
     let mut r = word(seed, 100) % 200;
     let mut row: u32 = 0;
@@ -74,8 +71,13 @@ pub(crate) fn table(seed: u32, gap: u32) -> [u32; 32] {
         let at = row as usize * 2;
         rows[at] = r;
         rows[at + 1] = word(seed, row) % 20001;
-        let further = remainder(word(seed, row + 200), gap);
-        r = wrapping_add_u32(r, wrapping_add_u32(further, 1));
+        let drawn = word(seed, row + 200);
+        let rise = if narrow {
+            drawn % 4 + 1
+        } else {
+            drawn % 250 + 1
+        };
+        r = wrapping_add_u32(r, rise);
         row += 1;
     }
     rows

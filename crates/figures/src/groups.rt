@@ -1,5 +1,5 @@
 // The groups of cases that are numbered one by one.
-use crate::curves::level_end;
+use crate::curve_cases::level_end;
 use crate::output::NOTHING;
 use crate::output::print;
 use crate::rejected::at_place;
@@ -18,8 +18,6 @@ use std::num::wrapping_sub_u32;
 fn wrong_case(group: u32, i: u32) -> u32 {
     match group {
         0 => slack(i),
-        1 => splitting(i),
-        2 => splitting(i),
         3 => level_end(i),
         4 => no_host(i),
         5 => ill_sized(i),
@@ -31,7 +29,8 @@ fn wrong_case(group: u32, i: u32) -> u32 {
         11 => short(7, i),
         12 => at_place(8, i),
         13 => at_place(9, i),
-        _ => disagreeing(i),
+        14 => disagreeing(i),
+        _ => splitting(i),
     }
 }
 
@@ -41,9 +40,10 @@ pub(crate) fn group_line(group: u32, start: u32, end: u32) {
     let mut first = start;
     let mut i = start;
     while i < end {
-        if wrong == 0 {
-            first = i;
-        }
+        first = match wrong {
+            0 => i,
+            _ => first,
+        };
         wrong = wrapping_add_u32(wrong, (wrong_case(group, i) != 0) as u32);
         i += 1;
     }

@@ -1,5 +1,5 @@
 // Document 01's cases, run by the engine and compared with plain arithmetic: one line for each group.
-mod curves;
+mod curve_cases;
 mod draw;
 mod groups;
 mod line;
@@ -21,8 +21,8 @@ use crate::output::KIND;
 use crate::output::NOTHING;
 use crate::output::numbered;
 use crate::output::print;
+use crate::sums::NO_TRIALS;
 use crate::sums::Sums;
-use crate::sums::no_trials;
 use crate::sums::print_rest;
 use crate::sweeps::Readings;
 use crate::sweeps::sweep;
@@ -37,7 +37,7 @@ fn kind_sweep(kind: u32, readings: Readings, name: u32) -> Sums {
 
 // Any words at each kind, then readings in range at kind 7.
 fn kinds() {
-    let mut sum = no_trials();
+    let mut sum = NO_TRIALS;
     let mut kind: u32 = 0;
     while kind < 10 {
         sum = sum.plus(kind_sweep(kind, Readings::Words, ANY_WORDS));
@@ -53,10 +53,10 @@ fn main() {
     group_line(1, 0, 4);
     group_line(2, 4, 8);
     kinds();
-    curves::house(0);
-    curves::house(1);
-    curves::others(0);
-    curves::others(1);
+    curve_cases::house(0);
+    curve_cases::house(1);
+    curve_cases::others(0);
+    curve_cases::others(1);
     group_line(3, 0, 96);
     group_line(4, 0, 12);
     group_line(5, 0, 56);
@@ -64,8 +64,8 @@ fn main() {
     group_line(7, 48, 256);
     group_line(8, 256, 448);
     group_line(9, 0, 160);
-    group_line(10, 8, 16);
-    group_line(11, 16, 20);
+    group_line(10, 0, 8);
+    group_line(11, 8, 12);
     group_line(12, 0, 16);
     group_line(13, 16, 20);
     group_line(14, 0, 5);

@@ -72,19 +72,16 @@ const MISMATCHES: u32 = 31;
 
 const FIRST: u32 = 32;
 
-// Writes a piece.
+// Writes a piece, byte by byte.
 fn piece(number: u32) {
     let pieces: &[u8] = &PIECES;
     let mut line: u32 = 0;
-    let mut start: usize = 0;
     let mut at: usize = 0;
     while at < pieces.len() {
         if pieces[at] == b'\n' {
-            if line == number {
-                io::write_all(1, &pieces[start..at]);
-            }
-            start = at + 1;
             line = wrapping_add_u32(line, 1);
+        } else if line == number {
+            io::write_all(1, &pieces[at..at + 1]);
         }
         at += 1;
     }
@@ -105,8 +102,9 @@ pub(crate) fn print(head: u32, middle: u32, tail: u32, cases: u32, wrong: u32, f
     numbered(CASES, cases);
     numbered(WRONG, wrong);
     piece(MISMATCHES);
-    if wrong != 0 {
-        numbered(FIRST, first);
+    match wrong {
+        0 => {}
+        _ => numbered(FIRST, first),
     }
     io::write_all(1, b"\n");
 }

@@ -4,7 +4,6 @@ use crate::draw::changed;
 use crate::draw::lane;
 use crate::draw::list;
 use crate::draw::registers;
-use crate::lists::entry;
 use crate::lists::part;
 use dealer::Masks;
 use dealer::Prepared;
@@ -18,77 +17,37 @@ use jobs::Which;
 
 // A call and what it is to answer: the number and the order's index.
 pub(crate) struct Case {
-    // 0 checking, 1 preparation, 2 starting, 3 hearing, 4 unused masks
+    // 0 and 1 starting host 1 and host 2, 2 and 3 hearing, 4 and 5 unused masks of A and of B, 6 preparation, 7 checking
     call: u32,
-    // for unused masks the list: 1 for A, 2 for B
     pub(crate) host: u32,
     pub(crate) order: u32,
     pub(crate) turn: u32,
     // words lent: masks (at a preparation of A), masks of B, and deals
-    masks: u32,
-    masks_b: u32,
-    deals: u32,
+    pub(crate) masks: u32,
+    pub(crate) masks_b: u32,
+    pub(crate) deals: u32,
     number: u32,
     index: u32,
 }
 
-// Two numbers to a call. The first has a digit each for the call, the host, the order and the turn; the second three digits each for
-// the words of masks, of masks of B and of deals. Eight calls with all that they need, eight of number 6, four of number 7.
-const CALLS: [u32; 40] = [
-    0,
-    512512512, //
-    1000,
-    512512512, //
-    2100,
-    512000512, //
-    2200,
-    512000512, //
-    3100,
-    512000512, //
-    3279,
-    512000512, //
-    4100,
-    512000000, //
-    4200,
-    512000000, //
-    1000,
-    25512512, //
-    1000,
-    512011013, //
-    2100,
-    25000512, //
-    3103,
-    25000512, //
-    2200,
-    11000011, //
-    3203,
-    11000011, //
-    4100,
-    25000000, //
-    4200,
-    11000000, //
-    1000,
-    512512013, //
-    2200,
-    512000013, //
-    3203,
-    512000013, //
-    3299,
-    512000013, //
-];
-
-pub(crate) fn case_at(row: u32, number: u32, index: u32) -> Case {
-    let digits = part(&CALLS, row % 20 * 2, 2);
-    let place = entry(digits, 0);
-    let lent = entry(digits, 1);
+// One of the eight calls with all that it needs. Host 1 hears at the first place, host 2 at one that no job here has.
+pub(crate) fn in_call(call: u32, number: u32, index: u32) -> Case {
+    let order = match call {
+        3 => 7,
+        _ => 0,
+    };
+    let turn = match call {
+        3 => 9,
+        _ => 0,
+    };
     Case {
-        call: place / 1000,
-        host: place / 100 % 10,
-        order: place / 10 % 10,
-        turn: place % 10,
-        masks: lent / 1000000,
-        masks_b: lent / 1000 % 1000,
-        deals: lent % 1000,
+        call,
+        host: call % 2 + 1,
+        order,
+        turn,
+        masks: 512,
+        masks_b: 512,
+        deals: 512,
         number,
         index,
     }
@@ -159,15 +118,15 @@ fn preparation(c: Case, job: &[u32], table: &[u32]) -> u32 {
 fn unused_masks(c: Case, job: &[u32], table: &[u32]) -> u32 {
     let drawn = list(81);
     let masks = part(&drawn, 0, c.masks);
-    let which = if c.host == 1 {
-        Which::ListA
-    } else {
-        Which::ListB
+    let host = c.host;
+    let which = match host {
+        1 => Which::ListA,
+        _ => Which::ListB,
     };
     let mut said: u32 = 99;
     let rest = leftovers::leftover(job, table, which, masks, &mut said);
-    let shorter = (rest.len() != masks.len()) as u32;
-    (said ^ c.number) | shorter | changed(rest, 81, 0, 512)
+    let other_length = (rest.len() != masks.len()) as u32;
+    (said ^ c.number) | other_length | changed(rest, 81, 0, c.masks)
 }
 
 fn checking(c: Case, job: &[u32], table: &[u32]) -> u32 {
@@ -185,10 +144,12 @@ fn checking(c: Case, job: &[u32], table: &[u32]) -> u32 {
 pub(crate) fn refused(c: Case, job: &[u32], table: &[u32]) -> u32 {
     let call = c.call;
     match call {
-        0 => checking(c, job, table),
-        1 => preparation(c, job, table),
-        2 => starting(c, job, table),
+        0 => starting(c, job, table),
+        1 => starting(c, job, table),
+        2 => hearing(c, job, table),
         3 => hearing(c, job, table),
+        6 => preparation(c, job, table),
+        7 => checking(c, job, table),
         _ => unused_masks(c, job, table),
     }
 }

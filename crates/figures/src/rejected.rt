@@ -3,7 +3,7 @@ use crate::lists::entry;
 use crate::lists::nth;
 use crate::lists::part;
 use crate::refusals::Case;
-use crate::refusals::case_at;
+use crate::refusals::in_call;
 use crate::refusals::refused;
 
 // At 0 one kind 9: 26 words of A, 12 of B, 14 deals, 12 products. At 4 a bad order. At 8 three orders of which only the second has a
@@ -16,12 +16,14 @@ fn on_job(c: Case, from: u32, n: u32) -> u32 {
     refused(c, part(jobs, from, n), part(jobs, 0, 0))
 }
 
-const HOSTS: [u32; 3] = [0, 3, 4294967295];
-
 // Number 1, a host that is none: starting and hearing, with a good job and with a bad one.
 pub(crate) fn no_host(i: u32) -> u32 {
-    let mut c = case_at(i % 2 * 2 + 2, 1, 0);
-    c.host = entry(&HOSTS, i / 2 % 3);
+    let mut c = in_call(i % 2 * 2, 1, 0);
+    c.host = match i / 2 % 3 {
+        0 => 0,
+        1 => 3,
+        _ => 4294967295,
+    };
     on_job(c, i / 6 % 2 * 4, 4)
 }
 
@@ -32,7 +34,7 @@ pub(crate) fn ill_sized(i: u32) -> u32 {
     let zeros = [0u32; 260];
     let words: &[u32] = &zeros;
     let job = part(words, 0, entry(&SIZES, i / 8));
-    refused(case_at(i % 8, 2, 0), job, part(words, 0, 0))
+    refused(in_call(i % 8, 2, 0), job, part(words, 0, 0))
 }
 
 // The orders of the numbers 3 (three), 4 (thirteen) and 5 (twelve), four words to a row.
@@ -151,34 +153,17 @@ const FAULTS: [u32; 112] = [
     16, //
 ];
 
-// A faulty order as the second of three, before another fault.
-fn faulty_job(row: u32) -> [u32; 12] {
-    let order = part(&FAULTS, row % 28 * 4, 4);
+// Each order alone and, before another fault, as the second of three, in each of the eight calls.
+pub(crate) fn faulty_order(number: u32, i: u32) -> u32 {
+    let order = part(&FAULTS, i / 16 % 28 * 4, 4);
     let kind = entry(order, 0);
     let target = entry(order, 1);
     let source = entry(order, 2);
-    [
-        8,
-        2,
-        3,
-        31,
-        kind,
-        target,
-        source,
-        entry(order, 3),
-        11,
-        16,
-        0,
-        0,
-    ]
-}
-
-// Each order alone and as the second of three, in each of the eight calls.
-pub(crate) fn faulty_order(number: u32, i: u32) -> u32 {
+    let fourth = entry(order, 3);
+    let orders = [8, 2, 3, 31, kind, target, source, fourth, 11, 16, 0, 0];
     let index = i / 8 % 2;
-    let job = faulty_job(i / 16);
-    let orders = part(&job, 4 - index * 4, index * 8 + 4);
-    refused(case_at(i % 8, number, index), orders, &tables::HOUSE)
+    let job = part(&orders, 4 - index * 4, index * 8 + 4);
+    refused(in_call(i % 8, number, index), job, &tables::HOUSE)
 }
 
 // Where each of ten tables begins here and how many words it has; then the words: seventeen rows, of which the first table has all, the
@@ -269,12 +254,44 @@ pub(crate) fn bad_table(i: u32) -> u32 {
     let index = i / 8 % 2;
     let orders: &[u32] = &[9, 2, 3, 0, 10, 1, 2, index];
     let job = part(orders, 4 - index * 4, index * 4 + 4);
-    refused(case_at(i % 8, 5, index), job, nth(&TABLES, i / 16))
+    refused(in_call(i % 8, 5, index), job, nth(&TABLES, i / 16))
 }
 
-// Numbers 6 and 7: the call of a row.
-pub(crate) fn short(number: u32, row: u32) -> u32 {
-    on_job(case_at(row, number, 0), 0, 4)
+// A call on the kind 9 with so many words of masks, of masks of B and of deals, at a turn of an order.
+fn lent(
+    call: u32,
+    number: u32,
+    masks: u32,
+    masks_b: u32,
+    deals: u32,
+    order: u32,
+    turn: u32,
+) -> u32 {
+    let mut c = in_call(call, number, 0);
+    c.masks = masks;
+    c.masks_b = masks_b;
+    c.deals = deals;
+    c.order = order;
+    c.turn = turn;
+    on_job(c, 0, 4)
+}
+
+// One word short: eight calls of number 6, four of number 7.
+pub(crate) fn short(number: u32, i: u32) -> u32 {
+    match i {
+        0 => lent(6, number, 25, 512, 512, 0, 0),
+        1 => lent(6, number, 512, 11, 13, 0, 0),
+        2 => lent(0, number, 25, 0, 512, 0, 0),
+        3 => lent(2, number, 25, 0, 512, 0, 3),
+        4 => lent(1, number, 11, 0, 11, 0, 0),
+        5 => lent(3, number, 11, 0, 11, 0, 3),
+        6 => lent(4, number, 25, 0, 0, 0, 0),
+        7 => lent(5, number, 11, 0, 0, 0, 0),
+        8 => lent(6, number, 512, 512, 13, 0, 0),
+        9 => lent(1, number, 512, 0, 13, 0, 0),
+        10 => lent(3, number, 512, 0, 13, 0, 3),
+        _ => lent(3, number, 512, 0, 13, 9, 9),
+    }
 }
 
 // A job's place and words, the order and the turn: the places of number 8, then those of 9.
@@ -324,8 +341,7 @@ const PLACES: [u32; 40] = [
 // No product or refresh of an order, past the end, and at the end: both hosts hear there.
 pub(crate) fn at_place(number: u32, i: u32) -> u32 {
     let place = part(&PLACES, i / 2 % 10 * 4, 4);
-    let mut c = case_at(4, number, 0);
-    c.host = i % 2 + 1;
+    let mut c = in_call(i % 2 + 2, number, 0);
     c.order = entry(place, 2);
     c.turn = entry(place, 3);
     on_job(c, entry(place, 0), entry(place, 1))

@@ -17,22 +17,23 @@ pub(crate) struct Sums {
     pub(crate) first: u32,
 }
 
-pub(crate) fn no_trials() -> Sums {
-    Sums {
-        cases: 0,
-        value: 0,
-        line: 0,
-        kept: 0,
-        counts: 0,
-        first: 0,
-    }
-}
+pub(crate) const NO_TRIALS: Sums = Sums {
+    cases: 0,
+    value: 0,
+    line: 0,
+    kept: 0,
+    counts: 0,
+    first: 0,
+};
 
 impl Sums {
     // Both together.
     pub(crate) fn plus(self, more: Sums) -> Sums {
         let wrong = self.value | self.line | self.kept | self.counts;
-        let first = if wrong == 0 { more.first } else { self.first };
+        let first = match wrong {
+            0 => more.first,
+            _ => self.first,
+        };
         Sums {
             cases: wrapping_add_u32(self.cases, more.cases),
             value: wrapping_add_u32(self.value, more.value),

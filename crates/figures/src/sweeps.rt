@@ -1,8 +1,8 @@
 // Many trials of one kind of order, drawn from the generator.
 use crate::draw::word;
 use crate::lists::entry;
+use crate::sums::NO_TRIALS;
 use crate::sums::Sums;
-use crate::sums::no_trials;
 use crate::trials::Trial;
 use crate::trials::compared;
 use std::num::wrapping_add_u32;
@@ -42,9 +42,10 @@ const EDGES: [u32; 16] = [
 // The first are edges; four of the sixteen are no readings.
 fn edge_or(i: u32, edges: u32, otherwise: u32) -> u32 {
     if i < edges {
-        return entry(&EDGES, i);
+        entry(&EDGES, i)
+    } else {
+        otherwise
     }
-    otherwise
 }
 
 fn reading_at(readings: Readings, i: u32, drawn: u32) -> u32 {
@@ -56,9 +57,11 @@ fn reading_at(readings: Readings, i: u32, drawn: u32) -> u32 {
     }
 }
 
-// A fourth word that the kind allows: any constant, 0, a shift, the mode, or a register.
-fn fourth_word(kind: u32, mode: u32, drawn: u32) -> u32 {
-    match kind {
+// The fourth word is one that the kind allows: any constant, 0, a shift, the mode, or a register.
+fn trial_at(kind: u32, mode: u32, readings: Readings, seed: u32, i: u32) -> Trial {
+    let own = word(wrapping_add_u32(seed, kind), i);
+    let drawn = word(own, 13);
+    let fourth = match kind {
         2 => drawn,
         3 => drawn,
         5 => 0,
@@ -68,16 +71,12 @@ fn fourth_word(kind: u32, mode: u32, drawn: u32) -> u32 {
         9 => 0,
         10 => mode,
         _ => drawn % 16,
-    }
-}
-
-fn trial_at(kind: u32, mode: u32, readings: Readings, seed: u32, i: u32) -> Trial {
-    let own = word(wrapping_add_u32(seed, kind), i);
+    };
     Trial {
         kind,
         target: word(own, 11) % 16,
         source: word(own, 12) % 16,
-        fourth: fourth_word(kind, mode, word(own, 13)),
+        fourth,
         x: reading_at(readings, i, word(own, 14)),
         seed: own,
     }
@@ -92,7 +91,7 @@ pub(crate) fn sweep(
     table: &[u32],
     n: u32,
 ) -> Sums {
-    let mut sum = no_trials();
+    let mut sum = NO_TRIALS;
     let mut i: u32 = 0;
     while i < n {
         sum = sum.plus(compared(trial_at(kind, mode, readings, seed, i), table));

@@ -4,9 +4,7 @@ use crate::draw::list;
 use crate::draw::registers;
 use crate::draw::word;
 use crate::line::close_to_line;
-use crate::line::row_count;
-use crate::line::scaled_sum;
-use crate::lists::entry;
+use crate::line::curve_at;
 use crate::lists::part;
 use crate::plain::carry;
 use crate::plain::floor_shift;
@@ -38,36 +36,23 @@ fn mask_sum(seed: u32, r: u32) -> u32 {
 // What a register's shares stand for.
 fn value(c: Trial, r: u32) -> u32 {
     if r == c.source {
-        return c.x;
+        c.x
+    } else {
+        wrapping_sub_u32(word(word(c.seed, 3), r), mask_sum(c.seed, r))
     }
-    wrapping_sub_u32(word(word(c.seed, 3), r), mask_sum(c.seed, r))
 }
 
-// Drawn shares of every register, the source's of x.
-fn drawn_shares(c: Trial) -> Shared {
-    let mut m = registers(word(c.seed, 3));
-    let at = (c.source % 16) as usize;
-    m[at] = wrapping_add_u32(c.x, mask_sum(c.seed, c.source));
-    let l1 = registers(word(c.seed, 1));
-    let l2 = registers(word(c.seed, 2));
-    Shared { m, l1, l2 }
+// The floor of Y / 4096. The one-bit curve, mode 1, adds a carry under the mask sum of its refresh: each row's kind 9 uses 26 words of
+// A and 12 of B before that.
+fn curve_value(c: Trial, sum: u32, rows: u32) -> u32 {
+    let l1 = word(word(c.seed, 4), product(rows, 26));
+    let l2 = word(word(c.seed, 5), product(rows, 12));
+    let carried = carry(sum, wrapping_add_u32(l1, l2), 12);
+    wrapping_add_u32(floor_shift(sum, 12), product(c.fourth, carried))
 }
 
-// The one-bit curve adds a carry under the mask sum of its refresh: each row's kind 9 uses 26 words of A and 12 of B before that.
-fn curve_value(c: Trial, table: &[u32]) -> u32 {
-    let sum = scaled_sum(positive(c.x), table);
-    let floor = floor_shift(sum, 12);
-    if c.fourth == 0 {
-        return floor;
-    }
-    let rows = row_count(table);
-    let l1 = word(word(c.seed, 4), rows * 26);
-    let l2 = word(word(c.seed, 5), rows * 12);
-    wrapping_add_u32(floor, carry(sum, wrapping_add_u32(l1, l2), 12))
-}
-
-// What the target is to open. Kind 6: the two floors that its steps add.
-fn plain_value(c: Trial, table: &[u32]) -> u32 {
+// What the target is to open, a curve with the scaled sum Y. Kind 6: the two floors that its steps add.
+fn plain_value(c: Trial, sum: u32, rows: u32) -> u32 {
     let y = value(c, c.fourth);
     let l = mask_sum(c.seed, c.source);
     let m = wrapping_add_u32(c.x, l);
@@ -84,21 +69,27 @@ fn plain_value(c: Trial, table: &[u32]) -> u32 {
         7 => one_bit(c.x, l, k),
         8 => floor_shift(c.x, k),
         9 => positive(c.x),
-        _ => curve_value(c, table),
+        _ => curve_value(c, sum, rows),
     }
 }
 
-// Document 01's table of costs: the deals, times 1000, and the words spoken. Kinds 0 to 9, the end of the exact curve and that of the
-// one-bit curve, which both have a kind 9 for each row before it.
-const COSTS: [u32; 12] = [0, 0, 0, 0, 1002, 2, 1000, 3002, 16024, 14024, 16024, 3004];
+// Deals, and words spoken by both hosts.
+struct Cost(u32, u32);
 
-fn due_cost(c: Trial, rows: u32) -> u32 {
-    let costs: &[u32] = &COSTS;
-    if c.kind != 10 {
-        return entry(costs, c.kind);
+// Document 01's table of costs. Here 10 is what the exact curve has after its rows, a kind 8, and 11 what the one-bit curve has, the
+// kinds 5 and 7.
+fn due_cost(kind: u32) -> Cost {
+    match kind {
+        4 => Cost(1, 2),
+        5 => Cost(0, 2),
+        6 => Cost(1, 0),
+        7 => Cost(3, 2),
+        8 => Cost(16, 24),
+        9 => Cost(14, 24),
+        10 => Cost(16, 24),
+        11 => Cost(3, 4),
+        _ => Cost(0, 0),
     }
-    let end = entry(costs, wrapping_add_u32(10, c.fourth));
-    wrapping_add_u32(end, product(rows, 14024))
 }
 
 // What shares open; those that disagree open what is no word's number.
@@ -126,16 +117,18 @@ fn others_changed(s: Trio, c: Trial) -> u32 {
     any as u32
 }
 
-// 0 where nothing is refused, and both hosts at the end of one order have spoken half the words.
+// 0 where nothing is refused, and both hosts at the end of one order have spoken half the words. A curve has a kind 9 for each row.
 fn miscounted(s: Trio, c: Trial, rows: u32) -> u32 {
-    let cost = due_cost(c, rows);
-    let half = cost % 1000 / 2;
+    let curve = (c.kind == 10) as u32;
+    let relus = product(curve, rows);
+    let due = due_cost(wrapping_add_u32(c.kind, product(curve, c.fourth)));
+    let due_deals = wrapping_add_u32(due.0, product(relus, 14));
+    let half = wrapping_add_u32(due.1, product(relus, 24)) / 2;
     let refusal = s.number | s.one.number | s.two.number;
     let turn = s.one.state.turn | s.two.state.turn;
     let order = (s.one.state.order ^ 1) | (s.two.state.order ^ 1);
     let spoken = (s.one.spoken ^ half) | (s.two.spoken ^ half);
-    let deals = s.deals ^ (cost / 1000);
-    ((refusal | turn | order | spoken | deals) != 0) as u32
+    ((refusal | turn | order | spoken | (s.deals ^ due_deals)) != 0) as u32
 }
 
 // A job run by the three hosts on drawn lists, with so many words of B. Where a word of the deal buffer past the deals has changed, a
@@ -150,23 +143,29 @@ pub(crate) fn run(job: &[u32], table: &[u32], seed: u32, b_words: u32, shares: S
     s
 }
 
-// A trial's order on the shares that are drawn for it.
+// A trial's order on drawn shares of every register, the source's of x.
 pub(crate) fn run_trial(c: Trial, table: &[u32]) -> Trio {
+    let l1 = registers(word(c.seed, 1));
+    let l2 = registers(word(c.seed, 2));
+    let mut m = registers(word(c.seed, 3));
+    let at = (c.source % 16) as usize;
+    m[at] = wrapping_add_u32(c.x, mask_sum(c.seed, c.source));
     let job = [c.kind, c.target, c.source, c.fourth];
-    run(&job, table, c.seed, 512, drawn_shares(c))
+    run(&job, table, c.seed, 512, Shared { m, l1, l2 })
 }
 
 // A trial run and compared.
 pub(crate) fn compared(c: Trial, table: &[u32]) -> Sums {
     let s = run_trial(c, table);
     let found = opened(s, c.target);
-    let close = close_to_line(words::word_of(found), positive(c.x), table);
+    let curve = curve_at(positive(c.x), table);
+    let close = close_to_line(words::word_of(found), curve);
     Sums {
         cases: 1,
-        value: (found != number(plain_value(c, table))) as u32,
+        value: (found != number(plain_value(c, curve.sum, curve.rows))) as u32,
         line: ((c.kind == 10) & !close) as u32,
         kept: others_changed(s, c),
-        counts: miscounted(s, c, row_count(table)),
+        counts: miscounted(s, c, curve.rows),
         first: c.x,
     }
 }

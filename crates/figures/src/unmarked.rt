@@ -1,8 +1,6 @@
 // The cases of "House table by hand" that document 01 does not mark, the limits of splitting, and shares that disagree. Each function
 // answers 0 where a case goes right.
-use crate::lists::entry;
 use crate::lists::part;
-use crate::plain::number;
 use crate::trials::opened;
 use crate::trials::opening;
 use crate::trials::run;
@@ -13,36 +11,36 @@ use shares::WorkerShare;
 use std::num::wrapping_sub_u32;
 use trio::Shared;
 
-// The order, then what the first host's mask is.
-const SLACKS: [u32; 8] = [6, 0, 0, 1, 3735928559, 2147483648, 1, 0];
-
 // Kind 6 with k = 1 on x = 0, under masks that add up to 2^31, in register 0.
 pub(crate) fn slack(i: u32) -> u32 {
-    let slacks: &[u32] = &SLACKS;
-    let mask = entry(slacks, i % 4 + 4);
+    let mask = match i {
+        0 => 3735928559,
+        1 => 2147483648,
+        2 => 1,
+        _ => 0,
+    };
     let other = wrapping_sub_u32(2147483648, mask);
     let m = [2147483648, 0, 0, 0, 0, 0, 0, 0, 0, 0, 0, 0, 0, 0, 0, 0];
     let l1 = [mask, 0, 0, 0, 0, 0, 0, 0, 0, 0, 0, 0, 0, 0, 0, 0];
     let l2 = [other, 0, 0, 0, 0, 0, 0, 0, 0, 0, 0, 0, 0, 0, 0, 0];
-    let job = part(slacks, 0, 4);
-    let s = run(job, part(slacks, 0, 0), 51, 0, Shared { m, l1, l2 });
+    let order = [6, 0, 0, 1];
+    let job: &[u32] = &order;
+    let s = run(job, part(job, 0, 0), 51, 0, Shared { m, l1, l2 });
     (opened(s, 0) != -2147483648) as u32
 }
 
 // Four readings that open again when they are split, four that are out of range: number 11.
-const READINGS: [u32; 8] = [
-    1073741823,
-    3221225472,
-    4294967295,
-    0,
-    3221225471,
-    1073741824,
-    2147483648,
-    2147483647,
-];
-
 pub(crate) fn splitting(i: u32) -> u32 {
-    let reading = number(entry(&READINGS, i));
+    let reading = match i {
+        0 => 1073741823,
+        1 => -1073741824,
+        2 => -1,
+        3 => 0,
+        4 => -1073741825,
+        5 => 1073741824,
+        6 => -2147483648,
+        _ => 2147483647,
+    };
     match shares::share(reading, 2654435769, 2246822519) {
         Sharing::Shared(s) => { ((3 < i) | (opening(shares::reconstruct(s)) != reading)) as u32 }
         Sharing::OutOfRange => (i < 4) as u32,

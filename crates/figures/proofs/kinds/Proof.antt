@@ -9,9 +9,6 @@ Inv-loop sum₀ kind₀ sum kind = kind ≤ 10
 abbrev μ-loop : tie.MeasureT-loop
 μ-loop sum₀ kind₀ sum kind = 10 - kind
 
-no-trials-requires : tie.Need-no-trials-requires Inv-loop μ-loop
-no-trials-requires c κs = search needs
-
 loop-holds : tie.Need-loop-holds Inv-loop μ-loop
 loop-holds c = search needs
 
@@ -48,7 +45,6 @@ kinds-spec =
     (tie.spec
     Inv-loop
     μ-loop
-    no-trials-requires
     loop-holds
     kind-sweep-requires
     plus-requires

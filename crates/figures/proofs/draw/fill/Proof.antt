@@ -1,23 +1,19 @@
-use mathlib.Core.Path.{_≡_, refl, ap, _∙_}
-use mathlib.Core.Logic.{⊎-elim}
-use Prim.Native.Nat.{_-_, _≤_}
+use mathlib.Core.Path.{_≡_, refl, _∙_}
+use Prim.Native.Nat.{_-_}
 use native.Mathlib.Omega.{arith}
-use borrow.Author.Needs.{needs}
 use lib.ListN.{length, length-set}
+use borrow.Author.Needs.{needs}
 use Rattle.figures.proofs.draw.fill.Statement.{statement}
 use Rattle.figures.proofs.draw.fill.Tie as tie
 
 abbrev Inv-loop : tie.InvT-loop
-Inv-loop drawn₀ seed i₀ drawn i = (i ≤ 512) × (length drawn ≡ length drawn₀)
+Inv-loop drawn₀ seed i₀ at₀ drawn i at = length drawn ≡ length drawn₀
 
 abbrev μ-loop : tie.MeasureT-loop
-μ-loop drawn₀ seed i₀ drawn i = 512 - i
+μ-loop drawn₀ seed i₀ at₀ drawn i at = length drawn₀ - at
 
 loop-holds : tie.Need-loop-holds Inv-loop μ-loop
-loop-holds c = (omega arith, refl)
-
-cast-at : tie.Need-cast-at Inv-loop μ-loop
-cast-at c = search needs
+loop-holds c = refl
 
 word-requires : tie.Need-word-requires Inv-loop μ-loop
 word-requires c κs = search needs
@@ -28,20 +24,22 @@ mul-drawn c = search needs
 slice-write-drawn : tie.Need-slice-write-drawn Inv-loop μ-loop
 slice-write-drawn c = search needs
 
-add-i : tie.Need-add-i Inv-loop μ-loop
-add-i c = omega arith
+wrapping-add-u32-requires : tie.Need-wrapping-add-u32-requires Inv-loop μ-loop
+wrapping-add-u32-requires c κs = search needs
+
+add-at : tie.Need-add-at Inv-loop μ-loop
+add-at c = search needs
 
 loop-less : tie.Need-loop-less Inv-loop μ-loop
-loop-less c = omega arith
+loop-less c = omega (arith, c .before .before .before .loop .inv)
 
 loop-again : tie.Need-loop-again Inv-loop μ-loop
 loop-again c =
-    let l = c .before .before .loop in
-    let kept : length (c .if1 .drawn) ≡ length (l .drawn) = ⊎-elim (λ t. ap length (t .2) ∙ length-set (l .drawn) _ _) (λ t. ap length (t .1)) (c .if1 .came) in
-    (omega arith, kept ∙ l .inv .1)
+    let l = c .before .before .before .loop in
+    length-set (l .drawn) _ _ ∙ l .inv
 
 same-length : tie.Need-same-length Inv-loop μ-loop
-same-length c = c .before .loop .inv .1
+same-length c = c .before .loop .inv
 
 returns : tie.Need-returns Inv-loop μ-loop
 returns c = search needs
@@ -53,11 +51,11 @@ fill-spec =
     Inv-loop
     μ-loop
     loop-holds
-    cast-at
     word-requires
     mul-drawn
     slice-write-drawn
-    add-i
+    wrapping-add-u32-requires
+    add-at
     loop-less
     loop-again
     same-length

@@ -4,10 +4,10 @@ use Rattle.figures.proofs.draw.table.Statement.{statement}
 use Rattle.figures.proofs.draw.table.Tie as tie
 
 abbrev Inv-loop : tie.InvT-loop
-Inv-loop seed gap rows₀ r₀ row₀ rows r row = row ≤ 16
+Inv-loop seed narrow rows₀ r₀ row₀ rows r row = row ≤ 16
 
 abbrev μ-loop : tie.MeasureT-loop
-μ-loop seed gap rows₀ r₀ row₀ rows r row = 16 - row
+μ-loop seed narrow rows₀ r₀ row₀ rows r row = 16 - row
 
 word-requires : tie.Need-word-requires Inv-loop μ-loop
 word-requires c κs = search needs
@@ -45,14 +45,14 @@ add-word c = search needs
 word-requires-3 : tie.Need-word-requires-3 Inv-loop μ-loop
 word-requires-3 c κs = search needs
 
-remainder-requires : tie.Need-remainder-requires Inv-loop μ-loop
-remainder-requires c κs = search needs
+add-rise : tie.Need-add-rise Inv-loop μ-loop
+add-rise c = search needs
+
+add-rise-2 : tie.Need-add-rise-2 Inv-loop μ-loop
+add-rise-2 c = search needs
 
 wrapping-add-u32-requires : tie.Need-wrapping-add-u32-requires Inv-loop μ-loop
 wrapping-add-u32-requires c κs = search needs
-
-wrapping-add-u32-requires-2 : tie.Need-wrapping-add-u32-requires-2 Inv-loop μ-loop
-wrapping-add-u32-requires-2 c κs = search needs
 
 add-row : tie.Need-add-row Inv-loop μ-loop
 add-row c = search needs
@@ -84,9 +84,9 @@ table-spec =
     array-write-rows-2
     add-word
     word-requires-3
-    remainder-requires
+    add-rise
+    add-rise-2
     wrapping-add-u32-requires
-    wrapping-add-u32-requires-2
     add-row
     loop-less
     loop-again

@@ -1,16 +1,14 @@
-use mathlib.Core.Logic.{⊎-elim}
-use Prim.Native.Nat.{_-_, _+_, _≤_}
-use native.Mathlib.Omega.{arith}
+use Prim.Native.Nat.{_-_}
 use lib.ListN.{length}
 use borrow.Author.Needs.{needs}
 use Rattle.figures.proofs.output.piece.Statement.{statement}
 use Rattle.figures.proofs.output.piece.Tie as tie
 
 abbrev Inv-loop : tie.InvT-loop
-Inv-loop number pieces line₀ start₀ at₀ line start at = start ≤ at
+Inv-loop number pieces line₀ at₀ line at = Unit {0}
 
 abbrev μ-loop : tie.MeasureT-loop
-μ-loop number pieces line₀ start₀ at₀ line start at = length pieces - at
+μ-loop number pieces line₀ at₀ line at = length pieces - at
 
 slice-aggregate-pieces : tie.Need-slice-aggregate-pieces Inv-loop μ-loop
 slice-aggregate-pieces c = search needs
@@ -20,6 +18,12 @@ loop-holds c = search needs
 
 shared-slice-read-if1 : tie.Need-shared-slice-read-if1 Inv-loop μ-loop
 shared-slice-read-if1 c = search needs
+
+wrapping-add-u32-requires : tie.Need-wrapping-add-u32-requires Inv-loop μ-loop
+wrapping-add-u32-requires c κs = search needs
+
+add-write-all : tie.Need-add-write-all Inv-loop μ-loop
+add-write-all c = search needs
 
 sub-write-all : tie.Need-sub-write-all Inv-loop μ-loop
 sub-write-all c = search needs
@@ -33,12 +37,6 @@ part-write-all-end c = search needs
 write-all-requires : tie.Need-write-all-requires Inv-loop μ-loop
 write-all-requires c κs = search needs
 
-add-start : tie.Need-add-start Inv-loop μ-loop
-add-start c = search needs
-
-wrapping-add-u32-requires : tie.Need-wrapping-add-u32-requires Inv-loop μ-loop
-wrapping-add-u32-requires c κs = search needs
-
 add-at : tie.Need-add-at Inv-loop μ-loop
 add-at c = search needs
 
@@ -46,10 +44,7 @@ loop-less : tie.Need-loop-less Inv-loop μ-loop
 loop-less c = search needs
 
 loop-again : tie.Need-loop-again Inv-loop μ-loop
-loop-again c =
-    let at = c .before .before .before .loop .at in
-    let kept : c .if1 .start ≤ at + 1 = ⊎-elim (λ t. omega arith) (λ t. omega arith) (c .if1 .came) in
-    omega (arith, kept)
+loop-again c = search needs
 
 returns : tie.Need-returns Inv-loop μ-loop
 returns c = search needs
@@ -63,12 +58,12 @@ piece-spec =
     slice-aggregate-pieces
     loop-holds
     shared-slice-read-if1
+    wrapping-add-u32-requires
+    add-write-all
     sub-write-all
     part-write-all-start
     part-write-all-end
     write-all-requires
-    add-start
-    wrapping-add-u32-requires
     add-at
     loop-less
     loop-again

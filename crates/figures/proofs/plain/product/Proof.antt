@@ -1,40 +1,21 @@
+use native.Mathlib.Omega.{arith}
+use native.Mathlib.Nat.{mul-le-mul}
+use Prim.Native.Nat.{_≤_}
 use borrow.Author.Needs.{needs}
 use Rattle.figures.proofs.plain.product.Statement.{statement}
 use Rattle.figures.proofs.plain.product.Tie as tie
 
-abbrev Inv-loop : tie.InvT-loop
-Inv-loop x y sum₀ doubled₀ rest₀ sum doubled rest = Unit {0}
+mul-result : tie.Need-mul-result
+mul-result c =
+    let h : c .args .x ≤ 4294967295 = omega arith in
+    let k : c .args .y ≤ 4294967295 = omega arith in
+    omega (arith, mul-le-mul h k)
 
-abbrev μ-loop : tie.MeasureT-loop
-μ-loop x y sum₀ doubled₀ rest₀ sum doubled rest = rest
+cast-result : tie.Need-cast-result
+cast-result c = search needs
 
-loop-holds : tie.Need-loop-holds Inv-loop μ-loop
-loop-holds c = search needs
-
-wrapping-add-u32-requires : tie.Need-wrapping-add-u32-requires Inv-loop μ-loop
-wrapping-add-u32-requires c κs = search needs
-
-wrapping-add-u32-requires-2 : tie.Need-wrapping-add-u32-requires-2 Inv-loop μ-loop
-wrapping-add-u32-requires-2 c κs = search needs
-
-loop-less : tie.Need-loop-less Inv-loop μ-loop
-loop-less c = search needs
-
-loop-again : tie.Need-loop-again Inv-loop μ-loop
-loop-again c = search needs
-
-returns : tie.Need-returns Inv-loop μ-loop
+returns : tie.Need-returns
 returns c = search needs
 
 pub product-spec : {M : Type 1} → statement M
-product-spec =
-    tie.close
-    (tie.spec
-    Inv-loop
-    μ-loop
-    loop-holds
-    wrapping-add-u32-requires
-    wrapping-add-u32-requires-2
-    loop-less
-    loop-again
-    returns)
+product-spec = tie.close (tie.spec mul-result cast-result returns)

@@ -9,9 +9,6 @@ Inv-loop kind mode readings seed table n sum₀ i₀ sum i = i ≤ n
 abbrev μ-loop : tie.MeasureT-loop
 μ-loop kind mode readings seed table n sum₀ i₀ sum i = n - i
 
-no-trials-requires : tie.Need-no-trials-requires Inv-loop μ-loop
-no-trials-requires c κs = search needs
-
 loop-holds : tie.Need-loop-holds Inv-loop μ-loop
 loop-holds c = search needs
 
@@ -42,7 +39,6 @@ sweep-spec =
     (tie.spec
     Inv-loop
     μ-loop
-    no-trials-requires
     loop-holds
     trial-at-requires
     compared-requires

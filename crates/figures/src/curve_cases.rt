@@ -8,8 +8,8 @@ use crate::output::HOUSE_BOTH;
 use crate::output::HOUSE_COUNTS;
 use crate::output::HOUSE_RANGE;
 use crate::output::OTHER_TABLES;
+use crate::sums::NO_TRIALS;
 use crate::sums::Sums;
-use crate::sums::no_trials;
 use crate::sums::print_rest;
 use crate::sums::print_values;
 use crate::sweeps::Readings;
@@ -130,8 +130,7 @@ pub(crate) fn house(mode: u32) {
 // A drawn table with 2 to 16 rows, narrow or wide ones.
 fn on_drawn_table(i: u32, mode: u32) -> Sums {
     let seed = wrapping_add_u32(100, i);
-    let gap = if i % 3 == 0 { 4 } else { 250 };
-    let rows = table(seed, gap);
+    let rows = table(seed, i % 3 == 0);
     let length = i % 15 * 2 + 4;
     sweep(10, mode, Readings::Near, seed, part(&rows, 0, length), 300)
 }
@@ -147,7 +146,7 @@ fn on_table(i: u32, mode: u32) -> Sums {
 
 // Tables of 2 to 16 rows, those that fall among them.
 pub(crate) fn others(mode: u32) {
-    let mut sum = no_trials();
+    let mut sum = NO_TRIALS;
     let mut i: u32 = 0;
     while i < 21 {
         sum = sum.plus(on_table(i, mode));
@@ -195,13 +194,13 @@ fn unlike(rows: &[u32], last: u32, i: u32) -> u32 {
     ((found != due) | (found > 2147483647)) as u32
 }
 
-// On the house table and on three of the fixed ones, 24 cases each.
+// On three of the fixed tables and on the house table, 24 cases each.
 pub(crate) fn level_end(i: u32) -> u32 {
     let fixed: &[u32] = &TABLES;
     match i / 24 {
-        0 => unlike(&tables::HOUSE, 3572, i),
-        1 => unlike(nth(fixed, 0), 4095, i),
-        2 => unlike(nth(fixed, 4), 4095, i),
-        _ => unlike(nth(fixed, 5), 1015, i),
+        0 => unlike(nth(fixed, 0), 4095, i),
+        1 => unlike(nth(fixed, 4), 4095, i),
+        2 => unlike(nth(fixed, 5), 1015, i),
+        _ => unlike(&tables::HOUSE, 3572, i),
     }
 }

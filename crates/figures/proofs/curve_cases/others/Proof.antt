@@ -1,16 +1,13 @@
 use Prim.Native.Nat.{_-_, _≤_}
 use borrow.Author.Needs.{needs}
-use Rattle.figures.proofs.curves.others.Statement.{statement}
-use Rattle.figures.proofs.curves.others.Tie as tie
+use Rattle.figures.proofs.curve_cases.others.Statement.{statement}
+use Rattle.figures.proofs.curve_cases.others.Tie as tie
 
 abbrev Inv-loop : tie.InvT-loop
 Inv-loop mode sum₀ i₀ sum i = i ≤ 21
 
 abbrev μ-loop : tie.MeasureT-loop
 μ-loop mode sum₀ i₀ sum i = 21 - i
-
-no-trials-requires : tie.Need-no-trials-requires Inv-loop μ-loop
-no-trials-requires c κs = search needs
 
 loop-holds : tie.Need-loop-holds Inv-loop μ-loop
 loop-holds c = search needs
@@ -48,7 +45,6 @@ others-spec =
     (tie.spec
     Inv-loop
     μ-loop
-    no-trials-requires
     loop-holds
     on-table-requires
     plus-requires
