@@ -1,11 +1,10 @@
 -- A job's words as its orders: the gates at an index, the orders before it, and what acceptance says of their sizes. Assumes nothing.
 use mathlib.Core.Path.{_≡_, refl, sym, ap, subst, _∙_}
-use mathlib.Core.Bool.{Bool, true, false, not, _||_, cond}
+use mathlib.Core.Bool.{Bool, true, false, cond}
 use mathlib.Core.List.{List, [], _∷_, map}
-use Prim.Native.Nat.{ℕ, zero, suc, _+_, _*_, _/_, _%_, _≤_, _<_}
+use Prim.Native.Nat.{ℕ, zero, suc, _+_, _*_, _/_, _≤_, _<_}
 use native.Mathlib.Omega.{arith}
-use borrow.Author.Tests.{ltb-false, eqb-true}
-use lib.Dec.{T, eqb, ltb}
+use lib.Dec.{T}
 use lib.ListN.{length, getD, take, drop, length-map, drop-of-length-le}
 use Rattle.tables.specs.Table.{rows, keeps-rules, Rules}
 use Rattle.tables.proofs.Rows.{rules}
@@ -16,10 +15,10 @@ use Rattle.circuits.specs.declared.Order.{Order}
 use Rattle.circuits.specs.Orders.{program}
 use Rattle.jobs.specs.Job.{orders, ill-sized, orders-fault, job-fault, job-gates, steps-of, job-cost}
 use Rattle.jobs.proofs.Accepted.{Good, accepted-orders, curve-ruled}
+use Rattle.jobs.proofs.Conditions as Conditions
 use Rattle.jobs.specs.Walk.{order-at}
 use Rattle.hosts.specs.Walks.{Sized}
 use Rattle.hosts.proofs.Sizes.{few-gates}
-use Rattle.hosts.proofs.Walking.{never}
 
 -- ---- orders by index
 
@@ -103,14 +102,6 @@ module _ (w : ℕ) (job table : List ℕ) where
 
 -- ---- an accepted job is small
 
-or-false : (a b : Bool) → (a || b) ≡ false → (a ≡ false) × (b ≡ false)
-or-false true b e = never (cc)
-or-false false b e = (refl, e)
-
-not-false : (b : Bool) → not b ≡ false → b ≡ true
-not-false true e = refl
-not-false false e = never (cc)
-
 module _ (job table : List ℕ) (e : job-fault 32 job table .0 ≡ 0) where
   well-sized : ill-sized job ≡ false
   unfolding job-fault
@@ -129,14 +120,11 @@ module _ (job table : List ℕ) (e : job-fault 32 job table .0 ≡ 0) where
   rules-kept o h k = rules table .0 (subst T (sym (curve-ruled 32 (keeps-rules table) (order-at job o) (order-good o h) k .1)) tt)
 
   pub sized : Sized job table
-  unfolding ill-sized
   sized =
-      let p = or-false (eqb (length job) 0 || ltb 256 (length job)) (not (eqb (length job % 4) 0)) well-sized in
-      let q = or-false (eqb (length job) 0) (ltb 256 (length job)) (p .0) in
-      let r : length job % 4 ≡ 0 = eqb-true (length job % 4) 0 (not-false (eqb (length job % 4) 0) (p .1)) in
+      let p = Conditions.sized job well-sized in
       record {
-        few-words = ltb-false 256 (length job) (q .1);
-        whole-orders = omega arith;
+        few-words = p .0;
+        whole-orders = omega (arith, p .1);
         few-gates = λ o h. few-gates (rows table) (order-at job o) (λ k. rules-kept o h k .at-most);
         short-table = λ o h k. let u = rules-kept o h k in omega (arith, u .at-most, u .whole-rows);
       }
