@@ -1,4 +1,4 @@
--- Preparation's checks, from the job's own checks and the lengths of the lists. Assumes nothing.
+-- Preparation's checks, from the script's own checks and the lengths of the lists. Assumes nothing.
 use mathlib.Core.Path.{_≡_, refl, sym, ap, _∙_}
 use mathlib.Core.Bool.{Bool, true, false, _||_, cond}
 use mathlib.Core.List.{List}
@@ -10,7 +10,8 @@ use lib.ListN.{length}
 use Rattle.gates.specs.Costs.{Cost, cost-of}
 use Rattle.jobs.specs.declared.Checked.{Checked}
 use Rattle.jobs.specs.declared.Checked.the-variants.{Accepted, Refused}
-use Rattle.jobs.specs.Job.{Fault, job-fault, job-cost, short-a, short-b, short-deals}
+use Rattle.jobs.specs.Job.{Fault, short-a, short-b, short-deals}
+use Rattle.parties.specs.Scripts.{Script, script-cost}
 use Rattle.jobs.specs.Answers.{Verdict, refusal, verdict, judged, check-job}
 use Rattle.parties.specs.Lent.{or-else, dealer-lists-fault, dealer-fault}
 
@@ -31,13 +32,13 @@ enough : (k : Cost) (A B D : List ℕ) → dealer-lists-fault k A B D ≡ 0 → 
 unfolding dealer-lists-fault short-a short-b short-deals
 enough k A B D e = enough-by k A B D _ _ _ refl refl refl e
 
--- ---- with the job's own fault
+-- ---- with the script's own fault
 
 or-none : (f : Fault) (n m : ℕ) → f .0 ≡ m → or-else f n .0 ≡ 0 → n ≡ 0
 unfolding or-else
 or-none f n zero e h = rw e at h
 or-none f n (suc m) e h = let z : f .0 ≡ 0 = rw (ne-eqb (f .0) 0 (λ y. omega arith)) at h in absurd (omega arith)
 
-pub accepted : (w : ℕ) (job table A B D : List ℕ) → dealer-fault w job table A B D .0 ≡ 0 → Enough (job-cost w job table) A B D
+pub accepted : (σ : Script) (A B D : List ℕ) → dealer-fault σ A B D .0 ≡ 0 → Enough (script-cost σ) A B D
 unfolding dealer-fault
-accepted w job table A B D e = enough (job-cost w job table) A B D (or-none (job-fault w job table) _ _ refl e)
+accepted σ A B D e = enough (script-cost σ) A B D (or-none (σ .fault) _ _ refl e)

@@ -7,6 +7,7 @@ ghost use Rattle.gates.specs.Meaning.{meaning, order-steps};
 ghost use Rattle.tables.specs.Table.{rows};
 ghost use Rattle.circuits.specs.Orders.{program};
 ghost use Rattle.jobs.specs.Job.{steps-of};
+ghost use Rattle.parties.specs.Scripts.{job-script};
 ghost use Rattle.parties.specs.Calls as Calls;
 ghost use Rattle.gates.specs.Steps.{Lane};
 ghost use Rattle.dealings.specs.Dealings.{dealer, dealing};
@@ -120,7 +121,7 @@ pub fn prepare(
 ) -> Prepared
     ensures { λ r.
         ⌜ answer r (now (deals .exit))
-        ≡ Calls.prepare 32 (now (job .entry)) (now (table .entry)) (now (a .entry)) (now (b .entry)) (now (deals .entry))
+        ≡ Calls.prepare (job-script 32 (now (job .entry)) (now (table .entry))) (now (a .entry)) (now (b .entry)) (now (deals .entry))
         (masks .l1, masks .l2) ⌝ }
 {
     let found = check_dealer(job, table, a, b, deals);

@@ -1,10 +1,9 @@
--- A turn of the walk over a job's orders, on plain values; and the lanes that it starts from. Assumes nothing.
+-- A turn of the walk over lists of gates, on plain values; and the lanes that it starts from. Assumes nothing.
 use mathlib.Core.Path.{_≡_, refl, sym, ap, subst, _∙_}
 use mathlib.Core.List.{List, [], _∷_}
-use Prim.Native.Nat.{ℕ, suc, _+_, _/_, _≤_, _<_}
+use Prim.Native.Nat.{ℕ, suc, _+_}
 use native.Mathlib.Numerals.{add-one}
-use lib.ListN.{length, drop}
-use Rattle.tables.specs.Table.{rows}
+use lib.ListN.{drop}
 use Rattle.gates.specs.declared.Gate.{Gate}
 use Rattle.gates.specs.Steps.{Lane, Step}
 use Rattle.gates.specs.Meaning.{meaning, order-steps, job-steps}
@@ -12,17 +11,12 @@ use Rattle.gates.specs.Walk.{Exchanging}
 use Rattle.gates.specs.Parties.{Pair}
 use Rattle.lookup.specs.declared.Fetched.{Fetched}
 use Rattle.lookup.specs.declared.Fetched.the-variants.{At, Past}
-use Rattle.circuits.specs.declared.Order.{Order}
 use Rattle.lookup.specs.Fetch.{fetched}
-use Rattle.circuits.specs.Orders.{program}
-use Rattle.jobs.specs.Job.{job-gates}
 use Rattle.parties.specs.Calls.{word-at}
-use Rattle.jobs.specs.Walk.{order-at}
 use Rattle.exchanges.specs.Exchanges.{cursor, host-of}
 use Rattle.hosts.specs.Walks.{reported, steps-from, Halting, Walked}
 use Rattle.hosts.proofs.Walking.{at-gate, past-gates, passes-end, stops, ends, acts-end}
 use Rattle.exchanges.proofs.Shapes.{word-by}
-use Rattle.hosts.proofs.Jobs.{gates-drop, gates-over}
 
 -- ---- a turn
 
@@ -36,37 +30,37 @@ unfolding steps-from job-steps
 first-gate w [] = refl
 first-gate w (gs ∷ os) = refl
 
-module _ (h : ℕ) (J T M D : List ℕ) (o x i a b k : ℕ) (s : Pair) where
-  pub finished : length J / 4 ≤ o
-      → reported (host-of h M D) (steps-from 32 i (drop o (job-gates 32 J T))) (cursor o x a b k) s
+module _ (h : ℕ) (M D : List ℕ) (os : List (List Gate)) (o x i a b k : ℕ) (s : Pair) where
+  pub finished : drop o os ≡ []
+      → reported (host-of h M D) (steps-from 32 i (drop o os)) (cursor o x a b k) s
       ≡ record { number = 0; index = 0; spoken = b; word = 0; state = record { m = s .0; mask = s .1; order = o; turn = x } }
   unfolding steps-from
-  finished e = rw (gates-over 32 J T o e) (ends (host-of h M D) [] o x a b k s)
+  finished e = rw e (ends (host-of h M D) [] o x a b k s)
 
-  module _ (e : o < length J / 4) (ord : Order) (eo : ord ≡ order-at J o) (j a′ k′ : ℕ) (m l : Lane) (q : Walked 32 (host-of h M D) (program 32 (rows T) ord) i a k s j a′ k′ (m, l))
-      (f : Fetched) (ef : f ≡ fetched (program 32 (rows T) ord) j) where
-    in-order : reported (host-of h M D) (steps-from 32 i (drop o (job-gates 32 J T))) (cursor o x a b k) s
-        ≡ reported (host-of h M D) (order-steps 32 (drop j (program 32 (rows T) ord)) (job-steps 32 (drop (suc o) (job-gates 32 J T)))) (cursor o x a′ b k′) (m, l)
+  module _ (gs : List Gate) (e : drop o os ≡ gs ∷ drop (suc o) os) (j a′ k′ : ℕ) (m l : Lane) (q : Walked 32 (host-of h M D) gs i a k s j a′ k′ (m, l))
+      (f : Fetched) (ef : f ≡ fetched gs j) where
+    in-order : reported (host-of h M D) (steps-from 32 i (drop o os)) (cursor o x a b k) s
+        ≡ reported (host-of h M D) (order-steps 32 (drop j gs) (job-steps 32 (drop (suc o) os))) (cursor o x a′ b k′) (m, l)
     unfolding steps-from
-    in-order = rw (gates-drop 32 J T o e, ← eo) (q .same (job-steps 32 (drop (suc o) (job-gates 32 J T))) o x b)
+    in-order = rw e (q .same (job-steps 32 (drop (suc o) os)) o x b)
 
     pub halted : (g : Gate) (v : ℕ) → f ≡ At g → v ≡ word-at (host-of h M D .say) (meaning 32 g ∷ []) (cursor 0 0 a′ b k′) (m, l)
-        → reported (host-of h M D) (steps-from 32 i (drop o (job-gates 32 J T))) (cursor o x a b k) s
+        → reported (host-of h M D) (steps-from 32 i (drop o os)) (cursor o x a b k) s
         ≡ record { number = 0; index = 0; spoken = b + 1; word = v; state = record { m = m; mask = l; order = o; turn = x } }
     halted g v eg ev =
         in-order
-        ∙ ap (λ (ss : List Step). reported (host-of h M D) ss (cursor o x a′ b k′) (m, l)) (at-gate 32 (program 32 (rows T) ord) j g (job-steps 32 (drop (suc o) (job-gates 32 J T))) (sym ef ∙ eg))
-        ∙ stops (host-of h M D) (order-steps 32 (drop (suc j) (program 32 (rows T) ord)) (job-steps 32 (drop (suc o) (job-gates 32 J T)))) o x a′ b k′ (m, l) (meaning 32 g) speaks
+        ∙ ap (λ (ss : List Step). reported (host-of h M D) ss (cursor o x a′ b k′) (m, l)) (at-gate 32 gs j g (job-steps 32 (drop (suc o) os)) (sym ef ∙ eg))
+        ∙ stops (host-of h M D) (order-steps 32 (drop (suc j) gs) (job-steps 32 (drop (suc o) os))) o x a′ b k′ (m, l) (meaning 32 g) speaks
         ∙ rw (ev, word-any h M D (meaning 32 g) o x a′ b k′ (m, l), add-one b)
       where
         speaks : Exchanging (meaning 32 g ∷ [])
         speaks = subst (λ (z : Fetched). Halting 32 z) (sym ef ∙ eg) (q .halts)
 
     pub next-order : f ≡ Past
-        → reported (host-of h M D) (steps-from 32 i (drop o (job-gates 32 J T))) (cursor o x a b k) s
-        ≡ reported (host-of h M D) (steps-from 32 0 (drop (o + 1) (job-gates 32 J T))) (cursor (o + 1) 0 a′ b k′) (m, l)
+        → reported (host-of h M D) (steps-from 32 i (drop o os)) (cursor o x a b k) s
+        ≡ reported (host-of h M D) (steps-from 32 0 (drop (o + 1) os)) (cursor (o + 1) 0 a′ b k′) (m, l)
     next-order p =
         in-order
-        ∙ ap (λ (ss : List Step). reported (host-of h M D) ss (cursor o x a′ b k′) (m, l)) (past-gates 32 (program 32 (rows T) ord) j (job-steps 32 (drop (suc o) (job-gates 32 J T))) (sym ef ∙ p))
-        ∙ passes-end (host-of h M D) (job-steps 32 (drop (suc o) (job-gates 32 J T))) o x a′ b k′ (m, l) (acts-end h M D (cursor o x a′ b k′) (m, l))
-        ∙ rw (add-one o) (ap (λ (ss : List Step). reported (host-of h M D) ss (cursor (suc o) 0 a′ b k′) (m, l)) (first-gate 32 (drop (suc o) (job-gates 32 J T))))
+        ∙ ap (λ (ss : List Step). reported (host-of h M D) ss (cursor o x a′ b k′) (m, l)) (past-gates 32 gs j (job-steps 32 (drop (suc o) os)) (sym ef ∙ p))
+        ∙ passes-end (host-of h M D) (job-steps 32 (drop (suc o) os)) o x a′ b k′ (m, l) (acts-end h M D (cursor o x a′ b k′) (m, l))
+        ∙ rw (add-one o) (ap (λ (ss : List Step). reported (host-of h M D) ss (cursor (suc o) 0 a′ b k′) (m, l)) (first-gate 32 (drop (suc o) os)))

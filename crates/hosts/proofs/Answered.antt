@@ -6,8 +6,11 @@ use native.Mathlib.Omega.{arith}
 use lib.ListN.{drop}
 use Rattle.gates.specs.Steps.{Lane}
 use Rattle.gates.specs.Parties.{Pair}
-use Rattle.jobs.specs.Job.{Fault, job-gates, steps-of}
-use Rattle.parties.specs.Lent.{party-of, lent-fault, lent-steps, lent}
+use Rattle.gates.specs.declared.Gate.{Gate}
+use Rattle.gates.specs.Meaning.{job-steps}
+use Rattle.jobs.specs.Job.{Fault}
+use Rattle.parties.specs.Scripts.{Script}
+use Rattle.parties.specs.Lent.{party-of, lent-fault, lent}
 use Rattle.parties.specs.Calls.{State, Answer, refused, fresh, unless, given, start-walk, start}
 use Rattle.exchanges.specs.Exchanges.{cursor, host-of}
 use Rattle.hosts.specs.Walks.{reported, steps-from}
@@ -37,11 +40,11 @@ module _ (n i : ℕ) (f : Fault) (e : (n, i) ≡ f) (s : State) (a : Answer) whe
 
 -- ---- starting
 
-module _ (h : ℕ) (J T M D : List ℕ) (r : Pair) (n i : ℕ) (e : (n, i) ≡ lent-fault 32 (lent h J T M D)) (m l : Lane) (em : m ≡ fresh (r .0)) (el : l ≡ fresh (r .1)) where
-  pub start-refused : (n ≡ 0 → ⊥) → refused (n, i) (record { m = m; mask = l; order = 0; turn = 0 }) ≡ start 32 (lent h J T M D) r
+module _ (h : ℕ) (σ : Script) (M D : List ℕ) (r : Pair) (n i : ℕ) (e : (n, i) ≡ lent-fault (lent h σ M D)) (m l : Lane) (em : m ≡ fresh (r .0)) (el : l ≡ fresh (r .1)) where
+  pub start-refused : (n ≡ 0 → ⊥) → refused (n, i) (record { m = m; mask = l; order = 0; turn = 0 }) ≡ start (lent h σ M D) r
   unfolding start given
   start-refused z = rw (em, el) (is-refused n i _ e _ _ z)
 
-  pub started : n ≡ 0 → reported (host-of h M D) (steps-from 32 0 (drop 0 (job-gates 32 J T))) (cursor 0 0 0 0 0) (m, l) ≡ start 32 (lent h J T M D) r
-  unfolding start start-walk reported host-of party-of lent-steps steps-of
-  started z = rw (em, el, ← first-gate 32 (job-gates 32 J T)) (is-answered n i _ e _ _ z)
+  pub started : (gates : List (List Gate)) → σ .steps ≡ job-steps 32 gates → n ≡ 0 → reported (host-of h M D) (steps-from 32 0 (drop 0 gates)) (cursor 0 0 0 0 0) (m, l) ≡ start (lent h σ M D) r
+  unfolding start start-walk reported host-of party-of
+  started gates made z = rw (em, el, ← first-gate 32 gates, ← made) (is-answered n i _ e _ _ z)

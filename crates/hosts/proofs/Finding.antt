@@ -22,8 +22,9 @@ use Rattle.lookup.specs.declared.Fetched.the-variants.{At}
 use Rattle.lookup.specs.Fetch.{fetched}
 use Rattle.places.specs.Seek.{sought}
 use Rattle.circuits.specs.Orders.{program}
-use Rattle.jobs.specs.Job.{Fault, job-fault, job-gates, job-cost, steps-of}
-use Rattle.parties.specs.Lent.{party-of, lent-fault, lent-steps, lent, passed}
+use Rattle.jobs.specs.Job.{Fault, job-fault, job-gates, job-cost}
+use Rattle.parties.specs.Scripts.{Script, job-script}
+use Rattle.parties.specs.Lent.{party-of, lent-fault, lent, passed}
 use Rattle.parties.specs.Places.{Found, nowhere, found, seek}
 use Rattle.parties.specs.Calls.{State, refused, report, unless, hear-walk, place-fault, found-of, resume, hear}
 use Rattle.jobs.specs.Walk.{order-at}
@@ -33,7 +34,7 @@ use Rattle.hosts.proofs.Walking.{inside}
 use Rattle.hosts.proofs.Seeking.{Placed, placed}
 use Rattle.hosts.proofs.Orders.{before, past-end, at-end, no-turn, no-place, at-place}
 use Rattle.hosts.proofs.Bounds.{Below, orders-below}
-use Rattle.hosts.proofs.Jobs.{gates-count, gates-at, cost-before, sized}
+use Rattle.hosts.proofs.Jobs.{gates-count, gates-drop, gates-at, cost-before, sized}
 use Rattle.parties.proofs.Faults.{no-fault}
 use Rattle.hosts.proofs.Heard.{steps-there}
 use Rattle.hosts.proofs.Answered.{is-refused, is-answered}
@@ -75,29 +76,29 @@ module _ (J T : List ℕ) (Z : Sized J T) (o x : ℕ) (e : o < length J / 4) whe
       steps : {i a k : ℕ} {gs : List Gate} (p : Placed 32 gs (job-steps 32 (drop (suc o) (job-gates 32 J T))) x 0 0 0 i a k) → i ≡ p .j → gs ≡ program 32 (rows T) (order-at J o)
           → fetched (program 32 (rows T) (order-at J o)) i ≡ At (p .gate)
           → meaning 32 (p .gate) ∷ order-steps 32 (drop (suc (p .j)) gs) (job-steps 32 (drop (suc o) (job-gates 32 J T))) ≡ steps-from 32 i (drop o (job-gates 32 J T))
-      steps p ei eg at = rw (← ei, eg) (sym (steps-there 0 J T [] [] o _ e (p .gate) at))
+      steps p ei eg at = rw (← ei, eg) (sym (steps-there 0 [] [] (job-gates 32 J T) o _ _ (gates-drop 32 J T o e) (p .gate) at))
 
   pub nowhere-here : sought 32 (program 32 (rows T) (order-at J o)) x 0 0 0 ≡ Nowhere → seek o x (job-steps 32 (job-gates 32 J T)) origin ≡ nowhere
   nowhere-here s = no-place 32 (job-gates 32 J T) o x (omega (arith, gates-count 32 J T)) (ap (λ (gs : List Gate). sought 32 gs x 0 0 0) (gates-at 32 J T o e) ∙ s)
 
 -- ---- hearing's answers
 
-module _ (h : ℕ) (J T M D : List ℕ) (s : State) (v n i : ℕ) (e : (n, i) ≡ lent-fault 32 (lent h J T M D)) where
-  pub hear-refused : (n ≡ 0 → ⊥) → refused (n, i) s ≡ hear 32 (lent h J T M D) s v
+module _ (h : ℕ) (σ : Script) (M D : List ℕ) (s : State) (v n i : ℕ) (e : (n, i) ≡ lent-fault (lent h σ M D)) where
+  pub hear-refused : (n ≡ 0 → ⊥) → refused (n, i) s ≡ hear (lent h σ M D) s v
   unfolding hear
   hear-refused z = is-refused n i _ e s _ z
 
   module _ (z : n ≡ 0) where
     -- by what is found at the state's place
-    by-place : (f : Found) → seek (s .order) (s .turn) (job-steps 32 (job-gates 32 J T)) origin ≡ f → resume (host-of h M D) s v f ≡ hear 32 (lent h J T M D) s v
-    unfolding hear found-of lent-steps steps-of host-of party-of
+    by-place : (f : Found) → seek (s .order) (s .turn) (σ .steps) origin ≡ f → resume (host-of h M D) s v f ≡ hear (lent h σ M D) s v
+    unfolding hear found-of host-of party-of
     by-place f p = ap (λ (g : Found). resume (host-of h M D) s v g) (sym p) ∙ is-answered n i _ e s _ z
 
-    pub at-nowhere : seek (s .order) (s .turn) (job-steps 32 (job-gates 32 J T)) origin ≡ nowhere → refused (8, 0) s ≡ hear 32 (lent h J T M D) s v
+    pub at-nowhere : seek (s .order) (s .turn) (σ .steps) origin ≡ nowhere → refused (8, 0) s ≡ hear (lent h σ M D) s v
     unfolding resume place-fault unless
     at-nowhere p = by-place nowhere p
 
-    at-the-end : (c : Cursor) → seek (s .order) (s .turn) (job-steps 32 (job-gates 32 J T)) origin ≡ found [] c → refused (9, 0) s ≡ hear 32 (lent h J T M D) s v
+    at-the-end : (c : Cursor) → seek (s .order) (s .turn) (σ .steps) origin ≡ found [] c → refused (9, 0) s ≡ hear (lent h σ M D) s v
     unfolding resume place-fault unless
     at-the-end c p = by-place (found [] c) p
 
@@ -110,33 +111,35 @@ module _ (h : ℕ) (J T M D : List ℕ) (s : State) (v n i : ℕ) (e : (n, i) �
     no-fault-at end ss c q = absurd q
 
     pub at-exchange : (y : Step) (ss ts : List Step) (c : Cursor) → Exchanging (y ∷ []) → ts ≡ y ∷ ss
-        → seek (s .order) (s .turn) (job-steps 32 (job-gates 32 J T)) origin ≡ found ts c
-        → report (host-of h M D) (hear-walk (host-of h M D) s v (found ts c)) ≡ hear 32 (lent h J T M D) s v
+        → seek (s .order) (s .turn) (σ .steps) origin ≡ found ts c
+        → report (host-of h M D) (hear-walk (host-of h M D) s v (found ts c)) ≡ hear (lent h σ M D) s v
     at-exchange y ss ts c q t p =
         ap (λ (z : List Step). report (host-of h M D) (hear-walk (host-of h M D) s v (found z c))) t
         ∙ no-fault-at y ss c q
         ∙ by-place (found (y ∷ ss) c) (p ∙ ap (λ (z : List Step). found z c) t)
 
-    pub past-orders : (r : ℕ) → length J / 4 ≤ s .order → r ≡ cond (eqb (s .order) (length J / 4) && eqb (s .turn) 0) 9 8 → refused (r, 0) s ≡ hear 32 (lent h J T M D) s v
-    past-orders r l p = rw p (go (eqb (s .order) (length J / 4)) (eqb (s .turn) 0) refl refl)
+    -- past the last of its lists of gates
+    pub past-orders : (gates : List (List Gate)) → σ .steps ≡ job-steps 32 gates → (c : ℕ) → length gates ≡ c
+        → (r : ℕ) → c ≤ s .order → r ≡ cond (eqb (s .order) c && eqb (s .turn) 0) 9 8 → refused (r, 0) s ≡ hear (lent h σ M D) s v
+    past-orders gates made c count r l p = rw p (go (eqb (s .order) c) (eqb (s .turn) 0) refl refl)
       where
-        count : length (job-gates 32 J T) ≡ length J / 4
-        count = gates-count 32 J T
+        here : (f : Found) → seek (s .order) (s .turn) (job-steps 32 gates) origin ≡ f → seek (s .order) (s .turn) (σ .steps) origin ≡ f
+        here f p = ap (λ (ss : List Step). seek (s .order) (s .turn) ss origin) made ∙ p
 
-        go : (a b : Bool) → eqb (s .order) (length J / 4) ≡ a → eqb (s .turn) 0 ≡ b → refused (cond (a && b) 9 8, 0) s ≡ hear 32 (lent h J T M D) s v
+        go : (a b : Bool) → eqb (s .order) c ≡ a → eqb (s .turn) 0 ≡ b → refused (cond (a && b) 9 8, 0) s ≡ hear (lent h σ M D) s v
         go true true p q =
-            let w = at-end 32 (job-gates 32 J T) (s .order) (s .turn) (eqb-true (s .order) (length J / 4) p ∙ sym count) (eqb-true (s .turn) 0 q) in
-            at-the-end (w .0) (w .1)
-        go true false p q = at-nowhere (no-turn 32 (job-gates 32 J T) (s .order) (s .turn) (eqb-true (s .order) (length J / 4) p ∙ sym count) (eqb-false (s .turn) 0 q))
+            let w = at-end 32 gates (s .order) (s .turn) (eqb-true (s .order) c p ∙ sym count) (eqb-true (s .turn) 0 q) in
+            at-the-end (w .0) (here _ (w .1))
+        go true false p q = at-nowhere (here _ (no-turn 32 gates (s .order) (s .turn) (eqb-true (s .order) c p ∙ sym count) (eqb-false (s .turn) 0 q)))
         go false b p q =
-            let ne : s .order ≡ length J / 4 → ⊥ = eqb-false (s .order) (length J / 4) p in
-            at-nowhere (past-end 32 (job-gates 32 J T) (s .order) (s .turn) (omega (arith, count, ne)))
+            let ne : s .order ≡ c → ⊥ = eqb-false (s .order) c p in
+            at-nowhere (here _ (past-end 32 gates (s .order) (s .turn) (omega (arith, count, ne))))
 
 -- ---- what the code has in hand at a product or refresh: its lists are checked, the order and its place in it are found, and the orders before are counted
 
-module _ (h : ℕ) (J T M D : List ℕ) (n i : ℕ) (e : (n, i) ≡ lent-fault 32 (lent h J T M D)) (z : n ≡ 0) where
+module _ (h : ℕ) (J T M D : List ℕ) (n i : ℕ) (e : (n, i) ≡ lent-fault (lent h (job-script 32 J T) M D)) (z : n ≡ 0) where
   pub accepted : job-fault 32 J T .0 ≡ 0
-  accepted = no-fault h J T M D (ap (λ (f : Fault). f .0) (sym e) ∙ z)
+  accepted = no-fault h (job-script 32 J T) M D (ap (λ (f : Fault). f .0) (sym e) ∙ z)
 
   module _ (o x : ℕ) (l : o < length J / 4) (ord : Order) (eo : ord ≡ order-at J o) (f : Sought) (ef : f ≡ sought 32 (program 32 (rows T) ord) x 0 0 0) where
     sought-there : f ≡ sought 32 (program 32 (rows T) (order-at J o)) x 0 0 0

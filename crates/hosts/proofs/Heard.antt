@@ -1,10 +1,10 @@
 -- Hearing at a product or refresh: the lanes, the cursor behind it, and the walk from there. Assumes nothing.
 use mathlib.Core.Path.{_≡_, refl, sym, ap, subst, _∙_}
 use mathlib.Core.List.{List, [], _∷_}
-use Prim.Native.Nat.{ℕ, suc, _+_, _/_, _≤_, _<_}
+use Prim.Native.Nat.{ℕ, suc, _+_}
 use native.Mathlib.Numerals.{add-one}
 use native.Mathlib.Omega.{arith}
-use lib.ListN.{length, drop}
+use lib.ListN.{drop}
 use Rattle.tables.specs.Table.{rows}
 use Rattle.gates.specs.declared.Gate.{Gate}
 use Rattle.gates.specs.declared.Used.{Used}
@@ -19,7 +19,6 @@ use Rattle.lookup.specs.declared.Fetched.{Fetched}
 use Rattle.lookup.specs.declared.Fetched.the-variants.{At, Past}
 use Rattle.lookup.specs.Fetch.{fetched}
 use Rattle.circuits.specs.Orders.{program}
-use Rattle.jobs.specs.Job.{job-gates}
 use Rattle.parties.specs.Lent.{Party}
 use Rattle.parties.specs.Places.{found}
 use Rattle.parties.specs.Calls.{State, report, hear-walk}
@@ -29,7 +28,6 @@ use Rattle.hosts.specs.Walks.{reported, steps-from, Standing}
 use Rattle.hosts.proofs.Walking.{at-gate}
 use Rattle.exchanges.proofs.Shapes.{heard-as}
 use Rattle.hosts.proofs.Advancing.{word-any}
-use Rattle.hosts.proofs.Jobs.{gates-drop}
 
 -- ---- the cursor behind a product or refresh
 
@@ -57,30 +55,30 @@ walk-on P s v (deal d f) ss c h = absurd h
 walk-on P s v (exchange d e) ss c h = refl
 walk-on P s v end ss c h = absurd h
 
-module _ (h : ℕ) (J T M D : List ℕ) (o i : ℕ) (e : o < length J / 4) (g : Gate) (eg : fetched (program 32 (rows T) (order-at J o)) i ≡ At g) where
+module _ (h : ℕ) (M D : List ℕ) (os : List (List Gate)) (o i : ℕ) (gs : List Gate) (e : drop o os ≡ gs ∷ drop (suc o) os) (g : Gate) (eg : fetched gs i ≡ At g) where
   -- the steps from the gate g on
-  pub steps-there : steps-from 32 i (drop o (job-gates 32 J T)) ≡ meaning 32 g ∷ order-steps 32 (drop (suc i) (program 32 (rows T) (order-at J o))) (job-steps 32 (drop (suc o) (job-gates 32 J T)))
+  pub steps-there : steps-from 32 i (drop o os) ≡ meaning 32 g ∷ order-steps 32 (drop (suc i) gs) (job-steps 32 (drop (suc o) os))
   unfolding steps-from
-  steps-there = rw (gates-drop 32 J T o e) (at-gate 32 (program 32 (rows T) (order-at J o)) i g (job-steps 32 (drop (suc o) (job-gates 32 J T))) eg)
+  steps-there = rw e (at-gate 32 gs i g (job-steps 32 (drop (suc o) os)) eg)
 
-  pub steps-at : steps-from 32 i (drop o (job-gates 32 J T)) ≡ meaning 32 g ∷ steps-from 32 (i + 1) (drop o (job-gates 32 J T))
+  pub steps-at : steps-from 32 i (drop o os) ≡ meaning 32 g ∷ steps-from 32 (i + 1) (drop o os)
   unfolding steps-from
-  steps-at = rw (gates-drop 32 J T o e, add-one i) (at-gate 32 (program 32 (rows T) (order-at J o)) i g (job-steps 32 (drop (suc o) (job-gates 32 J T))) eg)
+  steps-at = rw (e, add-one i) (at-gate 32 gs i g (job-steps 32 (drop (suc o) os)) eg)
 
   pub resumed : Exchanging (meaning 32 g ∷ []) → (s : State) (v a b k i′ a′ k′ : ℕ) (m l : Lane) (u : Used) → u ≡ used-at (meaning 32 g)
       → (m, l) ≡ heard-at (host-of h M D) (meaning 32 g) (cursor 0 0 a b k) (s .m, s .mask) v
       → i′ ≡ i + 1 → a′ ≡ a + u .a → k′ ≡ k + u .deals
-      → reported (host-of h M D) (steps-from 32 i′ (drop o (job-gates 32 J T))) (cursor o (s .turn + 1) a′ (b + 1) k′) (m, l)
-      ≡ report (host-of h M D) (hear-walk (host-of h M D) s v (found (steps-from 32 i (drop o (job-gates 32 J T))) (cursor o (s .turn) a b k)))
+      → reported (host-of h M D) (steps-from 32 i′ (drop o os)) (cursor o (s .turn + 1) a′ (b + 1) k′) (m, l)
+      ≡ report (host-of h M D) (hear-walk (host-of h M D) s v (found (steps-from 32 i (drop o os)) (cursor o (s .turn) a b k)))
   resumed w s v a b k i′ a′ k′ m l u eu em ei ea ek =
       let y = meaning 32 g in
       let c : past y (cursor o (s .turn) a b k) ≡ cursor o (s .turn + 1) a′ (b + 1) k′ = rw (add-one (s .turn), add-one b, ea, ek, behind-a y u eu (cursor 0 0 a 0 k), behind-k y u eu (cursor 0 0 a 0 k)) (past-exchange y w o (s .turn) a b k) in
-      ap (λ (n : ℕ). reported (host-of h M D) (steps-from 32 n (drop o (job-gates 32 J T))) (cursor o (s .turn + 1) a′ (b + 1) k′) (m, l)) ei
+      ap (λ (n : ℕ). reported (host-of h M D) (steps-from 32 n (drop o os)) (cursor o (s .turn + 1) a′ (b + 1) k′) (m, l)) ei
       ∙ sym
       (ap (λ (ss : List Step). report (host-of h M D) (hear-walk (host-of h M D) s v (found ss (cursor o (s .turn) a b k)))) steps-at
-      ∙ walk-on (host-of h M D) s v y (steps-from 32 (i + 1) (drop o (job-gates 32 J T))) (cursor o (s .turn) a b k) w
-      ∙ ap (λ (z : Cursor). reported (host-of h M D) (steps-from 32 (i + 1) (drop o (job-gates 32 J T))) z (heard-at (host-of h M D) y (cursor o (s .turn) a b k) (s .m, s .mask) v)) c
-      ∙ ap (λ (z : Pair). reported (host-of h M D) (steps-from 32 (i + 1) (drop o (job-gates 32 J T))) (cursor o (s .turn + 1) a′ (b + 1) k′) z) (heard-any h M D y o (s .turn) a b k (s .m, s .mask) v ∙ sym em))
+      ∙ walk-on (host-of h M D) s v y (steps-from 32 (i + 1) (drop o os)) (cursor o (s .turn) a b k) w
+      ∙ ap (λ (z : Cursor). reported (host-of h M D) (steps-from 32 (i + 1) (drop o os)) z (heard-at (host-of h M D) y (cursor o (s .turn) a b k) (s .m, s .mask) v)) c
+      ∙ ap (λ (z : Pair). reported (host-of h M D) (steps-from 32 (i + 1) (drop o os)) (cursor o (s .turn + 1) a′ (b + 1) k′) z) (heard-any h M D y o (s .turn) a b k (s .m, s .mask) v ∙ sym em))
 
 -- the gate that the code fetched is the one where the state stands
 module _ (J T : List ℕ) (o i : ℕ) (S : Standing J T o i) (ord : Order) (eo : ord ≡ order-at J o) (f : Fetched) (ef : f ≡ fetched (program 32 (rows T) ord) i) where

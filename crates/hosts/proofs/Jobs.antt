@@ -89,6 +89,10 @@ module _ (w : ℕ) (job table : List ℕ) where
         ∙ ap (map (program w (rows table))) (orders-drop job o h)
         ∙ ap (λ (z : List (List Gate)). program w (rows table) (order-at job o) ∷ z) (sym (drop-map (program w (rows table)) (suc o) (orders job)))
 
+    -- the order at o as the code has it
+    pub order-there : o < length job / 4 → (ord : Order) → ord ≡ order-at job o → drop o (job-gates w job table) ≡ program w (rows table) ord ∷ drop (suc o) (job-gates w job table)
+    order-there h ord e = rw e (gates-drop h)
+
     pub gates-at : o < length job / 4 → getD (job-gates w job table) o [] ≡ program w (rows table) (order-at job o)
     gates-at h = head-of (job-gates w job table) o _ [] _ (gates-drop h)
 

@@ -7,6 +7,7 @@ ghost use lib.ListN.{drop};
 ghost use Rattle.jobs.specs.Job.{job-gates};
 ghost use Rattle.parties.specs.Places.{found};
 ghost use Rattle.parties.specs.Calls as Calls;
+ghost use Rattle.parties.specs.Scripts.{job-script};
 ghost use Rattle.parties.specs.Lent.{lent};
 ghost use Rattle.hosts.specs.Answers.{answer-of, state-of};
 ghost use Rattle.exchanges.specs.Exchanges.{cursor, host-of};
@@ -100,7 +101,7 @@ impl State {
     ) -> Answer
         ensures { λ r.
             ⌜ answer-of r
-            ≡ Calls.hear 32 (lent host (now (job .entry)) (now (table .entry)) (now (masks .entry)) (now (deals .entry)))
+            ≡ Calls.hear (lent host (job-script 32 (now (job .entry)) (now (table .entry))) (now (masks .entry)) (now (deals .entry)))
             (state-of self) heard ⌝ }
     {
         let s = self;

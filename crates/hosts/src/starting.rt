@@ -1,6 +1,7 @@
 // Starting host 1 or 2: from its registers to the first product or refresh, or to the end.
 ghost use mathlib.Core.Path.{_≡_};
 ghost use Rattle.parties.specs.Calls as Calls;
+ghost use Rattle.parties.specs.Scripts.{job-script};
 ghost use Rattle.parties.specs.Lent.{lent};
 ghost use Rattle.hosts.specs.Answers.{answer-of, lanes-of};
 use crate::Answer;
@@ -23,7 +24,7 @@ pub fn start(
 ) -> Answer
     ensures { λ r.
         ⌜ answer-of r
-        ≡ Calls.start 32 (lent host (now (job .entry)) (now (table .entry)) (now (masks .entry)) (now (deals .entry)))
+        ≡ Calls.start (lent host (job-script 32 (now (job .entry)) (now (table .entry))) (now (masks .entry)) (now (deals .entry)))
         (lanes-of registers) ⌝ }
 {
     let m = registers.m;

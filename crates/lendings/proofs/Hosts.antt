@@ -12,6 +12,7 @@ use Rattle.gates.specs.Costs.{Cost, cost-of}
 use Rattle.jobs.specs.Job.{Fault, job-fault, job-cost, short-a, short-b, short-deals}
 use Rattle.jobs.specs.Walk.{counted}
 use Rattle.jobs.specs.Answers.{check-job}
+use Rattle.parties.specs.Scripts.{job-script}
 use Rattle.parties.specs.Lent.{lists, lent, or-else, lists-fault, lent-fault, passed, dealer-lists-fault}
 use Rattle.parties.proofs.Faults.{accepted-tells, or-accepted, no-host, none-passed}
 use Rattle.lendings.specs.declared.lending.Lending.{Lending}
@@ -39,15 +40,15 @@ module _ (k : Cost) (M D : List ℕ) where
   lists-2 = rw (le-ltb (length M) 0 (omega arith))
 
 pub of-host : (h : ℕ) (J T M D : List ℕ) (f : Fault) → 1 ≤ h → h < 3 → f ≡ or-else (job-fault 32 J T) (dealer-lists-fault (needs-of h (job-cost 32 J T)) M M D)
-    → f ≡ lent-fault 32 (lent h J T M D)
-unfolding lent-fault lists-fault
+    → f ≡ lent-fault (lent h (job-script 32 J T) M D)
+unfolding lent-fault lists-fault job-cost
 of-host zero J T M D f l u e = absurd (omega arith)
 of-host (suc zero) J T M D f l u e = e ∙ ap (or-else (job-fault 32 J T)) (lists-1 (job-cost 32 J T) M D)
 of-host (suc (suc zero)) J T M D f l u e = e ∙ ap (or-else (job-fault 32 J T)) (lists-2 (job-cost 32 J T) M D)
 of-host (suc (suc (suc h))) J T M D f l u e = absurd (omega arith)
 
-pub other-host : (h : ℕ) (J T M D : List ℕ) → (1 ≤ h → h < 3 → ⊥) → (1, 0) ≡ lent-fault 32 (lent h J T M D)
-other-host h J T M D n = no-host h J T M D (λ (z : h ≡ 1). n (omega arith) (omega arith)) (λ (z : h ≡ 2). n (omega arith) (omega arith))
+pub other-host : (h : ℕ) (J T M D : List ℕ) → (1 ≤ h → h < 3 → ⊥) → (1, 0) ≡ lent-fault (lent h (job-script 32 J T) M D)
+other-host h J T M D n = no-host h (job-script 32 J T) M D (λ (z : h ≡ 1). n (omega arith) (omega arith)) (λ (z : h ≡ 2). n (omega arith) (omega arith))
 
 -- a call that is turned down has no counts
 pub none-counted : (r : Lending) (n i : ℕ) (k : Cost) → (fault-of r ≡ (n, i)) × (counted (r .counts) ≡ cost-of 0 0 0 0) → (n ≡ 0 → ⊥) → counted (r .counts) ≡ passed (r .number) k

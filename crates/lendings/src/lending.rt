@@ -5,6 +5,7 @@ ghost use lib.ListN.{take};
 ghost use Rattle.gates.specs.Costs.{cost-of};
 ghost use Rattle.jobs.specs.Job.{job-fault, job-cost};
 ghost use Rattle.jobs.specs.Walk.{counted};
+ghost use Rattle.parties.specs.Scripts.{job-script};
 ghost use Rattle.parties.specs.Lent.{lent, or-else, lent-fault, passed, dealer-lists-fault, dealer-fault};
 ghost use Rattle.lendings.specs.Faults.{fault-of, needs-of};
 use checks::survey;
@@ -116,7 +117,7 @@ pub fn check_lent(
 ) -> Lending
     ensures fault { λ r.
         ⌜ fault-of r
-        ≡ lent-fault 32 (lent host (now (job .entry)) (now (table .entry)) (now (masks .entry)) (now (deals .entry))) ⌝ }
+        ≡ lent-fault (lent host (job-script 32 (now (job .entry)) (now (table .entry))) (now (masks .entry)) (now (deals .entry))) ⌝ }
     ensures counts { λ r.
         ⌜ counted (r .counts)
         ≡ passed (r .number) (job-cost 32 (take (place * 4) (now (job .entry))) (now (table .entry))) ⌝ }
@@ -131,7 +132,7 @@ pub fn check_lent(
 pub fn check_dealer(job: &[u32], table: &[u32], a: &[u32], b: &[u32], deals: &[u32]) -> Lending
     ensures fault { λ r.
         ⌜ fault-of r
-        ≡ dealer-fault 32 (now (job .entry)) (now (table .entry)) (now (a .entry)) (now (b .entry)) (now (deals .entry)) ⌝ }
+        ≡ dealer-fault (job-script 32 (now (job .entry)) (now (table .entry))) (now (a .entry)) (now (b .entry)) (now (deals .entry)) ⌝ }
     ensures counts { λ r. ⌜ counted (r .counts) ≡ passed (r .number) (job-cost 32 (now (job .entry)) (now (table .entry))) ⌝ }
 {
     check_job(0, job, table, a, b, deals, job.len())

@@ -10,6 +10,7 @@ use lib.ListN.{length, take}
 use Rattle.gates.specs.Costs.{Cost, cost-of}
 use Rattle.jobs.specs.Job.{Fault, job-fault, job-cost, short-a, short-b, short-deals}
 use Rattle.jobs.specs.Answers.{Verdict, refusal, judged, check-job, counts-before}
+use Rattle.parties.specs.Scripts.{Script, script-cost}
 use Rattle.parties.specs.Lent.{lent, or-else, lists-fault, lent-fault, dealer-lists-fault, passed}
 
 -- ---- from the job's verdict, whatever number the lists have
@@ -78,13 +79,13 @@ module _ (n m i j : ℕ) (A B D : List ℕ) where
 
 -- ---- the host
 
-module _ (h : ℕ) (J T M D : List ℕ) where
-  pub no-host : (h ≡ 1 → ⊥) → (h ≡ 2 → ⊥) → (1, 0) ≡ lent-fault 32 (lent h J T M D)
+module _ (h : ℕ) (σ : Script) (M D : List ℕ) where
+  pub no-host : (h ≡ 1 → ⊥) → (h ≡ 2 → ⊥) → (1, 0) ≡ lent-fault (lent h σ M D)
   unfolding lent-fault
   no-host p q = rw (ne-eqb h 1 p, ne-eqb h 2 q)
 
   -- none is left where the number is 0
-  pub no-fault : lent-fault 32 (lent h J T M D) .0 ≡ 0 → job-fault 32 J T .0 ≡ 0
+  pub no-fault : lent-fault (lent h σ M D) .0 ≡ 0 → σ .fault .0 ≡ 0
   unfolding lent-fault or-else
   no-fault e = go (eqb h 1 || eqb h 2) e
     where
@@ -92,6 +93,6 @@ module _ (h : ℕ) (J T M D : List ℕ) where
       none zero j n p = refl
       none (suc m) j n p = rw (ne-eqb (suc m) 0 (λ z. omega arith)) at p
 
-      go : (t : Bool) → cond t (or-else (job-fault 32 J T) (lists-fault (job-cost 32 J T) (lent h J T M D))) (1, 0) .0 ≡ 0 → job-fault 32 J T .0 ≡ 0
-      go true p = none (job-fault 32 J T .0) (job-fault 32 J T .1) _ p
+      go : (t : Bool) → cond t (or-else (σ .fault) (lists-fault (script-cost σ) (lent h σ M D))) (1, 0) .0 ≡ 0 → σ .fault .0 ≡ 0
+      go true p = none (σ .fault .0) (σ .fault .1) _ p
       go false p = absurd (omega arith)

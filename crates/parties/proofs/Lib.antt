@@ -1,2 +1,4 @@
 pub mod Lists
+pub mod Scripts
+pub mod Behind
 pub mod Faults

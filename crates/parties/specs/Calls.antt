@@ -5,9 +5,10 @@ use lib.ListN.{take, drop, replicate, length}
 use Rattle.gates.specs.Steps.{Lane, Exchange, Step, local, deal, exchange, end, Cursor, origin, past}
 use Rattle.gates.specs.Walk.{Conf, walk, whole}
 use Rattle.gates.specs.Parties.{Pair, act0, deals}
-use Rattle.jobs.specs.Job.{Fault, steps-of}
+use Rattle.jobs.specs.Job.{Fault}
 use Rattle.parties.specs.Places.{Found, nowhere, found, seek}
-use Rattle.parties.specs.Lent.{Lent, Party, party-of, lent-fault, dealer-fault, lent-steps}
+use Rattle.parties.specs.Scripts.{Script}
+use Rattle.parties.specs.Lent.{Lent, Party, party-of, lent-fault, dealer-fault}
 
 -- "A host's state is sixteen registers, the words kept between gates, and a place": the lanes m and mask, registers in slots 0 to 15 and temporaries behind
 pub record State : Type 0 where
@@ -28,7 +29,7 @@ pub record Answer : Type 0 where
 abbrev pub refused : Fault → State → Answer
 refused f s = record { number = f .0; index = f .1; spoken = 0; word = 0; state = s }
 
--- sixteen registers, with eight temporaries that are 0
+-- what is given, for a job sixteen registers, with eight slots behind it that are 0
 unfoldable pub fresh : Lane → Lane
 fresh r = r ++ replicate 8 0
 
@@ -73,15 +74,15 @@ unless (suc n) f s a = refused f s
 
 -- ---- starting: "runs to its first product or refresh and gives the word it speaks"
 
-unfoldable pub start-walk : ℕ → Lent → Pair → Conf Pair
-start-walk w L r = walk (party-of L .act) (lent-steps w L) origin (fresh2 r) []
+unfoldable pub start-walk : Lent → Pair → Conf Pair
+start-walk L r = walk (party-of L .act) (L .script .steps) origin (fresh2 r) []
 
 -- "Refused starting gives back the registers it was given"
 unfoldable pub given : Pair → State
 given r = record { m = fresh (r .0); mask = fresh (r .1); order = 0; turn = 0 }
 
-unfoldable pub start : ℕ → Lent → (registers : Pair) → Answer
-start w L r = unless (lent-fault w L .0) (lent-fault w L) (given r) (report (party-of L) (start-walk w L r))
+unfoldable pub start : Lent → (registers : Pair) → Answer
+start L r = unless (lent-fault L .0) (lent-fault L) (given r) (report (party-of L) (start-walk L r))
 
 -- ---- hearing: "takes the other's word and runs to the next, or to the end, where the word given is 0"
 
@@ -103,14 +104,14 @@ place-fault (found (deal d f ∷ ss) c) = 8
 place-fault (found (exchange d e ∷ ss) c) = 0
 place-fault (found (end ∷ ss) c) = 8
 
-unfoldable pub found-of : ℕ → Lent → State → Found
-found-of w L s = seek (s .order) (s .turn) (lent-steps w L) origin
+unfoldable pub found-of : Lent → State → Found
+found-of L s = seek (s .order) (s .turn) (L .script .steps) origin
 
 unfoldable pub resume : Party → State → ℕ → Found → Answer
 resume P s v f = unless (place-fault f) (place-fault f, 0) s (report P (hear-walk P s v f))
 
-unfoldable pub hear : ℕ → Lent → State → (heard : ℕ) → Answer
-hear w L s v = unless (lent-fault w L .0) (lent-fault w L) s (resume (party-of L) s v (found-of w L s))
+unfoldable pub hear : Lent → State → (heard : ℕ) → Answer
+hear L s v = unless (lent-fault L .0) (lent-fault L) s (resume (party-of L) s v (found-of L s))
 
 -- ---- preparation: "writes exactly its deals, in gate order, and gives back its masks of all registers; later words of its buffer keep their content"
 
@@ -121,22 +122,22 @@ pub record Prepared : Type 0 where
   pub masks : Pair
   pub buffer : List ℕ
 
-unfoldable pub prepare-walk : (w : ℕ) (job table A B : List ℕ) → Pair → Conf Pair
-prepare-walk w job table A B r = whole (act0 A B) (steps-of w job table) origin (fresh2 r) []
+unfoldable pub prepare-walk : Script → (A B : List ℕ) → Pair → Conf Pair
+prepare-walk σ A B r = whole (act0 A B) (σ .steps) origin (fresh2 r) []
 
-unfoldable pub job-deals : (w : ℕ) (job table A B : List ℕ) → Pair → List ℕ
-job-deals w job table A B r = deals A B (steps-of w job table) origin (fresh2 r)
+unfoldable pub script-deals : Script → (A B : List ℕ) → Pair → List ℕ
+script-deals σ A B r = deals A B (σ .steps) origin (fresh2 r)
 
-unfoldable pub prepared : ℕ → Fault → (w : ℕ) (job table A B buffer : List ℕ) → Pair → Prepared
-prepared zero f w job table A B buf r =
+unfoldable pub prepared : ℕ → Fault → Script → (A B buffer : List ℕ) → Pair → Prepared
+prepared zero f σ A B buf r =
     record {
       number = 0;
       index = 0;
-      deals = length (job-deals w job table A B r);
-      masks = (take 16 (prepare-walk w job table A B r .state .0), take 16 (prepare-walk w job table A B r .state .1));
-      buffer = job-deals w job table A B r ++ drop (length (job-deals w job table A B r)) buf;
+      deals = length (script-deals σ A B r);
+      masks = (take (σ .slots) (prepare-walk σ A B r .state .0), take (σ .slots) (prepare-walk σ A B r .state .1));
+      buffer = script-deals σ A B r ++ drop (length (script-deals σ A B r)) buf;
     }
-prepared (suc n) f w job table A B buf r = record { number = f .0; index = f .1; deals = 0; masks = r; buffer = buf }
+prepared (suc n) f σ A B buf r = record { number = f .0; index = f .1; deals = 0; masks = r; buffer = buf }
 
-unfoldable pub prepare : (w : ℕ) (job table A B buffer : List ℕ) (masks : Pair) → Prepared
-prepare w job table A B buf r = prepared (dealer-fault w job table A B buf .0) (dealer-fault w job table A B buf) w job table A B buf r
+unfoldable pub prepare : Script → (A B buffer : List ℕ) (masks : Pair) → Prepared
+prepare σ A B buf r = prepared (dealer-fault σ A B buf .0) (dealer-fault σ A B buf) σ A B buf r

@@ -27,18 +27,18 @@ use Rattle.circuits.specs.Costs.{program-cost}
 use Rattle.circuits.proofs.Costs.{sum-cost, curve-exact-cost, curve-one-bit-cost}
 use Rattle.circuits.proofs.Calibration.{Promised, ranged, exact-curve, one-bit-curve}
 use Rattle.jobs.specs.Job.{orders, ill-sized, unknown-kind, unknown-register, two-sources, ill-fourths, ill-fourth, order-fault, fault-at, orders-fault, job-fault, job-gates, steps-of, job-cost}
+use Rattle.parties.specs.Scripts.{job-script, script-cost}
 use Rattle.parties.specs.Lent.{or-else, dealer-lists-fault, dealer-fault}
 use Rattle.parties.specs.Calls.{fresh}
 use Rattle.parties.proofs.Faults.{long-enough}
-use Rattle.runs.specs.Runs.{Setting, opened-slot}
-use Rattle.runs.specs.Orders.{Words, slot, first, before-order, after-order, order-at, first-counts, counts-before, refresh-mask}
+use Rattle.runs.specs.Runs.{Setting, staged, opened-slot}
+use Rattle.runs.specs.Orders.{Words, slot, first, before-order, after-order, order-of, first-counts, used-before, refresh-mask}
 use Rattle.runs.proofs.Opened.{order-leaves}
 use Rattle.masks.specs.Masks.{multiples}
 use Rattle.masks.proofs.Multiples.{multiples-length, multiples-at, multiples-fit}
 use Rattle.gates.specs.Parties.{Triple}
 use Rattle.trio.specs.Together.{Trio, left}
 use Rattle.trio.proofs.Positions.{prepare-number, lent-of, given-of, P}
-use Rattle.trio.proofs.Turns.{setting}
 use Rattle.trio.proofs.Leaves.{left-one, register-opens, words-spoken, deals-dealt}
 use Rattle.rehearsals.specs.Rehearsal as Spec
 use Rattle.rehearsals.specs.Rehearsal.{first-a, first-b, refresh-L}
@@ -80,6 +80,10 @@ unfolding job-cost steps-of job-steps job-gates orders program kinds curve-progr
 job-counts zero = curve-exact-cost 0 0 (rows house) ∙ ap (λ (n : ℕ). cost-of (14 * n + 16) (24 * n + 24) (26 * n + 28) (12 * n + 12)) eight
 job-counts (suc m) = curve-one-bit-cost 0 0 (rows house) ∙ ap (λ (n : ℕ). cost-of (14 * n + 3) (24 * n + 4) (26 * n + 5) (12 * n + 2)) eight
 
+script-counts : (mode : ℕ) → script-cost (job-script 32 (job (mode-word mode)) house) ≡ counts mode
+unfolding job-cost
+script-counts mode = job-counts mode
+
 is-true : (b : Bool) → T b → b ≡ true
 is-true true t = refl
 is-true false t = absurd t
@@ -113,31 +117,42 @@ lists-long (suc n) = long-enough 115 196 213 98 _ _ _ (omega (arith, multiples-l
 
 module _ (mode m l1 l2 : ℕ) where
   abbrev S : Setting
-  S = setting (loan mode) (in-first m, in-first l1, in-first l2) (record { m = refl; l1 = refl; l2 = refl })
+  S =
+      record {
+        job = job (mode-word mode);
+        table = house;
+        A = multiples first-a 2 236;
+        B = multiples first-b 2 108;
+        rm = in-first m;
+        r1 = in-first l1;
+        r2 = in-first l2;
+        rm-sixteen = refl;
+        r1-sixteen = refl;
+        r2-sixteen = refl;
+      }
 
-  accepted : P 32 S buffer .number ≡ 0
-  unfolding dealer-fault or-else loan
+  accepted : P (staged 32 S) buffer .number ≡ 0
+  unfolding dealer-fault or-else
   accepted =
-      sym (prepare-number 32 (S .job) (S .table) (S .A) (S .B) buffer (S .r1, S .r2))
-      ∙ rw (job-sound mode, job-counts mode, ← lists-long mode)
+      sym (prepare-number (staged 32 S .script) (S .A) (S .B) buffer (S .r1, S .r2))
+      ∙ rw (job-sound mode, script-counts mode, ← lists-long mode)
 
   -- ---- the counts
 
   pub deals-are : trial mode m l1 l2 .deals ≡ Spec.deals mode
   unfolding trial loan
-  deals-are = deals-dealt S buffer accepted ∙ ap (λ (k : Cost). k .deals) (job-counts mode) ∙ deals-counted mode
+  deals-are = deals-dealt (staged 32 S) buffer accepted ∙ ap (λ (k : Cost). k .deals) (script-counts mode) ∙ deals-counted mode
 
   pub words-are : trial mode m l1 l2 .one .spoken + trial mode m l1 l2 .two .spoken ≡ Spec.words mode
   unfolding trial loan
   words-are =
-      let k = words-spoken 32 S buffer accepted in
-      ap₂ _+_ (k .0 ∙ ap (λ (k : Cost). k .b) (job-counts mode)) (k .1 ∙ ap (λ (k : Cost). k .b) (job-counts mode)) ∙ words-counted mode
+      let k = words-spoken (staged 32 S) buffer accepted in
+      ap₂ _+_ (k .0 ∙ ap (λ (k : Cost). k .b) (script-counts mode)) (k .1 ∙ ap (λ (k : Cost). k .b) (script-counts mode)) ∙ words-counted mode
 
   -- ---- the value
 
   module _ (hm : m < 2 ^ 32) (h1 : l1 < 2 ^ 32) (h2 : l2 < 2 ^ 32) where
-    fitting : Words 32 S
-    unfolding loan
+    fitting : Words 32 (staged 32 S)
     fitting =
         record {
           A = multiples-fit first-a 2 236;
@@ -151,39 +166,39 @@ module _ (mode m l1 l2 : ℕ) where
     abbrev x : ℕ
     x = value (numbers 32) (record { m = m; l1 = l1; l2 = l2 })
 
-    source-is : value (numbers 32) (slot (before-order 32 S 0) (order-at S 0 .source)) ≡ x
-    unfolding before-order order-at orders fresh loan
+    source-is : value (numbers 32) (slot (before-order (staged 32 S) 0) (order-of S 0 .source)) ≡ x
+    unfolding before-order order-of orders fresh
     source-is = refl
 
-    place-a : counts-before 32 S 0 .a + program-cost 32 (sum-program 32 (order-at S 0 .source) (rows (S .table))) .a ≡ 208
-    unfolding counts-before first-counts order-at orders loan
+    place-a : used-before 32 S 0 .a + program-cost 32 (sum-program 32 (order-of S 0 .source) (rows (S .table))) .a ≡ 208
+    unfolding used-before first-counts order-of orders
     place-a = zero-add _ ∙ ap (λ (k : Cost). k .a) (sum-cost 0 (rows house)) ∙ ap (λ (n : ℕ). 26 * n) eight
 
-    place-b : counts-before 32 S 0 .b + program-cost 32 (sum-program 32 (order-at S 0 .source) (rows (S .table))) .b ≡ 96
-    unfolding counts-before first-counts order-at orders loan
+    place-b : used-before 32 S 0 .b + program-cost 32 (sum-program 32 (order-of S 0 .source) (rows (S .table))) .b ≡ 96
+    unfolding used-before first-counts order-of orders
     place-b = zero-add _ ∙ ap (λ (k : Cost). k .b) (sum-cost 0 (rows house)) ∙ ap (λ (n : ℕ). 12 * n) eight
 
     mask-is : refresh-mask 32 S 0 ≡ refresh-L
-    unfolding refresh-mask refresh-L loan
+    unfolding refresh-mask refresh-L
     mask-is =
         ap₂ (add 32) (ap (at (multiples first-a 2 236)) place-a ∙ multiples-at first-a 2 236 208 (lit< tt))
         (ap (at (multiples first-b 2 108)) place-b ∙ multiples-at first-b 2 108 96 (lit< tt))
 
-    left-is : left 32 (lent-of S) (given-of S) ≡ after-order 32 S 0
-    unfolding job-gates orders loan
-    left-is = left-one 32 S (program 32 (rows house) (record { kind = 10; target = 0; source = 0; fourth = mode-word mode })) refl
+    left-is : left (lent-of (staged 32 S)) (given-of (staged 32 S)) ≡ after-order (staged 32 S) 0
+    unfolding steps-of job-gates orders
+    left-is = left-one 32 (staged 32 S) (program 32 (rows house) (record { kind = 10; target = 0; source = 0; fourth = mode-word mode })) refl
 
-    leaves : value (numbers 32) (slot (after-order 32 S 0) 0) ≡ curve-value 32 (rows house) (mode-word mode) x refresh-L
-    unfolding order-at orders loan order-value values
+    leaves : value (numbers 32) (slot (after-order (staged 32 S) 0) 0) ≡ curve-value 32 (rows house) (mode-word mode) x refresh-L
+    unfolding order-of orders order-value values
     leaves =
         order-leaves 32 S fitting (lit≤ tt) (lit< tt) (job-sound mode) 0 (lit< tt)
         ∙ ap₂ (λ (v R : ℕ). curve-value 32 (rows house) (mode-word mode) v R) source-is mask-is
 
     opens-curve : opens-first (trial mode m l1 l2)
         ≡ (0, signed 32 (curve-value 32 (rows house) (mode-word mode) x refresh-L))
-    unfolding trial
+    unfolding trial loan
     opens-curve =
-        register-opens 32 S buffer accepted 0 (lit< tt)
+        register-opens (staged 32 S) buffer accepted 32 0 (lit< tt)
         ∙ ap {B = ℕ × ℤ} (λ (v : ℕ). (0, signed 32 v)) (ap (λ (j : Triple). value (numbers 32) (slot j 0)) left-is ∙ leaves)
 
     curve-is : (n : ℕ) (z : ℤ) → signed 32 x ≡ z → T (in-range 32 z) → signed 32 (curve-value 32 (rows house) (mode-word n) x refresh-L) ≡ Spec.value n z

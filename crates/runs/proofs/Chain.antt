@@ -16,10 +16,9 @@ use Rattle.circuits.specs.Costs.{program-cost}
 use Rattle.circuits.proofs.Gates.{Fits}
 use Rattle.circuits.proofs.Points.{Point, after, afters}
 use Rattle.jobs.specs.Job.{orders, job-gates, steps-of}
+use Rattle.parties.specs.Scripts.{ends, Closed}
 use Rattle.runs.proofs.Lists.{length-map}
-use Rattle.runs.specs.Runs.{Setting}
 use Rattle.runs.specs.Orders.{first-counts}
-use Rattle.runs.proofs.Places.{orders as ends}
 
 pub mark-gate : {S : Type 0} (w : ℕ) (g : Gate) (s : S) (t : List S) → mark (meaning w g) s t ≡ t
 unfolding meaning
@@ -120,33 +119,57 @@ used-within w (o ∷ os) (suc q) h = omega (arith, ap (λ (k : Cost). k .a) (ord
 
 -- ---- as many ends as orders
 
-pub orders-gate : (w : ℕ) (g : Gate) (ss : List Step) → ends (meaning w g ∷ ss) ≡ ends ss
+ends-gate : (w : ℕ) (g : Gate) (ss : List Step) → ends (meaning w g ∷ ss) ≡ ends ss
 unfolding meaning ends
-orders-gate w (Add d a b) ss = refl
-orders-gate w (Sub d a b) ss = refl
-orders-gate w (Xor d a b) ss = refl
-orders-gate w (Mul d a b) ss = refl
-orders-gate w (And d a b) ss = refl
-orders-gate w (Refresh d a) ss = refl
-orders-gate w (Scale d a n) ss = refl
-orders-gate w (Plus d a n) ss = refl
-orders-gate w (Up d a n) ss = refl
-orders-gate w (Bit d a n) ss = refl
-orders-gate w (Const d n) ss = refl
-orders-gate w (Public d a f) ss = refl
-orders-gate w (Deal d a f) ss = refl
-orders-gate w (DealBits d a) ss = refl
+ends-gate w (Add d a b) ss = refl
+ends-gate w (Sub d a b) ss = refl
+ends-gate w (Xor d a b) ss = refl
+ends-gate w (Mul d a b) ss = refl
+ends-gate w (And d a b) ss = refl
+ends-gate w (Refresh d a) ss = refl
+ends-gate w (Scale d a n) ss = refl
+ends-gate w (Plus d a n) ss = refl
+ends-gate w (Up d a n) ss = refl
+ends-gate w (Bit d a n) ss = refl
+ends-gate w (Const d n) ss = refl
+ends-gate w (Public d a f) ss = refl
+ends-gate w (Deal d a f) ss = refl
+ends-gate w (DealBits d a) ss = refl
 
-orders-order : (w : ℕ) (gs : List Gate) (ss : List Step) → ends (order-steps w gs ss) ≡ suc (ends ss)
+ends-order : (w : ℕ) (gs : List Gate) (ss : List Step) → ends (order-steps w gs ss) ≡ suc (ends ss)
 unfolding ends order-steps
-orders-order w [] ss = refl
-orders-order w (g ∷ gs) ss = orders-gate w g (order-steps w gs ss) ∙ orders-order w gs ss
+ends-order w [] ss = refl
+ends-order w (g ∷ gs) ss = ends-gate w g (order-steps w gs ss) ∙ ends-order w gs ss
 
-orders-job : (w : ℕ) (os : List (List Gate)) → ends (job-steps w os) ≡ length os
+pub ends-job : (w : ℕ) (os : List (List Gate)) → ends (job-steps w os) ≡ length os
 unfolding ends job-steps
-orders-job w [] = refl
-orders-job w (o ∷ os) = orders-order w o (job-steps w os) ∙ ap suc (orders-job w os)
+ends-job w [] = refl
+ends-job w (o ∷ os) = ends-order w o (job-steps w os) ∙ ap suc (ends-job w os)
 
-pub orders-of : (w : ℕ) (S : Setting) → ends (steps-of w (S .job) (S .table)) ≡ length (orders (S .job))
-unfolding steps-of job-gates
-orders-of w S = orders-job w (job-gates w (S .job) (S .table)) ∙ length-map _ (orders (S .job))
+-- a job has as many lists of gates as orders
+pub gates-length : (w : ℕ) (job table : List ℕ) → length (job-gates w job table) ≡ length (orders job)
+unfolding job-gates
+gates-length w job table = length-map _ (orders job)
+
+pub job-orders : (w : ℕ) (job table : List ℕ) → ends (steps-of w job table) ≡ length (orders job)
+unfolding steps-of
+job-orders w job table = ends-job w (job-gates w job table) ∙ gates-length w job table
+
+-- ---- every step stands in an order
+
+closed-order : (w : ℕ) (gs : List Gate) (ss : List Step) → Closed ss → (1 ≤ ends (order-steps w gs ss)) × Closed (order-steps w gs ss)
+unfolding order-steps ends
+closed-order w [] ss h = (omega arith, (omega arith, h))
+closed-order w (g ∷ gs) ss h =
+    let r = closed-order w gs ss h in
+    let e : 1 ≤ ends (meaning w g ∷ order-steps w gs ss) = rw (ends-gate w g (order-steps w gs ss)) (r .0) in
+    (e, (e, r .1))
+
+pub ends-closed : (w : ℕ) (os : List (List Gate)) → Closed (job-steps w os)
+unfolding job-steps
+ends-closed w [] = tt
+ends-closed w (o ∷ os) = closed-order w o (job-steps w os) (ends-closed w os) .1
+
+pub job-closed : (w : ℕ) (job table : List ℕ) → Closed (steps-of w job table)
+unfolding steps-of
+job-closed w job table = ends-closed w (job-gates w job table)

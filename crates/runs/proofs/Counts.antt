@@ -1,42 +1,20 @@
--- The counts that starting and hearing report are the words spoken, and at the end half the job's sum; and the words are those defined at their places. Assumes nothing.
+-- The counts that starting and hearing report are the words spoken, and at the end half the script's sum; and the words are those defined at their places. Assumes nothing.
 use mathlib.Core.Path.{_≡_, refl, ap, _∙_}
 use mathlib.Core.Logic.{inl, inr}
 use mathlib.Core.List.{List, [], _∷_}
-use Prim.Native.Nat.{ℕ, zero, suc, _+_, _*_, _≤_, _<_}
+use Prim.Native.Nat.{ℕ, zero, suc, _+_, _*_, _<_}
 use native.Mathlib.Omega.{arith}
-use Rattle.gates.specs.declared.Gate.{Gate}
 use Rattle.gates.specs.Steps.{Exchange, product, refresh, Step, local, deal, exchange, end, Cursor, origin}
-use Rattle.gates.specs.Meaning.{meaning, order-steps, job-steps}
 use Rattle.gates.specs.Walk.{Conf, conf, next, far}
 use Rattle.gates.specs.Parties.{Triple, act}
 use Rattle.gates.specs.Costs.{plus, step-cost, cost}
 use Rattle.gates.proofs.Needs.{far-used}
-use Rattle.jobs.specs.Job.{job-gates, steps-of}
+use Rattle.parties.specs.Scripts.{ends, Closed}
 use Rattle.parties.specs.Calls.{word-at, spoken-at}
-use Rattle.runs.specs.Runs.{Setting, Spoken, Among}
+use Rattle.runs.specs.Runs.{Spoken, Among}
 use Rattle.runs.specs.Demand2.{defined-words}
-use Rattle.runs.proofs.Places.{Halted, pos, orders as ends, orders-pos}
-use Rattle.runs.proofs.Chain.{orders-gate}
+use Rattle.runs.proofs.Places.{Halted, pos, ends-pos}
 use Rattle.runs.proofs.Ties.{joint, spoken}
-
--- ---- behind every step of a job an order ends
-
-abbrev Closed : List Step → Type 0
-Closed [] = Unit
-Closed (x ∷ ss) = (1 ≤ ends (x ∷ ss)) × Closed ss
-
-closed-order : (w : ℕ) (gs : List Gate) (ss : List Step) → Closed ss → (1 ≤ ends (order-steps w gs ss)) × Closed (order-steps w gs ss)
-unfolding order-steps ends
-closed-order w [] ss h = (omega arith, (omega arith, h))
-closed-order w (g ∷ gs) ss h =
-    let r = closed-order w gs ss h in
-    let e : 1 ≤ ends (meaning w g ∷ order-steps w gs ss) = rw (orders-gate w g (order-steps w gs ss)) (r .0) in
-    (e, (e, r .1))
-
-closed-job : (w : ℕ) (os : List (List Gate)) → Closed (job-steps w os)
-unfolding job-steps
-closed-job w [] = tt
-closed-job w (o ∷ os) = closed-order w o (job-steps w os) (closed-job w os) .1
 
 -- ---- both hosts speak where one word of B is used
 
@@ -89,10 +67,14 @@ module _ (A B : List ℕ) (all : List Step) (j₀ : Triple) (shut : Closed all) 
 
   pub stands : (n : ℕ) → Halted (at-n n .rest) → Stands n
   stands n k =
-      let p = stands-at (at-n n .rest) (at-n n .cur) k (closed-at n) (orders-pos (act A B) all j₀ n) (far-at n) in
+      let p = stands-at (at-n n .rest) (at-n n .cur) k (closed-at n) (ends-pos (act A B) all j₀ n) (far-at n) in
       record { before-end = p .0; at-end = p .1 }
 
-  -- ---- the words at halting positions are among those defined
+-- ---- the words at halting positions are among those defined
+
+module _ (A B : List ℕ) (all : List Step) (j₀ : Triple) where
+  abbrev from-n : ℕ → Conf Triple
+  from-n n = joint A B all j₀ n
 
   among-next : (say : Exchange → Cursor → Triple → ℕ) (ss : List Step) (c : Cursor) (j : Triple) (t : List Triple) (p : Spoken)
       → Among p (defined-words A B say (next (act A B) (conf ss c j t) .rest) (next (act A B) (conf ss c j t) .cur) (next (act A B) (conf ss c j t) .state)) → Among p (defined-words A B say ss c j)
@@ -103,10 +85,10 @@ module _ (A B : List ℕ) (all : List Step) (j₀ : Triple) (shut : Closed all) 
   among-next say (exchange d e ∷ ss) c j t p m = inr m
   among-next say (end ∷ ss) c j t p m = m
 
-  among-from : (say : Exchange → Cursor → Triple → ℕ) (n : ℕ) (p : Spoken) → Among p (defined-words A B say (at-n n .rest) (at-n n .cur) (at-n n .state)) → Among p (defined-words A B say all origin j₀)
+  among-from : (say : Exchange → Cursor → Triple → ℕ) (n : ℕ) (p : Spoken) → Among p (defined-words A B say (from-n n .rest) (from-n n .cur) (from-n n .state)) → Among p (defined-words A B say all origin j₀)
   unfolding pos
   among-from say zero p m = m
-  among-from say (suc n) p m = among-from say n p (among-next say (at-n n .rest) (at-n n .cur) (at-n n .state) (at-n n .trail) p m)
+  among-from say (suc n) p m = among-from say n p (among-next say (from-n n .rest) (from-n n .cur) (from-n n .state) (from-n n .trail) p m)
 
   among-here : (say : Exchange → Cursor → Triple → ℕ) (ss : List Step) (c : Cursor) (j : Triple) → Halted ss → Among (c .order, c .turn, word-at say ss c j) (defined-words A B say ss c j)
   unfolding defined-words word-at
@@ -116,9 +98,5 @@ module _ (A B : List ℕ) (all : List Step) (j₀ : Triple) (shut : Closed all) 
   among-here say (exchange d e ∷ ss) c j k = inl refl
   among-here say (end ∷ ss) c j k = absurd k
 
-  pub among-defined : (say : Exchange → Cursor → Triple → ℕ) (n : ℕ) → Halted (at-n n .rest) → Among (spoken A B all j₀ say n) (defined-words A B say all origin j₀)
-  among-defined say n k = among-from say n _ (among-here say (at-n n .rest) (at-n n .cur) (at-n n .state) k)
-
-pub job-closed : (w : ℕ) (S : Setting) → Closed (steps-of w (S .job) (S .table))
-unfolding steps-of
-job-closed w S = closed-job w (job-gates w (S .job) (S .table))
+  pub among-defined : (say : Exchange → Cursor → Triple → ℕ) (n : ℕ) → Halted (from-n n .rest) → Among (spoken A B all j₀ say n) (defined-words A B say all origin j₀)
+  among-defined say n k = among-from say n _ (among-here say (from-n n .rest) (from-n n .cur) (from-n n .state) k)

@@ -14,23 +14,23 @@ use Rattle.circuits.specs.Opens.{curve-value, values, order-value}
 use Rattle.circuits.proofs.Calibration.{Promised, exact-curve, one-bit-curve}
 use Rattle.jobs.specs.Job.{orders}
 use Rattle.jobs.proofs.Accepted.{curve-ruled}
-use Rattle.runs.specs.Runs.{Setting, World}
-use Rattle.runs.specs.Orders.{slot, before-order, order-at, refresh-mask}
+use Rattle.runs.specs.Runs.{Setting, staged, World}
+use Rattle.runs.specs.Orders.{slot, before-order, order-of, refresh-mask}
 use Rattle.runs.specs.Demand3.{reading, Y-of, opens, Finishes}
 use Rattle.runs.proofs.Opened.{trail-orders, order-good, order-leaves}
 use Rattle.runs.proofs.Opening.{finished-order, finished-opens}
 use Rattle.runs.proofs.Started.{Checked, past-checked}
 
-module _ (S : Setting) (q : ℕ) (v : World) (F : Finishes S q v) where
+module _ (S : Setting) (q : ℕ) (v : World) (F : Finishes (staged 32 S) q v) where
   pub in-job : q < length (orders (S .job))
-  in-job = rw (trail-orders 32 S (F .words)) at (finished-order 32 S v (F .run) q (F .finished))
+  in-job = rw (trail-orders 32 S (F .words)) at (finished-order (staged 32 S) v (F .run) q (F .finished))
 
-  pub checked : Checked 32 S
-  checked = past-checked 32 S v q (F .run) (F .finished .one)
+  pub checked : Checked (staged 32 S)
+  checked = past-checked (staged 32 S) v q (F .run) (F .finished .one)
 
   -- what the order's source opens just before it, as a word
   abbrev pub source-word : ℕ
-  source-word = value (numbers 32) (slot (before-order 32 S q) (order-at S q .source))
+  source-word = value (numbers 32) (slot (before-order (staged 32 S) q) (order-of S q .source))
 
   source-lt : source-word < 2 ^ 32
   source-lt = sub-lt 32 _ _
@@ -40,27 +40,27 @@ module _ (S : Setting) (q : ℕ) (v : World) (F : Finishes S q v) where
   mask-lt = add-lt 32 _ _
 
   -- a curve order opens its curve's value
-  module _ (k : order-at S q .kind ≡ 10) where
+  module _ (k : order-of S q .kind ≡ 10) where
     pub rules-kept : T (keeps-rules (S .table))
-    rules-kept = rw (curve-ruled 32 (keeps-rules (S .table)) (order-at S q) (order-good 32 S (F .words) (lit≤ tt) (lit< tt) (checked .job) q in-job) k .1) tt
+    rules-kept = rw (curve-ruled 32 (keeps-rules (S .table)) (order-of S q) (order-good 32 S (F .words) (lit≤ tt) (lit< tt) (checked .script) q in-job) k .1) tt
 
-    pub curve-opens : opens S v q ≡ (0, signed 32 (curve-value 32 (rows (S .table)) (order-at S q .fourth) source-word (refresh-mask 32 S q)))
+    pub curve-opens : opens S v q ≡ (0, signed 32 (curve-value 32 (rows (S .table)) (order-of S q .fourth) source-word (refresh-mask 32 S q)))
     unfolding order-value values
     curve-opens =
-        finished-opens 32 S v (F .run) q (order-at S q .target) (F .finished)
-        ∙ ap {B = ℕ × ℤ} (λ (x : ℕ). (0, signed 32 x)) (order-leaves 32 S (F .words) (lit≤ tt) (lit< tt) (checked .job) q in-job
-        ∙ ap (λ (n : ℕ). getD (values 32 (rows (S .table)) (order-at S q .fourth) source-word (value (numbers 32) (slot (before-order 32 S q) (order-at S q .fourth))) (mask (numbers 32) (slot (before-order 32 S q) (order-at S q .source))) (refresh-mask 32 S q)) n 0) k)
+        finished-opens (staged 32 S) 32 v (F .run) q (order-of S q .target) (F .finished)
+        ∙ ap {B = ℕ × ℤ} (λ (x : ℕ). (0, signed 32 x)) (order-leaves 32 S (F .words) (lit≤ tt) (lit< tt) (checked .script) q in-job
+        ∙ ap (λ (n : ℕ). getD (values 32 (rows (S .table)) (order-of S q .fourth) source-word (value (numbers 32) (slot (before-order (staged 32 S) q) (order-of S q .fourth))) (mask (numbers 32) (slot (before-order (staged 32 S) q) (order-of S q .source))) (refresh-mask 32 S q)) n 0) k)
 
     -- for a reading that the curve is promised for
     module _ (p : Promised (S .table) source-word) where
-      pub exact-opens : order-at S q .fourth ≡ 0 → opens S v q ≡ (0, floor (Y-of S q) 4096)
+      pub exact-opens : order-of S q .fourth ≡ 0 → opens S v q ≡ (0, floor (Y-of S q) 4096)
       unfolding Y-of reading
       exact-opens m =
           curve-opens
           ∙ ap {B = ℕ × ℤ} (λ (c : ℕ). (0, signed 32 (curve-value 32 (rows (S .table)) c source-word (refresh-mask 32 S q)))) m
           ∙ ap {B = ℕ × ℤ} (λ (x : ℤ). (0, x)) (exact-curve (S .table) rules-kept source-word source-lt p (refresh-mask 32 S q))
 
-      pub one-bit-opens : (c : ℕ) → order-at S q .fourth ≡ suc c → opens S v q ≡ (0, floor (Y-of S q) 4096 +ℤ pos (slip 12 (wrap 12 (Y-of S q)) (refresh-mask 32 S q)))
+      pub one-bit-opens : (c : ℕ) → order-of S q .fourth ≡ suc c → opens S v q ≡ (0, floor (Y-of S q) 4096 +ℤ pos (slip 12 (wrap 12 (Y-of S q)) (refresh-mask 32 S q)))
       unfolding Y-of reading
       one-bit-opens c m =
           curve-opens

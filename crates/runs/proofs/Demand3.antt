@@ -27,18 +27,18 @@ use Rattle.circuits.specs.declared.Order.{Order}
 use Rattle.circuits.specs.Programs.{sum-program}
 use Rattle.circuits.specs.Costs.{program-cost}
 use Rattle.circuits.proofs.Calibration.{Promised, ranged, above}
-use Rattle.jobs.specs.Job.{orders, job-gates}
-use Rattle.runs.specs.Runs.{Setting, World, Call, Completes, Run, Finished, buffer-of, Accepted}
-use Rattle.runs.specs.Orders.{Words, order-at, counts-before, first-counts, refresh-mask}
+use Rattle.jobs.specs.Job.{orders, job-gates, job-cost}
+use Rattle.parties.specs.Scripts.{orders-in}
+use Rattle.runs.specs.Runs.{Stage, Setting, staged, World, Call, Completes, Run, Finished, buffer-of, Accepted}
+use Rattle.runs.specs.Orders.{Words, order-of, used-before, first-counts, refresh-mask}
 use Rattle.runs.specs.Demand3.{reading, Y-of, Exact, OneBit, opens, Finishes, refresh-place, with-word, eqZ, Alike, Demand3}
 use Rattle.runs.proofs.Curves.{in-job, checked, source-word, rules-kept, exact-opens, one-bit-opens}
 use Rattle.runs.proofs.Family.{place-needed, reading-same, mask-same}
-use Rattle.runs.proofs.Chain.{orders-of}
 use Rattle.runs.proofs.Progress.{stuck-ended}
 
 -- ---- a reading in range
 
-module _ (S : Setting) (q : ℕ) (v : World) (F : Finishes S q v) (h : T (in-range 32 (reading S q))) where
+module _ (S : Setting) (q : ℕ) (v : World) (F : Finishes (staged 32 S) q v) (h : T (in-range 32 (reading S q))) where
   in-range-word : Promised (S .table) (source-word S q v F)
   unfolding reading
   in-range-word = ranged h
@@ -59,7 +59,7 @@ module _ (S : Setting) (q : ℕ) (v : World) (F : Finishes S q v) (h : T (in-ran
 
 -- ---- the count
 
-count-same : (n : ℕ) (f g : ℕ → Bool) → ((a : ℕ) → a < n → f a ≡ g a) → count n f ≡ count n g
+pub count-same : (n : ℕ) (f g : ℕ → Bool) → ((a : ℕ) → a < n → f a ≡ g a) → count n f ≡ count n g
 unfolding count
 count-same zero f g h = refl
 count-same (suc n) f g h = ap₂ (λ (x : ℕ) (b : Bool). x + cond b 1 0) (count-same n f g (λ a l. h a (omega arith))) (h n (omega arith))
@@ -101,14 +101,14 @@ mask-of job table A B q =
     (at B (first-counts 32 q (job-gates 32 job table) .b + program-cost 32 (sum-program 32 (getD (orders job) q (record { kind = 0; target = 0; source = 0; fourth = 0 }) .source) (rows table)) .b))
 
 masks-alike : (S S′ : Setting) (q : ℕ) → Alike S S′ → refresh-mask 32 S q ≡ refresh-mask 32 S′ q
-unfolding refresh-mask counts-before order-at mask-of
+unfolding refresh-mask used-before order-of mask-of
 masks-alike S S′ q e = λ i. mask-of (e .job i) (e .table i) (e .A i) (e .B i) q
 
-orders-alike : (S S′ : Setting) (q : ℕ) → Alike S S′ → order-at S q ≡ order-at S′ q
-unfolding order-at
+orders-alike : (S S′ : Setting) (q : ℕ) → Alike S S′ → order-of S q ≡ order-of S′ q
+unfolding order-of
 orders-alike S S′ q e = ap (λ (job : List ℕ). getD (orders job) q (record { kind = 0; target = 0; source = 0; fourth = 0 })) (e .job)
 
-module _ (S : Setting) (q : ℕ) (v : World) (F : Finishes S q v) (k : order-at S q .kind ≡ 10) (l : pos (last-count (rows (S .table))) ≤ℤ reading S q) where
+module _ (S : Setting) (q : ℕ) (v : World) (F : Finishes (staged 32 S) q v) (k : order-of S q .kind ≡ 10) (l : pos (last-count (rows (S .table))) ≤ℤ reading S q) where
   above-last : Promised (S .table) (source-word S q v F)
   unfolding reading
   above-last = let p = above-word (source-word S q v F) (last-count (rows (S .table))) (sub-lt 32 _ _) l in above (p .0) (p .1)
@@ -118,26 +118,26 @@ module _ (S : Setting) (q : ℕ) (v : World) (F : Finishes S q v) (k : order-at 
   Y-last = scaled-level (S .table) (rules-kept S q v F k) (reading S q) l
 
   -- by the mode: what the last row opens
-  saturated-opens : (mode : ℕ) → order-at S q .fourth ≡ mode
+  saturated-opens : (mode : ℕ) → order-of S q .fourth ≡ mode
       → opens S v q ≡ (0, last-value mode (scaled (rows (S .table)) (pos (last-count (rows (S .table))))) (refresh-mask 32 S q))
   unfolding last-value
   saturated-opens zero m = exact-opens S q v F k above-last m ∙ ap {B = ℕ × ℤ} (λ (Y : ℤ). (0, floor Y 4096)) Y-last
   saturated-opens (suc c) m =
       one-bit-opens S q v F k above-last c m ∙ ap {B = ℕ × ℤ} (λ (Y : ℤ). (0, floor Y 4096 +ℤ pos (slip 12 (wrap 12 Y) (refresh-mask 32 S q)))) Y-last
 
-saturated : (S S′ : Setting) (q : ℕ) (v v′ : World) → Alike S S′ → Finishes S q v → Finishes S′ q v′ → order-at S q .kind ≡ 10
+saturated : (S S′ : Setting) (q : ℕ) (v v′ : World) → Alike S S′ → Finishes (staged 32 S) q v → Finishes (staged 32 S′) q v′ → order-of S q .kind ≡ 10
     → reading S q ≡ pos (last-count (rows (S .table))) → pos (last-count (rows (S .table))) ≤ℤ reading S′ q → opens S v q ≡ opens S′ v′ q
 saturated S S′ q v v′ e F F′ k r l =
     let o = orders-alike S S′ q e in
-    saturated-opens S q v F k (rw r (leZ-yes (le→leb (last-count (rows (S .table))) (last-count (rows (S .table))) (omega arith)))) (order-at S q .fourth) refl
-    ∙ (λ i. (0, last-value (order-at S q .fourth) (scaled (rows (e .table i)) (pos (last-count (rows (e .table i))))) (masks-alike S S′ q e i)))
-    ∙ sym (saturated-opens S′ q v′ F′ (sym (ap (λ (x : Order). x .kind) o) ∙ k) (subst (λ (t : List ℕ). pos (last-count (rows t)) ≤ℤ reading S′ q) (e .table) l) (order-at S q .fourth) (sym (ap (λ (x : Order). x .fourth) o)))
+    saturated-opens S q v F k (rw r (leZ-yes (le→leb (last-count (rows (S .table))) (last-count (rows (S .table))) (omega arith)))) (order-of S q .fourth) refl
+    ∙ (λ i. (0, last-value (order-of S q .fourth) (scaled (rows (e .table i)) (pos (last-count (rows (e .table i))))) (masks-alike S S′ q e i)))
+    ∙ sym (saturated-opens S′ q v′ F′ (sym (ap (λ (x : Order). x .kind) o) ∙ k) (subst (λ (t : List ℕ). pos (last-count (rows t)) ≤ℤ reading S′ q) (e .table) l) (order-of S q .fourth) (sym (ap (λ (x : Order). x .fourth) o)))
 
 -- ---- the family of runs
 
-module _ (S : Setting) (q : ℕ) (v : ℕ → World) (words : Words 32 S) (F : (a : ℕ) → a < 2 ^ 32 → Finishes (with-word S q a) q (v a)) (e : OneBit S q)
+module _ (S : Setting) (q : ℕ) (v : ℕ → World) (words : Words 32 (staged 32 S)) (F : (a : ℕ) → a < 2 ^ 32 → Finishes (staged 32 (with-word S q a)) q (v a)) (e : OneBit S q)
     (h : T (in-range 32 (reading S q))) where
-  abbrev first-run : Finishes (with-word S q 0) q (v 0)
+  abbrev first-run : Finishes (staged 32 (with-word S q 0)) q (v 0)
   first-run = F 0 (omega arith)
 
   in-orders : q < length (orders (S .job))
@@ -145,14 +145,14 @@ module _ (S : Setting) (q : ℕ) (v : ℕ → World) (words : Words 32 S) (F : (
   in-orders = in-job (with-word S q 0) q (v 0) first-run
 
   place-listed : refresh-place S q < length (S .A)
-  unfolding with-word
+  unfolding with-word job-cost
   place-listed =
       let c = checked (with-word S q 0) q (v 0) first-run in
-      omega (arith, place-needed S q e words in-orders, c .a, length-set (S .A) (refresh-place S q) 0)
+      omega (arith, place-needed S q e in-orders, c .a, length-set (S .A) (refresh-place S q) 0)
 
   -- the refresh's word of B
   abbrev b : ℕ
-  b = at (S .B) (counts-before 32 S q .b + program-cost 32 (sum-program 32 (order-at S q .source) (rows (S .table))) .b)
+  b = at (S .B) (used-before 32 S q .b + program-cost 32 (sum-program 32 (order-of S q .source) (rows (S .table))) .b)
 
   abbrev y : ℕ
   y = wrap 12 (Y-of S q)
@@ -162,7 +162,7 @@ module _ (S : Setting) (q : ℕ) (v : ℕ → World) (words : Words 32 S) (F : (
     same-reading = reading-same S q e a words (F a l .words) in-orders
 
     word-opens : opens S (v a) q ≡ (0, floor (Y-of S q) 4096 +ℤ pos (slip 12 y (add 32 a b)))
-    unfolding with-word order-at Y-of
+    unfolding with-word order-of Y-of
     word-opens =
         one-bit (with-word S q a) q (v a) (F a l) (rw same-reading h) (record { kind = e .kind; mode = e .mode })
         ∙ (λ i. (0, floor (scaled (rows (S .table)) (same-reading i)) 4096 +ℤ pos (slip 12 (wrap 12 (scaled (rows (S .table)) (same-reading i))) (mask-same S q e a place-listed i))))
@@ -179,11 +179,11 @@ module _ (S : Setting) (q : ℕ) (v : ℕ → World) (words : Words 32 S) (F : (
 
 -- ---- every order
 
-finishes : (S : Setting) (v : World) (cs : List Call) → Run 32 S cs v → Accepted 32 S (buffer-of v) → ((c : Call) (v′ : World) → Completes 32 S c v v′ → ⊥)
-    → (q : ℕ) → q < length (orders (S .job)) → Finished v q
+finishes : (S : Stage) (v : World) (cs : List Call) → Run S cs v → Accepted S (buffer-of v) → ((c : Call) (v′ : World) → Completes S c v v′ → ⊥)
+    → (q : ℕ) → q < orders-in (S .script) → Finished v q
 finishes S v cs r acc n q h =
-    let f = stuck-ended 32 S r acc n in
-    record { one = rw (f .one, orders-of 32 S) h; two = rw (f .two, orders-of 32 S) h }
+    let f = stuck-ended S r acc n in
+    record { one = rw (f .one) h; two = rw (f .two) h }
 
 pub demand3 : Demand3
 demand3 =

@@ -3,6 +3,7 @@ use mathlib.Core.Path.{_≡_, refl, sym, ap, _∙_}
 use mathlib.Core.List.{List, [], _∷_, _++_}
 use Prim.Native.Nat.{ℕ, _+_, _<_}
 use native.Mathlib.Omega.{arith}
+use lib.Dec.{lit≤}
 use lib.ListN.{getD, length, set, take}
 use lib.Seq.{getD-set-same, getD-set-other}
 use Rattle.words.specs.Words.{add, numbers}
@@ -22,44 +23,46 @@ use Rattle.circuits.specs.Orders.{curve-program, kinds, program}
 use Rattle.circuits.specs.Costs.{program-cost}
 use Rattle.circuits.proofs.Costs.{cost-after, end-cost}
 use Rattle.jobs.specs.Job.{orders, job-gates, steps-of, job-cost}
-use Rattle.runs.specs.Runs.{Setting}
-use Rattle.runs.specs.Orders.{Words, first, slot, before-order, order-at, counts-before, refresh-mask}
+use Rattle.parties.proofs.Scripts.{job-made}
+use Rattle.runs.specs.Runs.{Setting, staged}
+use Rattle.runs.specs.Orders.{Words, first, slot, before-order, order-of, used-before, refresh-mask}
 use Rattle.runs.specs.Demand3.{reading, OneBit, refresh-place, with-word}
 use Rattle.runs.proofs.Chain.{state-before, first-cost, used-within}
-use Rattle.runs.proofs.Opened.{G₀, gates-is, in-gates, before-is}
+use Rattle.runs.proofs.Gated.{G₀, before-is}
+use Rattle.runs.proofs.Opened.{gates-is, in-gates}
 
 -- the shares before order q are what the walk of the orders before it comes to
-before-walk : (w : ℕ) (S : Setting) → Words w S → (q : ℕ) → q < length (orders (S .job))
-    → before-order w S q ≡ whole (act (S .A) (S .B)) (job-steps w (take q (job-gates w (S .job) (S .table)))) origin (first S) [] .state
+before-walk : (w : ℕ) (S : Setting) → Words w (staged w S) → (q : ℕ) → q < length (orders (S .job))
+    → before-order (staged w S) q ≡ whole (act (S .A) (S .B)) (job-steps w (take q (job-gates w (S .job) (S .table)))) origin (first (staged w S)) [] .state
 before-walk w S words q h =
-    before-is w S words q h ∙ sym (state-before w (S .A) (S .B) (words .A) (words .B) (job-gates w (S .job) (S .table)) (G₀ w S words) q [])
+    before-is w (staged w S) (lit≤ tt) words (job-gates w (S .job) (S .table)) (job-made w (S .job) (S .table)) q (in-gates w S q h) ∙ sym (state-before w (S .A) (S .B) (words .A) (words .B) (job-gates w (S .job) (S .table)) (G₀ w (staged w S) (lit≤ tt) words) q [])
 
 module _ (S : Setting) (q : ℕ) (o : OneBit S q) where
   abbrev i : ℕ
   i = refresh-place S q
 
   -- the refresh's word is one of those that the job needs
-  pub place-needed : (words : Words 32 S) → q < length (orders (S .job)) → i < job-cost 32 (S .job) (S .table) .a
-  unfolding refresh-place counts-before job-cost steps-of program kinds curve-program curve-one-bit plus
-  place-needed words h =
+  pub place-needed : q < length (orders (S .job)) → i < job-cost 32 (S .job) (S .table) .a
+  unfolding refresh-place used-before job-cost steps-of program kinds curve-program curve-one-bit plus
+  place-needed h =
       let ps = rows (S .table) in
-      let x : ℕ = order-at S q .source in
-      let d : ℕ = order-at S q .target in
+      let x : ℕ = order-of S q .source in
+      let d : ℕ = order-of S q .target in
       let e : getD (job-gates 32 (S .job) (S .table)) q [] ≡ sum-program 32 x ps ++ (Refresh 22 22 ∷ one-bit-program 32 12 22 d) =
-      gates-is 32 S words q h
-      ∙ ap (λ (n : ℕ). getD (kinds 32 ps d x (order-at S q .fourth)) n []) (o .kind) ∙ ap (λ (c : ℕ). curve-program 32 x d ps c) (o .mode) in
+      gates-is 32 S q h
+      ∙ ap (λ (n : ℕ). getD (kinds 32 ps d x (order-of S q .fourth)) n []) (o .kind) ∙ ap (λ (c : ℕ). curve-program 32 x d ps c) (o .mode) in
       let c : program-cost 32 (getD (job-gates 32 (S .job) (S .table)) q []) .a ≡ program-cost 32 (sum-program 32 x ps) .a + 5 =
       ap (λ (gs : List Gate). program-cost 32 gs .a) e ∙ ap (λ (k : Cost). k .a) (cost-after 32 (sum-program 32 x ps) (Refresh 22 22 ∷ one-bit-program 32 12 22 d))
       ∙ ap (λ (k : Cost). program-cost 32 (sum-program 32 x ps) .a + k .a) (end-cost d) in
-      omega (arith, c, used-within 32 (job-gates 32 (S .job) (S .table)) q (in-gates 32 S words q h))
+      omega (arith, c, used-within 32 (job-gates 32 (S .job) (S .table)) q (in-gates 32 S q h))
 
   -- the same shares before the order, whatever the word
-  before-same : (a : ℕ) → Words 32 S → Words 32 (with-word S q a) → q < length (orders (S .job)) → before-order 32 (with-word S q a) q ≡ before-order 32 S q
-  unfolding with-word counts-before refresh-place
+  before-same : (a : ℕ) → Words 32 (staged 32 S) → Words 32 (staged 32 (with-word S q a)) → q < length (orders (S .job)) → before-order (staged 32 (with-word S q a)) q ≡ before-order (staged 32 S) q
+  unfolding with-word used-before refresh-place
   before-same a words words′ h =
       before-walk 32 (with-word S q a) words′ q h
       ∙ ap (λ (c : Conf Triple). c .state)
-      (sym (whole-alike (S .A) (set (S .A) i a) (S .B) (S .B) (job-steps 32 (take q (job-gates 32 (S .job) (S .table)))) origin (first S) [] same (λ n l. refl)))
+      (sym (whole-alike (S .A) (set (S .A) i a) (S .B) (S .B) (job-steps 32 (take q (job-gates 32 (S .job) (S .table)))) origin (first (staged 32 S)) [] same (λ n l. refl)))
       ∙ sym (before-walk 32 S words q h)
     where
       same : (n : ℕ) → n < far (job-steps 32 (take q (job-gates 32 (S .job) (S .table)))) origin .a → at (S .A) n ≡ at (set (S .A) i a) n
@@ -70,12 +73,12 @@ module _ (S : Setting) (q : ℕ) (o : OneBit S q) where
           sym (getD-set-other (S .A) i n a 0 (λ e. omega arith))
 
   -- so the same reading
-  pub reading-same : (a : ℕ) → Words 32 S → Words 32 (with-word S q a) → q < length (orders (S .job)) → reading (with-word S q a) q ≡ reading S q
-  unfolding reading with-word order-at
-  reading-same a words words′ h = ap (λ (t : Triple). signed 32 (value (numbers 32) (slot t (order-at S q .source)))) (before-same a words words′ h)
+  pub reading-same : (a : ℕ) → Words 32 (staged 32 S) → Words 32 (staged 32 (with-word S q a)) → q < length (orders (S .job)) → reading (with-word S q a) q ≡ reading S q
+  unfolding reading with-word order-of
+  reading-same a words words′ h = ap (λ (t : Triple). signed 32 (value (numbers 32) (slot t (order-of S q .source)))) (before-same a words words′ h)
 
   -- and the mask is that word plus the refresh's word of B
   pub mask-same : (a : ℕ) → i < length (S .A)
-      → refresh-mask 32 (with-word S q a) q ≡ add 32 a (at (S .B) (counts-before 32 S q .b + program-cost 32 (sum-program 32 (order-at S q .source) (rows (S .table))) .b))
-  unfolding refresh-mask with-word order-at counts-before refresh-place
-  mask-same a h = ap (λ (x : ℕ). add 32 x (at (S .B) (counts-before 32 S q .b + program-cost 32 (sum-program 32 (order-at S q .source) (rows (S .table))) .b))) (getD-set-same (S .A) i a 0 h)
+      → refresh-mask 32 (with-word S q a) q ≡ add 32 a (at (S .B) (used-before 32 S q .b + program-cost 32 (sum-program 32 (order-of S q .source) (rows (S .table))) .b))
+  unfolding refresh-mask with-word order-of used-before refresh-place
+  mask-same a h = ap (λ (x : ℕ). add 32 x (at (S .B) (used-before 32 S q .b + program-cost 32 (sum-program 32 (order-of S q .source) (rows (S .table))) .b))) (getD-set-same (S .A) i a 0 h)

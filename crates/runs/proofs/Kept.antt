@@ -1,24 +1,24 @@
 -- What every run keeps: the three hosts hold the lanes of one joint walk, and have spoken its words. Assumes nothing.
 use mathlib.Core.Path.{_≡_, refl, sym, ap, _∙_, subst}
 use mathlib.Core.List.{List, [], _∷_, _++_, map}
-use Prim.Native.Nat.{ℕ, zero, suc}
+use Prim.Native.Nat.{ℕ, zero, suc, _+_, _≤_}
 use native.Mathlib.Omega.{arith}
 use lib.ListN.{length, take, drop, replicate, length-set, length-append, take-append-drop, length-take}
 use lib.Seq.{take-append-le, take-all}
 use Rattle.gates.specs.Steps.{Lane, at, Exchange, Step, local, deal, exchange, end, Cursor, origin}
 use Rattle.gates.specs.Walk.{Conf, conf, whole, next}
 use Rattle.gates.specs.Parties.{Pair, Triple, of0, of1, of2, act, act0, deals, joint1, joint2, Starts, Supplied}
-use Rattle.gates.specs.Costs.{cost}
 use Rattle.gates.proofs.Seen.{through, Always, see-whole}
 use Rattle.gates.proofs.Lanes.{seen0}
 use Rattle.gates.proofs.Needs.{deals-length}
-use Rattle.jobs.specs.Job.{steps-of, job-cost}
-use Rattle.parties.specs.Lent.{party1, party2, party-of, lent-steps, dealer-fault}
-use Rattle.parties.specs.Calls.{State, fresh, fresh2, start-walk, start, found-of, hear, job-deals, prepare-walk, prepared, prepare}
-use Rattle.runs.specs.Runs.{Setting, Spoken, Among, Dealer, idle, ready, Side, waiting, going, World, world, registers, Refuses, dealer, dealer-later, dealer-elsewhere, dealer-later-elsewhere, one-waiting, two-waiting, one-going, two-going, Call, lent1, lent2, Dealt, preparation, started, stepped, Completes, prepares, starts1, starts2, hears1, hears2, Run, begin, complete, refuse}
+use Rattle.jobs.specs.Job.{Fault}
+use Rattle.parties.specs.Scripts.{script-cost}
+use Rattle.parties.specs.Lent.{party1, party2, party-of, dealer-fault}
+use Rattle.parties.specs.Calls.{State, fresh, fresh2, start-walk, start, found-of, hear, script-deals, prepare-walk, prepared, prepare}
+use Rattle.runs.specs.Runs.{Stage, Spoken, Among, Dealer, idle, ready, Side, waiting, going, World, world, registers, Refuses, dealer, dealer-later, dealer-elsewhere, dealer-later-elsewhere, one-waiting, two-waiting, one-going, two-going, Call, lent1, lent2, Dealt, preparation, started, stepped, Completes, prepares, starts1, starts2, hears1, hears2, Run, begin, complete, refuse}
 use Rattle.runs.proofs.Places.{pos}
 use Rattle.runs.proofs.Ties.{shadow1, shadow2, joint, Heard, Tied, tie-start, tie-hear}
-use Rattle.runs.proofs.Refusals.{start-none, hear-none, prepare-back, Sixteen, turned-same}
+use Rattle.runs.proofs.Refusals.{start-none, hear-none, prepare-back, Holds, turned-same}
 
 -- ---- the deals in front of a list
 
@@ -62,9 +62,13 @@ unfolding pos
 pos-lengths A B all j₀ n zero h = h
 pos-lengths A B all j₀ n (suc k) h = next-lengths A B (joint A B all j₀ k) n (pos-lengths A B all j₀ n k h)
 
-module _ (w : ℕ) (S : Setting) where
+module _ (S : Stage) where
   abbrev pub all : List Step
-  all = steps-of w (S .job) (S .table)
+  all = S .script .steps
+
+  -- the slots given
+  abbrev n : ℕ
+  n = S .script .slots
 
   abbrev A : List ℕ
   A = S .A
@@ -79,26 +83,26 @@ module _ (w : ℕ) (S : Setting) where
   abbrev pub last : Conf Triple
   last = whole (act A B) all origin j₀ []
 
-  fresh-length : (l : Lane) → length l ≡ 16 → length (fresh l) ≡ 24
+  fresh-length : (l : Lane) → length l ≡ n → length (fresh l) ≡ n + 8
   unfolding fresh
-  fresh-length l h = length-append l (replicate 8 0) ∙ omega arith
+  fresh-length l h = length-append l (replicate 8 0) ∙ omega (arith, h)
 
-  pub j₀-lengths : Lengths 24 j₀
-  j₀-lengths = record { m = fresh-length (S .rm) (S .rm-sixteen); l1 = fresh-length (S .r1) (S .r1-sixteen); l2 = fresh-length (S .r2) (S .r2-sixteen) }
+  pub j₀-lengths : Lengths (n + 8) j₀
+  j₀-lengths = record { m = fresh-length (S .rm) (S .rm-full); l1 = fresh-length (S .r1) (S .r1-full); l2 = fresh-length (S .r2) (S .r2-full) }
 
   -- ---- what is true of each host
 
   pub data DealerOk : Dealer → List ℕ → Type 0 where
     not-yet : {r : Pair} {buf : List ℕ} → r ≡ (S .r1, S .r2) → DealerOk (idle r) buf
     dealt-all : {r : Pair} {t : List Pair} {buf : List ℕ} (post : List ℕ) → buf ≡ deals A B all origin (of0 j₀) ++ post
-        → r ≡ (take 16 (last .state .1), take 16 (last .state .2)) → t ≡ map of0 (last .trail) → DealerOk (ready r t) buf
+        → r ≡ (take n (last .state .1), take n (last .state .2)) → t ≡ map of0 (last .trail) → DealerOk (ready r t) buf
 
   pub data OneOk : Side → Type 0 where
-    wait1 : {s : State} → registers s ≡ (S .rm, S .r1) → OneOk (waiting s)
+    wait1 : {s : State} → registers n s ≡ (S .rm, S .r1) → OneOk (waiting s)
     go1 : {s : State} {t : List Pair} {said : List Spoken} → Tied A B all j₀ of1 (joint1 A B) s t said → OneOk (going s t said)
 
   pub data TwoOk : Side → Type 0 where
-    wait2 : {s : State} → registers s ≡ (S .rm, S .r2) → TwoOk (waiting s)
+    wait2 : {s : State} → registers n s ≡ (S .rm, S .r2) → TwoOk (waiting s)
     go2 : {s : State} {t : List Pair} {said : List Spoken} → Tied A B all j₀ of2 (joint2 A B) s t said → TwoOk (going s t said)
 
   -- host 2 goes on only after the preparation
@@ -112,61 +116,64 @@ module _ (w : ℕ) (S : Setting) where
 
   -- ---- calls that complete keep it
 
-  pub supplied : (buf post D : List ℕ) → buf ≡ deals A B all origin (of0 j₀) ++ post → Dealt w S buf D → Supplied A B D all origin j₀
-  unfolding job-cost
+  pub supplied : (buf post D : List ℕ) → buf ≡ deals A B all origin (of0 j₀) ++ post → Dealt S buf D → Supplied A B D all origin j₀
   supplied buf post D e h =
-      let n : length (deals A B all origin (of0 j₀)) ≡ cost all .deals = deals-length A B all origin (of0 j₀) in
-      starts-alike (deals A B all origin (of0 j₀)) post D (rw n (rw e at h))
+      let k : length (deals A B all origin (of0 j₀)) ≡ script-cost (S .script) .deals = deals-length A B all origin (of0 j₀) in
+      starts-alike (deals A B all origin (of0 j₀)) post D (rw k (rw e at h))
 
-  prepared-none : (n : ℕ) (f : ℕ × ℕ) (buf : List ℕ) (r : Pair) → f .0 ≡ n → prepared n f w (S .job) (S .table) A B buf r .number ≡ 0
-      → (prepared n f w (S .job) (S .table) A B buf r .masks ≡ (take 16 (prepare-walk w (S .job) (S .table) A B r .state .0), take 16 (prepare-walk w (S .job) (S .table) A B r .state .1)))
-      × (prepared n f w (S .job) (S .table) A B buf r .buffer
-      ≡ job-deals w (S .job) (S .table) A B r ++ drop (length (job-deals w (S .job) (S .table) A B r)) buf)
+  -- such a buffer has room for every deal
+  pub deals-fit : (buf post : List ℕ) → buf ≡ deals A B all origin (of0 j₀) ++ post → script-cost (S .script) .deals ≤ length buf
+  deals-fit buf post e = omega (arith, ap length e, length-append (deals A B all origin (of0 j₀)) post, deals-length A B all origin (of0 j₀))
+
+  prepared-none : (k : ℕ) (f : Fault) (buf : List ℕ) (r : Pair) → f .0 ≡ k → prepared k f (S .script) A B buf r .number ≡ 0
+      → (prepared k f (S .script) A B buf r .masks ≡ (take n (prepare-walk (S .script) A B r .state .0), take n (prepare-walk (S .script) A B r .state .1)))
+      × (prepared k f (S .script) A B buf r .buffer
+      ≡ script-deals (S .script) A B r ++ drop (length (script-deals (S .script) A B r)) buf)
   unfolding prepared
   prepared-none zero f buf r e h = (refl, refl)
-  prepared-none (suc n) f buf r e h = absurd (omega arith)
+  prepared-none (suc k) f buf r e h = absurd (omega arith)
 
-  pub prepares-ok : (r : Pair) (buf : List ℕ) → r ≡ (S .r1, S .r2) → preparation w S buf r .number ≡ 0
-      → DealerOk (ready (preparation w S buf r .masks) (prepare-walk w (S .job) (S .table) A B r .trail)) (preparation w S buf r .buffer)
-  unfolding prepare job-deals prepare-walk
+  pub prepares-ok : (r : Pair) (buf : List ℕ) → r ≡ (S .r1, S .r2) → preparation S buf r .number ≡ 0
+      → DealerOk (ready (preparation S buf r .masks) (prepare-walk (S .script) A B r .trail)) (preparation S buf r .buffer)
+  unfolding prepare script-deals prepare-walk
   prepares-ok r buf h e =
-      let f = dealer-fault w (S .job) (S .table) A B buf in
+      let f = dealer-fault (S .script) A B buf in
       let q = prepared-none (f .0) f buf r refl e in
       let v : whole (act0 A B) all origin (fresh2 r) [] ≡ through of0 last =
       ap {B = Conf Pair} (λ (p : Pair). whole (act0 A B) all origin (fresh2 p) []) h ∙ see-whole (act A B) (act0 A B) of0 Always (seen0 A B) all origin j₀ [] tt in
       dealt-all (drop (length (deals A B all origin (fresh2 r))) buf)
       (q .1 ∙ ap (λ (p : Pair). deals A B all origin (fresh2 p) ++ drop (length (deals A B all origin (fresh2 r))) buf) h)
-      (q .0 ∙ ap {B = Pair} (λ (c : Conf Pair). (take 16 (c .state .0), take 16 (c .state .1))) v)
+      (q .0 ∙ ap {B = Pair} (λ (c : Conf Pair). (take n (c .state .0), take n (c .state .1))) v)
       (ap (λ (c : Conf Pair). c .trail) v)
 
-  start1-ok : (D : List ℕ) (s : State) → registers s ≡ (S .rm, S .r1) → start w (lent1 w S D) (registers s) .number ≡ 0 → OneOk (started w S (lent1 w S D) s)
-  unfolding party-of lent-steps start-walk
+  start1-ok : (D : List ℕ) (s : State) → registers n s ≡ (S .rm, S .r1) → start (lent1 S D) (registers n s) .number ≡ 0 → OneOk (started S (lent1 S D) s)
+  unfolding party-of start-walk
   start1-ok D s h e =
-      rw (start-none w (lent1 w S D) (registers s) e .1)
-      (go1 (tie-start A B all j₀ (party1 A) of1 (joint1 A B) (joint2 A B) Always (shadow1 A B) tt (registers s) (ap {B = Pair} (λ (p : Pair). fresh2 p) h)))
+      rw (start-none (lent1 S D) (registers n s) e .1)
+      (go1 (tie-start A B all j₀ (party1 A) of1 (joint1 A B) (joint2 A B) Always (shadow1 A B) tt (registers n s) (ap {B = Pair} (λ (p : Pair). fresh2 p) h)))
 
-  start2-ok : (D : List ℕ) (s : State) → Supplied A B D all origin j₀ → registers s ≡ (S .rm, S .r2) → start w (lent2 w S D) (registers s) .number ≡ 0
-      → TwoOk (started w S (lent2 w S D) s)
-  unfolding party-of lent-steps start-walk
+  start2-ok : (D : List ℕ) (s : State) → Supplied A B D all origin j₀ → registers n s ≡ (S .rm, S .r2) → start (lent2 S D) (registers n s) .number ≡ 0
+      → TwoOk (started S (lent2 S D) s)
+  unfolding party-of start-walk
   start2-ok D s g h e =
-      rw (start-none w (lent2 w S D) (registers s) e .1)
-      (go2 (tie-start A B all j₀ (party2 B D) of2 (joint2 A B) (joint1 A B) (Supplied A B D) (shadow2 A B D) g (registers s) (ap {B = Pair} (λ (p : Pair). fresh2 p) h)))
+      rw (start-none (lent2 S D) (registers n s) e .1)
+      (go2 (tie-start A B all j₀ (party2 B D) of2 (joint2 A B) (joint1 A B) (Supplied A B D) (shadow2 A B D) g (registers n s) (ap {B = Pair} (λ (p : Pair). fresh2 p) h)))
 
   hear1-ok : (D : List ℕ) (s : State) (t : List Pair) (said said2 : List Spoken) (k v : ℕ) → Tied A B all j₀ of1 (joint1 A B) s t said → Heard A B all j₀ (joint2 A B) k said2
-      → Among (s .order, s .turn, v) said2 → hear w (lent1 w S D) s v .number ≡ 0 → OneOk (stepped w S (lent1 w S D) s v t said)
-  unfolding party-of lent-steps found-of
+      → Among (s .order, s .turn, v) said2 → hear (lent1 S D) s v .number ≡ 0 → OneOk (stepped S (lent1 S D) s v t said)
+  unfolding party-of found-of
   hear1-ok D s t said said2 k v Z H m e =
-      let q = hear-none w (lent1 w S D) s v e .1 in
+      let q = hear-none (lent1 S D) s v e .1 in
       rw q (go1 (tie-hear A B all j₀ (party1 A) of1 (joint1 A B) (joint2 A B) Always (shadow1 A B) tt s t said said2 k v Z H m (rw q at e)))
 
   hear2-ok : (D : List ℕ) (s : State) (t : List Pair) (said said1 : List Spoken) (k v : ℕ) → Supplied A B D all origin j₀ → Tied A B all j₀ of2 (joint2 A B) s t said
-      → Heard A B all j₀ (joint1 A B) k said1 → Among (s .order, s .turn, v) said1 → hear w (lent2 w S D) s v .number ≡ 0 → TwoOk (stepped w S (lent2 w S D) s v t said)
-  unfolding party-of lent-steps found-of
+      → Heard A B all j₀ (joint1 A B) k said1 → Among (s .order, s .turn, v) said1 → hear (lent2 S D) s v .number ≡ 0 → TwoOk (stepped S (lent2 S D) s v t said)
+  unfolding party-of found-of
   hear2-ok D s t said said1 k v g Z H m e =
-      let q = hear-none w (lent2 w S D) s v e .1 in
+      let q = hear-none (lent2 S D) s v e .1 in
       rw q (go2 (tie-hear A B all j₀ (party2 B D) of2 (joint2 A B) (joint1 A B) (Supplied A B D) (shadow2 A B D) g s t said said1 k v Z H m (rw q at e)))
 
-  completes-ok : {c : Call} {v v′ : World} → Completes w S c v v′ → Ok v → Ok v′
+  completes-ok : {c : Call} {v v′ : World} → Completes S c v v′ → Ok v → Ok v′
   completes-ok (prepares {r = r} {buf = buf} e) (ok (not-yet h) one two a) = ok (prepares-ok r buf h e) one two tt
   completes-ok (starts1 {s = s} D e) (ok z (wait1 h) two a) = ok z (start1-ok D s h e) two a
   completes-ok (starts2 {buf = buf} {s = s} D d e) (ok (dealt-all p g h k) one (wait2 q) a) =
@@ -178,41 +185,41 @@ module _ (w : ℕ) (S : Setting) where
 
   -- ---- a refused call changes nothing
 
-  sixteen-waiting : (s : State) (m mask : Lane) → registers s ≡ (m, mask) → length m ≡ 16 → length mask ≡ 16 → Sixteen s
-  sixteen-waiting s m mask e h k =
-      let a : length (take 16 (s .m)) ≡ 16 = ap (λ (p : Pair). length (p .0)) e ∙ h in
-      let b : length (take 16 (s .mask)) ≡ 16 = ap (λ (p : Pair). length (p .1)) e ∙ k in
-      record { m = omega (arith, length-take 16 (s .m)); mask = omega (arith, length-take 16 (s .mask)) }
+  holds-waiting : (s : State) (m mask : Lane) → registers n s ≡ (m, mask) → length m ≡ n → length mask ≡ n → Holds n s
+  holds-waiting s m mask e h k =
+      let a : length (take n (s .m)) ≡ n = ap (λ (p : Pair). length (p .0)) e ∙ h in
+      let b : length (take n (s .mask)) ≡ n = ap (λ (p : Pair). length (p .1)) e ∙ k in
+      record { m = omega (arith, length-take n (s .m)); mask = omega (arith, length-take n (s .mask)) }
 
-  sixteen-tied : (h : Triple → Pair) (say : Exchange → Cursor → Triple → ℕ) (s : State) (t : List Pair) (said : List Spoken)
-      → ((j : Triple) → Lengths 24 j → (length (h j .0) ≡ 24) × (length (h j .1) ≡ 24)) → Tied A B all j₀ h say s t said → Sixteen s
-  sixteen-tied h say s t said f Z =
-      let g = f (joint A B all j₀ (Z .n) .state) (pos-lengths A B all j₀ 24 (Z .n) j₀-lengths) in
+  holds-tied : (h : Triple → Pair) (say : Exchange → Cursor → Triple → ℕ) (s : State) (t : List Pair) (said : List Spoken)
+      → ((j : Triple) → Lengths (n + 8) j → (length (h j .0) ≡ n + 8) × (length (h j .1) ≡ n + 8)) → Tied A B all j₀ h say s t said → Holds n s
+  holds-tied h say s t said f Z =
+      let g = f (joint A B all j₀ (Z .n) .state) (pos-lengths A B all j₀ (n + 8) (Z .n) j₀-lengths) in
       rw (Z .is) (record { m = omega (arith, g .0); mask = omega (arith, g .1) })
 
-  one-sixteen : {s : State} → OneOk (waiting s) → Sixteen s
-  one-sixteen {s} (wait1 h) = sixteen-waiting s (S .rm) (S .r1) h (S .rm-sixteen) (S .r1-sixteen)
+  one-holds : {s : State} → OneOk (waiting s) → Holds n s
+  one-holds {s} (wait1 h) = holds-waiting s (S .rm) (S .r1) h (S .rm-full) (S .r1-full)
 
-  two-sixteen : {s : State} → TwoOk (waiting s) → Sixteen s
-  two-sixteen {s} (wait2 h) = sixteen-waiting s (S .rm) (S .r2) h (S .rm-sixteen) (S .r2-sixteen)
+  two-holds : {s : State} → TwoOk (waiting s) → Holds n s
+  two-holds {s} (wait2 h) = holds-waiting s (S .rm) (S .r2) h (S .rm-full) (S .r2-full)
 
-  one-going-sixteen : {s : State} {t : List Pair} {said : List Spoken} → OneOk (going s t said) → Sixteen s
-  one-going-sixteen (go1 Z) = sixteen-tied of1 (joint1 A B) _ _ _ (λ j h. (h .m, h .l1)) Z
+  one-going-holds : {s : State} {t : List Pair} {said : List Spoken} → OneOk (going s t said) → Holds n s
+  one-going-holds (go1 Z) = holds-tied of1 (joint1 A B) _ _ _ (λ j h. (h .m, h .l1)) Z
 
-  two-going-sixteen : {s : State} {t : List Pair} {said : List Spoken} → TwoOk (going s t said) → Sixteen s
-  two-going-sixteen (go2 Z) = sixteen-tied of2 (joint2 A B) _ _ _ (λ j h. (h .m, h .l2)) Z
+  two-going-holds : {s : State} {t : List Pair} {said : List Spoken} → TwoOk (going s t said) → Holds n s
+  two-going-holds (go2 Z) = holds-tied of2 (joint2 A B) _ _ _ (λ j h. (h .m, h .l2)) Z
 
-  pub refuses-nothing : {v v′ : World} → Ok v → Refuses w v v′ → v′ ≡ v
-  refuses-nothing o (dealer {r = r} {buf = buf} job table A′ B′ e) = let q = prepare-back w job table A′ B′ buf r e in rw (q .0, q .1)
-  refuses-nothing o (dealer-later {r = r} {buf = buf} job table A′ B′ e) = let q = prepare-back w job table A′ B′ buf r e in rw (q .0, q .1)
-  refuses-nothing o (dealer-elsewhere {r = r} job table A′ B′ b e) = rw (prepare-back w job table A′ B′ b r e .0)
-  refuses-nothing o (dealer-later-elsewhere {r = r} job table A′ B′ b e) = rw (prepare-back w job table A′ B′ b r e .0)
-  refuses-nothing (ok z one two a) (one-waiting h) = rw (turned-same w (one-sixteen one) h)
-  refuses-nothing (ok z one two a) (two-waiting h) = rw (turned-same w (two-sixteen two) h)
-  refuses-nothing (ok z one two a) (one-going h) = rw (turned-same w (one-going-sixteen one) h)
-  refuses-nothing (ok z one two a) (two-going h) = rw (turned-same w (two-going-sixteen two) h)
+  pub refuses-nothing : {v v′ : World} → Ok v → Refuses n v v′ → v′ ≡ v
+  refuses-nothing o (dealer {r = r} {buf = buf} σ A′ B′ e) = let q = prepare-back σ A′ B′ buf r e in rw (q .0, q .1)
+  refuses-nothing o (dealer-later {r = r} {buf = buf} σ A′ B′ e) = let q = prepare-back σ A′ B′ buf r e in rw (q .0, q .1)
+  refuses-nothing o (dealer-elsewhere {r = r} σ A′ B′ b e) = rw (prepare-back σ A′ B′ b r e .0)
+  refuses-nothing o (dealer-later-elsewhere {r = r} σ A′ B′ b e) = rw (prepare-back σ A′ B′ b r e .0)
+  refuses-nothing (ok z one two a) (one-waiting h) = rw (turned-same n (one-holds one) h)
+  refuses-nothing (ok z one two a) (two-waiting h) = rw (turned-same n (two-holds two) h)
+  refuses-nothing (ok z one two a) (one-going h) = rw (turned-same n (one-going-holds one) h)
+  refuses-nothing (ok z one two a) (two-going h) = rw (turned-same n (two-going-holds two) h)
 
-  pub kept : {cs : List Call} {v : World} → Run w S cs v → Ok v
+  pub kept : {cs : List Call} {v : World} → Run S cs v → Ok v
   kept (begin h k) = ok (not-yet refl) (wait1 h) (wait2 k) tt
   kept (complete r c) = completes-ok c (kept r)
   kept (refuse r c) = rw (refuses-nothing (kept r) c) (kept r)

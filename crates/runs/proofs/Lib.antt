@@ -3,7 +3,10 @@ pub mod Places
 pub mod Ties
 pub mod Refusals
 pub mod Kept
+pub mod Answers
 pub mod Chain
+pub mod Spared
+pub mod Gated
 pub mod Opened
 pub mod Opening
 pub mod Progress
@@ -14,3 +17,11 @@ pub mod Demand3
 pub mod Demand1
 pub mod Counts
 pub mod Demand2
+pub mod Written
+pub mod Returned
+pub mod InOrder
+pub mod Strict
+pub mod Numbers
+pub mod Whole
+pub mod ReturnedCurves
+pub mod Same

@@ -1,191 +1,72 @@
 -- What every order of an accepted job leaves on the joint walk: its target opens the value that document 01 defines, other registers keep their shares.
 -- Assumes nothing.
-use mathlib.Core.Path.{_≡_, refl, sym, ap, ap₂, _∙_}
+use mathlib.Core.Path.{_≡_, _∙_}
 use mathlib.Core.Bool.{true, false}
-use mathlib.Core.List.{List, [], _∷_, _++_, map}
-use Prim.Native.Nat.{ℕ, zero, suc, _≤_, _<_}
+use mathlib.Core.List.{List, []}
+use Prim.Native.Nat.{ℕ, _≤_, _<_}
 use native.Mathlib.Omega.{arith}
-use borrow.Author.Tests.{ltb-true}
-use lib.Dec.{eqb}
-use lib.Pow.{pow-pos}
-use lib.ListN.{getD, length, replicate, List·getD-map}
-use Rattle.words.specs.Words.{add, numbers}
+use lib.Dec.{eqb, lit≤}
+use lib.ListN.{getD, length}
+use Rattle.words.specs.Words.{numbers}
 use Rattle.shares.specs.Gates.{value, mask}
 use Rattle.tables.specs.Table.{Row, rows, keeps-rules}
 use Rattle.tables.proofs.Rows.{for-table}
 use Rattle.gates.specs.declared.Gate.{Gate}
-use Rattle.gates.specs.Steps.{Lane, at, end, origin, past}
-use Rattle.gates.specs.Meaning.{meaning, order-steps}
-use Rattle.gates.specs.Parties.{Triple}
-use Rattle.gates.specs.Costs.{plus, cost, step-cost}
-use Rattle.gates.proofs.Needs.{Further, past-used}
+use Rattle.gates.specs.Meaning.{job-steps}
 use Rattle.circuits.specs.declared.Order.{Order}
-use Rattle.circuits.specs.Programs.{sum-program}
 use Rattle.circuits.specs.Orders.{program}
 use Rattle.circuits.specs.Opens.{order-value}
-use Rattle.circuits.specs.Costs.{program-cost}
-use Rattle.circuits.proofs.Gates.{Fits}
-use Rattle.circuits.proofs.Points.{Point, after, afters, num, l1-of, l2-of}
-use Rattle.circuits.proofs.Opens.{new-mask, curve-mask, Sound, kind-opens, kind-keeps}
-use Rattle.jobs.specs.Job.{orders, job-gates, steps-of, job-fault}
-use Rattle.jobs.proofs.Accepted.{Good, accepted-orders, exact-shift, curve-ruled}
-use Rattle.parties.specs.Calls.{fresh}
-use Rattle.runs.proofs.Lists.{getD-map, length-map}
-use Rattle.runs.specs.Runs.{Setting}
-use Rattle.runs.specs.Orders.{Words, first, trail, after-order, before-order, slot, order-at, first-counts, counts-before, refresh-mask}
-use Rattle.runs.proofs.Kept.{j₀-lengths}
-use Rattle.runs.proofs.Chain.{ended, points, job-trail, point-before, point-after, point-next}
+use Rattle.jobs.specs.Job.{orders, job-gates, job-fault}
+use Rattle.jobs.proofs.Accepted.{Good, accepted-orders}
+use Rattle.parties.proofs.Scripts.{job-made}
+use Rattle.runs.proofs.Lists.{getD-map}
+use Rattle.runs.specs.Runs.{Setting, staged}
+use Rattle.runs.specs.Orders.{Words, trail, after-order, before-order, slot, order-of, used-before, refresh-mask}
+use Rattle.runs.proofs.Chain.{gates-length}
+use Rattle.runs.proofs.Gated.{trail-gates, program-leaves, program-keeps}
 
-fits-append : (w : ℕ) (l k : Lane) → Fits w l → Fits w k → Fits w (l ++ k)
-fits-append w [] k f g i = g i
-fits-append w (x ∷ l) k f g zero = f zero
-fits-append w (x ∷ l) k f g (suc i) = fits-append w l k (λ n. f (suc n)) g i
-
-fits-zeros : (w n : ℕ) → Fits w (replicate n 0)
-fits-zeros w zero i = pow-pos w
-fits-zeros w (suc n) zero = pow-pos w
-fits-zeros w (suc n) (suc i) = fits-zeros w n i
-
-module _ (w : ℕ) (S : Setting) (words : Words w S) where
-  abbrev pub Pt : Type 0
-  Pt = Point w (S .A) (S .B) (words .A) (words .B)
-
-  abbrev run : List Gate → Pt → Pt
-  run = afters w (S .A) (S .B) (words .A) (words .B)
-
-  pub fresh-fits : (l : Lane) → Fits w l → Fits w (fresh l)
-  unfolding fresh
-  fresh-fits l h = fits-append w l (replicate 8 0) h (fits-zeros w 8)
-
-  -- the start of the walk
-  abbrev pub G₀ : Pt
-  G₀ =
-      record {
-        c = origin;
-        j = first S;
-        fits = record { m = fresh-fits (S .rm) (words .rm); l1 = fresh-fits (S .r1) (words .r1); l2 = fresh-fits (S .r2) (words .r2) };
-        slots = λ i l. let n = j₀-lengths w S in
-            record { m = rw (n .m) (ltb-true i 24 l); l1 = rw (n .l1) (ltb-true i 24 l); l2 = rw (n .l2) (ltb-true i 24 l) };
-      }
-
+module _ (w : ℕ) (S : Setting) where
   abbrev pub gates : List (List Gate)
   gates = job-gates w (S .job) (S .table)
 
-  abbrev pub before : ℕ → Pt
-  before q = point-before w (S .A) (S .B) (words .A) (words .B) gates G₀ q
-
-  gates-length : length gates ≡ length (orders (S .job))
-  unfolding job-gates
-  gates-length = length-map _ (orders (S .job))
-
-  trail-is : trail w S ≡ map (λ (p : Pt). p .j) (points w (S .A) (S .B) (words .A) (words .B) gates G₀)
-  unfolding trail steps-of
-  trail-is = job-trail w (S .A) (S .B) (words .A) (words .B) gates G₀ []
-
-  points-length : (os : List (List Gate)) (G : Pt) → length (points w (S .A) (S .B) (words .A) (words .B) os G) ≡ length os
-  unfolding points
-  points-length [] G = refl
-  points-length (o ∷ os) G = ap suc (points-length os _)
+  abbrev made : staged w S .script .steps ≡ job-steps w gates
+  made = job-made w (S .job) (S .table)
 
   -- as many entries as the job has orders
-  pub trail-orders : length (trail w S) ≡ length (orders (S .job))
-  trail-orders = ap length trail-is ∙ length-map _ (points w (S .A) (S .B) (words .A) (words .B) gates G₀) ∙ points-length gates G₀ ∙ gates-length
+  pub trail-orders : Words w (staged w S) → length (trail (staged w S)) ≡ length (orders (S .job))
+  trail-orders words = trail-gates w (staged w S) (lit≤ tt) words gates made ∙ gates-length w (S .job) (S .table)
 
   module _ (q : ℕ) (hq : q < length (orders (S .job))) where
     pub in-gates : q < length gates
-    in-gates = rw gates-length hq
+    in-gates = rw (gates-length w (S .job) (S .table)) hq
 
-    after-is : after-order w S q ≡ run (getD gates q []) (before q) .j
-    unfolding after-order
-    after-is =
-        ap (λ (t : List Triple). getD t q (first S)) trail-is ∙ List·getD-map (λ (p : Pt). p .j) (points w (S .A) (S .B) (words .A) (words .B) gates G₀) q G₀
-        ∙ ap (λ (p : Pt). p .j) (point-after w (S .A) (S .B) (words .A) (words .B) gates G₀ G₀ q in-gates)
-
-    pub gates-is : getD gates q [] ≡ program w (rows (S .table)) (order-at S q)
-    unfolding job-gates order-at
+    pub gates-is : getD gates q [] ≡ program w (rows (S .table)) (order-of S q)
+    unfolding job-gates order-of
     gates-is = getD-map (program w (rows (S .table))) (orders (S .job)) q _ [] hq
-
-  pub before-is : (q : ℕ) → q < length (orders (S .job)) → before-order w S q ≡ before q .j
-  unfolding before-order after-order point-before
-  before-is zero h = zero-is gates
-    where
-      zero-is : (os : List (List Gate)) → first S ≡ point-before w (S .A) (S .B) (words .A) (words .B) os G₀ 0 .j
-      zero-is [] = refl
-      zero-is (o ∷ os) = refl
-  before-is (suc q) h =
-      ap (λ (t : List Triple). getD t q (first S)) trail-is
-      ∙ List·getD-map (λ (p : Pt). p .j) (points w (S .A) (S .B) (words .A) (words .B) gates G₀) q G₀
-      ∙ sym (point-next w (S .A) (S .B) (words .A) (words .B) gates G₀ G₀ q (in-gates q (omega arith)))
-
-  -- ---- the cursor
-
-  afters-used : (gs : List Gate) (G : Pt) → Further (G .c) (program-cost w gs) (run gs G .c)
-  unfolding afters after program-cost order-steps cost step-cost plus
-  afters-used [] G = omega arith
-  afters-used (g ∷ gs) G =
-      let p : Further (G .c) (step-cost (meaning w g)) (past (meaning w g) (G .c)) = past-used (meaning w g) (G .c) in
-      let q : Further (past (meaning w g) (G .c)) (cost (order-steps w gs [])) (run gs (after w (S .A) (S .B) (words .A) (words .B) g G) .c) = afters-used gs (after w (S .A) (S .B) (words .A) (words .B) g G) in
-      record { a = omega arith; b = omega arith; deals = omega arith }
-
-  before-used : (os : List (List Gate)) (G : Pt) (q : ℕ) → Further (G .c) (first-counts w q os) (point-before w (S .A) (S .B) (words .A) (words .B) os G q .c)
-  unfolding first-counts point-before past plus
-  before-used [] G zero = omega arith
-  before-used [] G (suc q) = omega arith
-  before-used (o ∷ os) G zero = omega arith
-  before-used (o ∷ os) G (suc q) =
-      let p : Further (G .c) (program-cost w o) (run o G .c) = afters-used o G in
-      let r : Further (past end (run o G .c)) (first-counts w q os) (point-before w (S .A) (S .B) (words .A) (words .B) os (ended w (S .A) (S .B) (words .A) (words .B) (run o G)) q .c) = before-used os (ended w (S .A) (S .B) (words .A) (words .B) (run o G)) q in
-      record { a = omega arith; b = omega arith; deals = omega arith }
-
-  -- the mask of the refresh of order q, where it is a curve in one-bit mode
-  mask-is : (low : 2 ≤ w) (q : ℕ) → new-mask w (S .A) (S .B) (words .A) (words .B) low (run (sum-program w (order-at S q .source) (rows (S .table))) (before q)) ≡ refresh-mask w S q
-  unfolding new-mask refresh-mask counts-before
-  mask-is low q =
-      let p = before-used gates G₀ q in
-      let r = afters-used (sum-program w (order-at S q .source) (rows (S .table))) (before q) in
-      ap₂ (add w) (ap (at (S .A)) (omega (arith, p .a, r .a))) (ap (at (S .B)) (omega (arith, p .b, r .b)))
 
   -- ---- order q of an accepted job
 
-  module _ (low : 2 ≤ w) (wide : 12 < w) (accepted : job-fault w (S .job) (S .table) .0 ≡ 0) (q : ℕ) (hq : q < length (orders (S .job))) where
+  module _ (words : Words w (staged w S)) (low : 2 ≤ w) (wide : 12 < w) (accepted : job-fault w (S .job) (S .table) .0 ≡ 0) (q : ℕ) (hq : q < length (orders (S .job))) where
     abbrev o : Order
-    o = order-at S q
+    o = order-of S q
 
     abbrev ps : List Row
     ps = rows (S .table)
 
     pub order-good : Good w (keeps-rules (S .table)) o
-    unfolding order-at
+    unfolding order-of
     order-good = accepted-orders w (S .job) (S .table) accepted q hq _
 
-    sound : Sound w (S .A) (S .B) (words .A) (words .B) low ps (o .target) (o .source) (o .fourth) (order-good .target) (order-good .source) (before q) (o .kind)
-    sound =
-        record {
-          shift = λ e. let h = exact-shift w (keeps-rules (S .table)) o order-good e in (h .0, omega (arith, h .1));
-          curve = λ e. (wide, some-row (curve-ruled w (keeps-rules (S .table)) o order-good e .1));
-        }
-      where
-        some-row : keeps-rules (S .table) ≡ true → 0 < length ps
-        some-row e = for-table (λ rs. 0 < length rs) (λ p rs h. omega arith) (S .table) (rw e tt)
-
-    left-is : after-order w S q ≡ run (program w ps o) (before q) .j
-    left-is = after-is q hq ∙ ap (λ (gs : List Gate). run gs (before q) .j) (gates-is q hq)
+    some-row : keeps-rules (S .table) ≡ true → 0 < length ps
+    some-row e = for-table (λ rs. 0 < length rs) (λ p rs h. omega arith) (S .table) (rw e tt)
 
     -- "each order opens to the value that document 01 defines for it"
-    pub order-leaves : value (numbers w) (slot (after-order w S q) (o .target))
-        ≡ order-value w ps o (value (numbers w) (slot (before-order w S q) (o .source))) (value (numbers w) (slot (before-order w S q) (o .fourth)))
-        (mask (numbers w) (slot (before-order w S q) (o .source))) (refresh-mask w S q)
-    unfolding order-value program num l1-of l2-of curve-mask
-    order-leaves =
-        ap (λ (t : Triple). value (numbers w) (slot t (o .target))) left-is
-        ∙ kind-opens w (S .A) (S .B) (words .A) (words .B) low ps (o .target) (o .source) (o .fourth) (order-good .target) (order-good .source) (before q) (o .kind) (order-good .kind) sound
-        ∙ ap₂ (λ (t : Triple) (R : ℕ). order-value w ps o (value (numbers w) (slot t (o .source))) (value (numbers w) (slot t (o .fourth))) (mask (numbers w) (slot t (o .source))) R)
-        (sym (before-is q hq)) (mask-is low q)
+    pub order-leaves : value (numbers w) (slot (after-order (staged w S) q) (o .target))
+        ≡ order-value w ps o (value (numbers w) (slot (before-order (staged w S) q) (o .source))) (value (numbers w) (slot (before-order (staged w S) q) (o .fourth)))
+        (mask (numbers w) (slot (before-order (staged w S) q) (o .source))) (refresh-mask w S q)
+    unfolding refresh-mask used-before
+    order-leaves = program-leaves w (staged w S) (lit≤ tt) words gates made low wide q (in-gates q hq) ps o (gates-is q hq) (keeps-rules (S .table)) order-good some-row
 
     -- "the register keeps that until an order writes it"
-    pub order-keeps : (i : ℕ) → i < 16 → eqb i (o .target) ≡ false → slot (after-order w S q) i ≡ slot (before-order w S q) i
-    unfolding program
-    order-keeps i hi e =
-        ap (λ (t : Triple). slot t i) left-is
-        ∙ kind-keeps w (S .A) (S .B) (words .A) (words .B) low ps (o .target) (o .source) (o .fourth) (order-good .target) (order-good .source) (before q) i hi e (o .kind) (order-good .kind)
-        ∙ ap (λ (t : Triple). slot t i) (sym (before-is q hq))
+    pub order-keeps : (i : ℕ) → i < 16 → eqb i (o .target) ≡ false → slot (after-order (staged w S) q) i ≡ slot (before-order (staged w S) q) i
+    order-keeps = program-keeps w (staged w S) (lit≤ tt) words gates made low wide q (in-gates q hq) ps o (gates-is q hq) (keeps-rules (S .table)) order-good some-row

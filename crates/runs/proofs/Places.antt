@@ -11,7 +11,8 @@ use lib.ListN.{length, length-append}
 use native.Mathlib.Numerals.{add-one}
 use native.Mathlib.Nat.{add-zero}
 use Rattle.gates.specs.Steps.{at, Step, local, deal, exchange, end, Cursor, origin, past}
-use Rattle.parties.specs.Places.{found, here, seek}
+use Rattle.parties.specs.Places.{Found, nowhere, found, here, seek}
+use Rattle.parties.specs.Scripts.{ends}
 use Rattle.gates.specs.Walk.{Conf, conf, one, next, walk, whole, Exchanging}
 
 -- at an exchange or at the end
@@ -22,13 +23,10 @@ Halted (deal d f ∷ ss) = ⊥
 Halted (exchange d e ∷ ss) = Unit
 Halted (end ∷ ss) = ⊥
 
--- the orders that end in a list of steps
-unfoldable pub orders : List Step → ℕ
-orders [] = 0
-orders (local d m l ∷ ss) = orders ss
-orders (deal d f ∷ ss) = orders ss
-orders (exchange d e ∷ ss) = orders ss
-orders (end ∷ ss) = suc (orders ss)
+-- the steps ahead of a place that `seek` finds
+abbrev pub steps-in : Found → ℕ
+steps-in nowhere = 0
+steps-in (found ss c) = length ss
 
 here-self : (c : Cursor) → here (c .order) (c .turn) c ≡ true
 here-self c = go (eqb (c .order) (c .order)) (eqb (c .turn) (c .turn)) (eqb-refl (c .order)) (eqb-refl (c .turn))
@@ -206,19 +204,19 @@ module _ {S : Type 0} (act : Step → Cursor → S → S) (all : List Step) (s�
   trail-length zero = refl
   trail-length (suc n) = trail-one (pos n .rest) (pos n .cur) (pos n .state) (pos n .trail) (trail-length n)
 
-  orders-one : (ss : List Step) (c : Cursor) (s : S) (t : List S) (k : ℕ) → orders ss + c .order ≡ k
-      → orders (one act ss c s t .rest) + one act ss c s t .cur .order ≡ k
-  unfolding past orders
-  orders-one [] c s t k h = h
-  orders-one (local d m l ∷ ss) c s t k h = h
-  orders-one (deal d f ∷ ss) c s t k h = h
-  orders-one (exchange d e ∷ ss) c s t k h = h
-  orders-one (end ∷ ss) c s t k h = omega arith
+  ends-one : (ss : List Step) (c : Cursor) (s : S) (t : List S) (k : ℕ) → ends ss + c .order ≡ k
+      → ends (one act ss c s t .rest) + one act ss c s t .cur .order ≡ k
+  unfolding past ends
+  ends-one [] c s t k h = h
+  ends-one (local d m l ∷ ss) c s t k h = h
+  ends-one (deal d f ∷ ss) c s t k h = h
+  ends-one (exchange d e ∷ ss) c s t k h = h
+  ends-one (end ∷ ss) c s t k h = omega arith
 
-  pub orders-pos : (n : ℕ) → orders (pos n .rest) + pos n .cur .order ≡ orders all
+  pub ends-pos : (n : ℕ) → ends (pos n .rest) + pos n .cur .order ≡ ends all
   unfolding pos
-  orders-pos zero = add-zero (orders all)
-  orders-pos (suc n) = orders-one (pos n .rest) (pos n .cur) (pos n .state) (pos n .trail) (orders all) (orders-pos n)
+  ends-pos zero = add-zero (ends all)
+  ends-pos (suc n) = ends-one (pos n .rest) (pos n .cur) (pos n .state) (pos n .trail) (ends all) (ends-pos n)
 
   -- a walk at its end stays there
   still : (ss : List Step) (c : Cursor) (s : S) (t : List S) → ss ≡ [] → conf ss c s t ≡ one act ss c s t
@@ -240,6 +238,18 @@ module _ {S : Type 0} (act : Step → Cursor → S → S) (all : List Step) (s�
   exchange-or-end (deal d f ∷ ss) h = absurd h
   exchange-or-end (exchange d e ∷ ss) h = inl tt
   exchange-or-end (end ∷ ss) h = absurd h
+
+  -- two walks that halt next after a position halt at one
+  pub one-halt : (k i j : ℕ) → k ≤ i → k ≤ j → Halted (pos i .rest) → Halted (pos j .rest) → ((x : ℕ) → k ≤ x → x < i → Exchanging (pos x .rest) → ⊥)
+      → ((x : ℕ) → k ≤ x → x < j → Exchanging (pos x .rest) → ⊥) → pos i ≡ pos j
+  one-halt k i j a b h g p q = go (decLe (suc i) j) (decLe (suc j) i) (exchange-or-end _ h) (exchange-or-end _ g)
+    where
+      go : Dec (suc i ≤ j) → Dec (suc j ≤ i) → Exchanging (pos i .rest) ⊎ (pos i .rest ≡ []) → Exchanging (pos j .rest) ⊎ (pos j .rest ≡ []) → pos i ≡ pos j
+      go (yes l) d (inl x) y = absurd (q i a l x)
+      go (yes l) d (inr e) y = rest-later i j (omega arith) e
+      go (no l) (yes m) x (inl y) = absurd (p j b m y)
+      go (no l) (yes m) x (inr e) = sym (rest-later j i (omega arith) e)
+      go (no l) (no m) x y = let e : i ≡ j = omega arith in rw e
 
   -- a place that an exchange has belongs to one position
   pub same-place : (i n : ℕ) → Halted (pos i .rest) → Exchanging (pos n .rest) → pos i .cur .order ≡ pos n .cur .order → pos i .cur .turn ≡ pos n .cur .turn

@@ -1,4 +1,4 @@
--- Progress: where some order of an accepted job is not finished, some call can complete. Assumes nothing.
+-- Progress: where some order of an accepted script is not finished, some call can complete. Assumes nothing.
 use mathlib.Core.Path.{_≡_, refl, sym, ap, _∙_}
 use mathlib.Core.List.{List, [], _++_}
 use mathlib.Core.Logic.{_⊎_, inl, inr}
@@ -13,11 +13,12 @@ use Rattle.gates.specs.Walk.{Conf, Exchanging}
 use Rattle.gates.specs.Parties.{Pair, Triple, of0, of1, of2, act, deals, joint1, joint2, Supplied}
 use Rattle.gates.specs.Costs.{Cost}
 use Rattle.gates.proofs.Seen.{Always}
-use Rattle.jobs.specs.Job.{Fault, job-fault, job-cost, short-a, short-b, short-deals}
-use Rattle.parties.specs.Lent.{Lent, party1, party2, party-of, or-else, lists-fault, lent-fault, dealer-lists-fault, dealer-fault, lent-steps}
+use Rattle.jobs.specs.Job.{Fault, short-a, short-b, short-deals}
+use Rattle.parties.specs.Scripts.{Script, script-cost, orders-in, ends}
+use Rattle.parties.specs.Lent.{Lent, party1, party2, party-of, or-else, lists-fault, lent-fault, dealer-lists-fault, dealer-fault}
 use Rattle.parties.specs.Calls.{State, Answer, report, unless, given, start-walk, start, found-of, resume, hear, prepared, prepare}
-use Rattle.runs.specs.Runs.{Setting, Spoken, Dealer, going, World, world, registers, Call, lent1, lent2, Completes, prepares, starts1, starts2, hears1, hears2, Run, order1, order2, buffer-of, Accepted}
-use Rattle.runs.proofs.Places.{orders, orders-pos, rest-later, exchange-or-end}
+use Rattle.runs.specs.Runs.{Stage, Spoken, Dealer, going, World, world, registers, Call, lent1, lent2, Completes, prepares, starts1, starts2, hears1, hears2, Run, order1, order2, buffer-of, Accepted}
+use Rattle.runs.proofs.Places.{ends-pos, rest-later, exchange-or-end}
 use Rattle.runs.proofs.Ties.{shadow1, shadow2, joint, Tied, can-hear}
 use Rattle.runs.proofs.Kept.{all, j₀, supplied, not-yet, dealt-all, wait1, go1, wait2, go2, Ok, ok, kept}
 
@@ -32,56 +33,56 @@ or-else-zero : (f : Fault) (n : ℕ) → f .0 ≡ 0 → n ≡ 0 → or-else f n 
 unfolding or-else
 or-else-zero f n e h = rw (eq-eqb (f .0) 0 e) h
 
-prepared-zero : (n : ℕ) (f : Fault) (w : ℕ) (job table A B buf : List ℕ) (r : Pair) → n ≡ 0 → prepared n f w job table A B buf r .number ≡ 0
+prepared-zero : (n : ℕ) (f : Fault) (σ : Script) (A B buf : List ℕ) (r : Pair) → n ≡ 0 → prepared n f σ A B buf r .number ≡ 0
 unfolding prepared
-prepared-zero zero f w job table A B buf r e = refl
-prepared-zero (suc n) f w job table A B buf r e = absurd (omega arith)
+prepared-zero zero f σ A B buf r e = refl
+prepared-zero (suc n) f σ A B buf r e = absurd (omega arith)
 
-module _ (w : ℕ) (S : Setting) where
+module _ (S : Stage) where
   abbrev k : Cost
-  k = job-cost w (S .job) (S .table)
+  k = script-cost (S .script)
 
-  module _ (buf : List ℕ) (acc : Accepted w S buf) where
-    pub lent1-zero : (D : List ℕ) → lent-fault w (lent1 w S D) .0 ≡ 0
+  module _ (buf : List ℕ) (acc : Accepted S buf) where
+    pub lent1-zero : (D : List ℕ) → lent-fault (lent1 S D) .0 ≡ 0
     unfolding lent-fault lists-fault short-a
-    lent1-zero D = or-else-zero (job-fault w (S .job) (S .table)) _ (acc .job) (rw (le-ltb (length (S .A)) (k .a) (acc .a)))
+    lent1-zero D = or-else-zero (S .script .fault) _ (acc .script) (rw (le-ltb (length (S .A)) (k .a) (acc .a)))
 
-    pub lent2-zero : (D : List ℕ) → k .deals ≤ length D → lent-fault w (lent2 w S D) .0 ≡ 0
+    pub lent2-zero : (D : List ℕ) → k .deals ≤ length D → lent-fault (lent2 S D) .0 ≡ 0
     unfolding lent-fault lists-fault short-b short-deals
-    lent2-zero D h = or-else-zero (job-fault w (S .job) (S .table)) _ (acc .job) (rw (le-ltb (length (S .B)) (k .b) (acc .b), le-ltb (length D) (k .deals) h))
+    lent2-zero D h = or-else-zero (S .script .fault) _ (acc .script) (rw (le-ltb (length (S .B)) (k .b) (acc .b), le-ltb (length D) (k .deals) h))
 
-    prepare-zero : (r : Pair) → prepare w (S .job) (S .table) (S .A) (S .B) buf r .number ≡ 0
+    prepare-zero : (r : Pair) → prepare (S .script) (S .A) (S .B) buf r .number ≡ 0
     unfolding prepare dealer-fault dealer-lists-fault short-a short-b short-deals
     prepare-zero r =
-        prepared-zero _ _ w (S .job) (S .table) (S .A) (S .B) buf r
-        (or-else-zero (job-fault w (S .job) (S .table)) _ (acc .job)
+        prepared-zero _ _ (S .script) (S .A) (S .B) buf r
+        (or-else-zero (S .script .fault) _ (acc .script)
         (rw (le-ltb (length (S .A)) (k .a) (acc .a), le-ltb (length (S .B)) (k .b) (acc .b), le-ltb (length buf) (k .deals) (acc .deals))))
 
-    start-zero : (L : Lent) (r : Pair) → lent-fault w L .0 ≡ 0 → start w L r .number ≡ 0
+    start-zero : (L : Lent) (r : Pair) → lent-fault L .0 ≡ 0 → start L r .number ≡ 0
     unfolding start
-    start-zero L r e = ap (λ (a : Answer). a .number) (unless-zero (lent-fault w L .0) (lent-fault w L) (given r) (report (party-of L) (start-walk w L r)) e)
+    start-zero L r e = ap (λ (a : Answer). a .number) (unless-zero (lent-fault L .0) (lent-fault L) (given r) (report (party-of L) (start-walk L r)) e)
 
-    hear-zero : (L : Lent) (s : State) (v : ℕ) → lent-fault w L .0 ≡ 0 → resume (party-of L) s v (found-of w L s) .number ≡ 0 → hear w L s v .number ≡ 0
+    hear-zero : (L : Lent) (s : State) (v : ℕ) → lent-fault L .0 ≡ 0 → resume (party-of L) s v (found-of L s) .number ≡ 0 → hear L s v .number ≡ 0
     unfolding hear
-    hear-zero L s v e h = ap (λ (a : Answer). a .number) (unless-zero (lent-fault w L .0) (lent-fault w L) s (resume (party-of L) s v (found-of w L s)) e) ∙ h
+    hear-zero L s v e h = ap (λ (a : Answer). a .number) (unless-zero (lent-fault L .0) (lent-fault L) s (resume (party-of L) s v (found-of L s)) e) ∙ h
 
   -- both hosts' places are the end
   pub record Ended (v : World) : Type 0 where
-    pub one : order1 v ≡ orders (all w S)
-    pub two : order2 v ≡ orders (all w S)
+    pub one : order1 v ≡ orders-in (S .script)
+    pub two : order2 v ≡ orders-in (S .script)
 
   abbrev pub Onward : World → Type 0
-  Onward v = (c : Call) × (v′ : World) × Completes w S c v v′
+  Onward v = (c : Call) × (v′ : World) × Completes S c v v′
 
   module _ (z : Dealer) (buf : List ℕ) (s s2 : State) (t t2 : List Pair) (said said2 : List Spoken)
-      (X : Tied (S .A) (S .B) (all w S) (j₀ w S) of1 (joint1 (S .A) (S .B)) s t said) (Y : Tied (S .A) (S .B) (all w S) (j₀ w S) of2 (joint2 (S .A) (S .B)) s2 t2 said2)
-      (post : List ℕ) (g : buf ≡ deals (S .A) (S .B) (all w S) origin (of0 (j₀ w S)) ++ post) (acc : Accepted w S buf) where
+      (X : Tied (S .A) (S .B) (all S) (j₀ S) of1 (joint1 (S .A) (S .B)) s t said) (Y : Tied (S .A) (S .B) (all S) (j₀ S) of2 (joint2 (S .A) (S .B)) s2 t2 said2)
+      (post : List ℕ) (g : buf ≡ deals (S .A) (S .B) (all S) origin (of0 (j₀ S)) ++ post) (acc : Accepted S buf) where
     abbrev at-n : ℕ → Conf Triple
-    at-n n = joint (S .A) (S .B) (all w S) (j₀ w S) n
+    at-n n = joint (S .A) (S .B) (all S) (j₀ S) n
 
-    ended : (n : ℕ) → at-n n .rest ≡ [] → at-n n .cur .order ≡ orders (all w S)
-    unfolding orders
-    ended n e = sym (zero-add _) ∙ (rw e at (orders-pos (act (S .A) (S .B)) (all w S) (j₀ w S) n))
+    ended : (n : ℕ) → at-n n .rest ≡ [] → at-n n .cur .order ≡ orders-in (S .script)
+    unfolding ends
+    ended n e = sym (zero-add _) ∙ (rw e at (ends-pos (act (S .A) (S .B)) (all S) (j₀ S) n))
 
     both-ended : at-n (X .n) ≡ at-n (Y .n) → at-n (X .n) .rest ≡ [] → Ended (world z buf (going s t said) (going s2 t2 said2))
     both-ended p e =
@@ -91,37 +92,37 @@ module _ (w : ℕ) (S : Setting) where
         }
 
     move : Onward (world z buf (going s t said) (going s2 t2 said2)) ⊎ Ended (world z buf (going s t said) (going s2 t2 said2))
-    unfolding party-of lent-steps found-of
-    move = go (decLe (X .n) (Y .n)) (exchange-or-end (act (S .A) (S .B)) (all w S) (j₀ w S) _ (X .halts)) (exchange-or-end (act (S .A) (S .B)) (all w S) (j₀ w S) _ (Y .halts))
+    unfolding party-of found-of
+    move = go (decLe (X .n) (Y .n)) (exchange-or-end (act (S .A) (S .B)) (all S) (j₀ S) _ (X .halts)) (exchange-or-end (act (S .A) (S .B)) (all S) (j₀ S) _ (Y .halts))
       where
         go : Dec (X .n ≤ Y .n) → Exchanging (at-n (X .n) .rest) ⊎ (at-n (X .n) .rest ≡ []) → Exchanging (at-n (Y .n) .rest) ⊎ (at-n (Y .n) .rest ≡ [])
             → Onward (world z buf (going s t said) (going s2 t2 said2)) ⊎ Ended (world z buf (going s t said) (going s2 t2 said2))
         go (yes l) (inl x) y =
-            let c = can-hear (S .A) (S .B) (all w S) (j₀ w S) (party1 (S .A)) of1 (joint1 (S .A) (S .B)) (joint2 (S .A) (S .B)) Always (shadow1 (S .A) (S .B)) tt s t said said2 (suc (Y .n)) X x (Y .heard) (omega arith) in
-            inl (_, _, hears1 [] (c .word) (c .among) (hear-zero buf acc (lent1 w S []) s (c .word) (lent1-zero buf acc []) (c .completes)))
-        go (yes l) (inr e) y = inr (both-ended (rest-later (act (S .A) (S .B)) (all w S) (j₀ w S) (X .n) (Y .n) l e) e)
+            let c = can-hear (S .A) (S .B) (all S) (j₀ S) (party1 (S .A)) of1 (joint1 (S .A) (S .B)) (joint2 (S .A) (S .B)) Always (shadow1 (S .A) (S .B)) tt s t said said2 (suc (Y .n)) X x (Y .heard) (omega arith) in
+            inl (_, _, hears1 [] (c .word) (c .among) (hear-zero buf acc (lent1 S []) s (c .word) (lent1-zero buf acc []) (c .completes)))
+        go (yes l) (inr e) y = inr (both-ended (rest-later (act (S .A) (S .B)) (all S) (j₀ S) (X .n) (Y .n) l e) e)
         go (no l) x (inl y) =
-            let h : Supplied (S .A) (S .B) buf (all w S) origin (j₀ w S) = supplied w S buf post buf g refl in
-            let c = can-hear (S .A) (S .B) (all w S) (j₀ w S) (party2 (S .B) buf) of2 (joint2 (S .A) (S .B)) (joint1 (S .A) (S .B)) (Supplied (S .A) (S .B) buf) (shadow2 (S .A) (S .B) buf) h s2 t2 said2 said (suc (X .n)) Y y (X .heard) (omega arith) in
-            inl (_, _, hears2 buf refl (c .word) (c .among) (hear-zero buf acc (lent2 w S buf) s2 (c .word) (lent2-zero buf acc buf (acc .deals)) (c .completes)))
+            let h : Supplied (S .A) (S .B) buf (all S) origin (j₀ S) = supplied S buf post buf g refl in
+            let c = can-hear (S .A) (S .B) (all S) (j₀ S) (party2 (S .B) buf) of2 (joint2 (S .A) (S .B)) (joint1 (S .A) (S .B)) (Supplied (S .A) (S .B) buf) (shadow2 (S .A) (S .B) buf) h s2 t2 said2 said (suc (X .n)) Y y (X .heard) (omega arith) in
+            inl (_, _, hears2 buf refl (c .word) (c .among) (hear-zero buf acc (lent2 S buf) s2 (c .word) (lent2-zero buf acc buf (acc .deals)) (c .completes)))
         go (no l) x (inr e) =
-            let p : at-n (X .n) ≡ at-n (Y .n) = sym (rest-later (act (S .A) (S .B)) (all w S) (j₀ w S) (Y .n) (X .n) (omega arith) e) in
+            let p : at-n (X .n) ≡ at-n (Y .n) = sym (rest-later (act (S .A) (S .B)) (all S) (j₀ S) (Y .n) (X .n) (omega arith) e) in
             inr (both-ended p (rw (← p) at e))
 
   -- where some order is not finished, some call completes
-  pub progress : {cs : List Call} {v : World} → Run w S cs v → Accepted w S (buffer-of v) → Onward v ⊎ Ended v
-  progress {v} r acc = go v (kept w S r) acc
+  pub progress : {cs : List Call} {v : World} → Run S cs v → Accepted S (buffer-of v) → Onward v ⊎ Ended v
+  progress {v} r acc = go v (kept S r) acc
     where
-      go : (v : World) → Ok w S v → Accepted w S (buffer-of v) → Onward v ⊎ Ended v
+      go : (v : World) → Ok S v → Accepted S (buffer-of v) → Onward v ⊎ Ended v
       go _ (ok {buf = buf} (not-yet {r = r} h) one two a) acc = inl (_, _, prepares (prepare-zero buf acc r))
       go _ (ok {buf = buf} (dealt-all p g h e) (wait1 {s = s} q) two a) acc =
-          inl (_, _, starts1 [] (start-zero buf acc (lent1 w S []) (registers s) (lent1-zero buf acc [])))
+          inl (_, _, starts1 [] (start-zero buf acc (lent1 S []) (registers (S .script .slots) s) (lent1-zero buf acc [])))
       go _ (ok {buf = buf} (dealt-all p g h e) (go1 X) (wait2 {s = s} q) a) acc =
-          inl (_, _, starts2 buf refl (start-zero buf acc (lent2 w S buf) (registers s) (lent2-zero buf acc buf (acc .deals))))
+          inl (_, _, starts2 buf refl (start-zero buf acc (lent2 S buf) (registers (S .script .slots) s) (lent2-zero buf acc buf (acc .deals))))
       go _ (ok {buf = buf} (dealt-all p g h e) (go1 X) (go2 Y) a) acc = move _ buf _ _ _ _ _ _ X Y p g acc
 
   -- "A run of a job accepted with its lists, after which only refused calls can stand, has finished every order."
-  pub stuck-ended : {cs : List Call} {v : World} → Run w S cs v → Accepted w S (buffer-of v) → ((c : Call) (v′ : World) → Completes w S c v v′ → ⊥) → Ended v
+  pub stuck-ended : {cs : List Call} {v : World} → Run S cs v → Accepted S (buffer-of v) → ((c : Call) (v′ : World) → Completes S c v v′ → ⊥) → Ended v
   stuck-ended {v} r acc n = go (progress r acc)
     where
       go : Onward v ⊎ Ended v → Ended v

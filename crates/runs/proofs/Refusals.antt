@@ -9,6 +9,7 @@ use lib.ListN.{length, take, drop, replicate, take-append-drop, length-take}
 use lib.Seq.{take-append-le, take-all}
 use Rattle.gates.specs.Parties.{Pair}
 use Rattle.jobs.specs.Job.{Fault}
+use Rattle.parties.specs.Scripts.{Script}
 use Rattle.parties.specs.Lent.{Lent, party-of, lent-fault, dealer-fault}
 use Rattle.parties.specs.Calls.{State, Answer, fresh, report, unless, given, start-walk, start, place-fault, hear-walk, found-of, resume, hear, prepared, prepare}
 use Rattle.runs.specs.Runs.{registers, Turned, at-start, at-hearing}
@@ -25,51 +26,51 @@ unfolding unless
 unless-state zero f s a e h k = k h
 unless-state (suc n) f s a e h k = refl
 
-pub start-none : (w : ℕ) (L : Lent) (r : Pair) → start w L r .number ≡ 0 → (lent-fault w L .0 ≡ 0) × (start w L r ≡ report (party-of L) (start-walk w L r))
+pub start-none : (L : Lent) (r : Pair) → start L r .number ≡ 0 → (lent-fault L .0 ≡ 0) × (start L r ≡ report (party-of L) (start-walk L r))
 unfolding start
-start-none w L r h = unless-none (lent-fault w L .0) (lent-fault w L) (given r) (report (party-of L) (start-walk w L r)) refl h
+start-none L r h = unless-none (lent-fault L .0) (lent-fault L) (given r) (report (party-of L) (start-walk L r)) refl h
 
-pub start-state : (w : ℕ) (L : Lent) (r : Pair) → start w L r .number ≢ 0 → start w L r .state ≡ given r
+pub start-state : (L : Lent) (r : Pair) → start L r .number ≢ 0 → start L r .state ≡ given r
 unfolding start
-start-state w L r h = unless-state (lent-fault w L .0) (lent-fault w L) (given r) (report (party-of L) (start-walk w L r)) refl h (λ k. absurd (k refl))
+start-state L r h = unless-state (lent-fault L .0) (lent-fault L) (given r) (report (party-of L) (start-walk L r)) refl h (λ k. absurd (k refl))
 
-pub hear-none : (w : ℕ) (L : Lent) (s : State) (v : ℕ) → hear w L s v .number ≡ 0 → (lent-fault w L .0 ≡ 0) × (hear w L s v ≡ resume (party-of L) s v (found-of w L s))
+pub hear-none : (L : Lent) (s : State) (v : ℕ) → hear L s v .number ≡ 0 → (lent-fault L .0 ≡ 0) × (hear L s v ≡ resume (party-of L) s v (found-of L s))
 unfolding hear
-hear-none w L s v h = unless-none (lent-fault w L .0) (lent-fault w L) s (resume (party-of L) s v (found-of w L s)) refl h
+hear-none L s v h = unless-none (lent-fault L .0) (lent-fault L) s (resume (party-of L) s v (found-of L s)) refl h
 
-pub hear-state : (w : ℕ) (L : Lent) (s : State) (v : ℕ) → hear w L s v .number ≢ 0 → hear w L s v .state ≡ s
+pub hear-state : (L : Lent) (s : State) (v : ℕ) → hear L s v .number ≢ 0 → hear L s v .state ≡ s
 unfolding hear resume
-hear-state w L s v h =
-    let f = found-of w L s in
+hear-state L s v h =
+    let f = found-of L s in
     let P = party-of L in
-    unless-state (lent-fault w L .0) (lent-fault w L) s (unless (place-fault f) (place-fault f, 0) s (report P (hear-walk P s v f))) refl h
+    unless-state (lent-fault L .0) (lent-fault L) s (unless (place-fault f) (place-fault f, 0) s (report P (hear-walk P s v f))) refl h
     (λ k. unless-state (place-fault f) (place-fault f, 0) s (report P (hear-walk P s v f)) refl k (λ z. absurd (z refl)))
 
-prepared-back : (n : ℕ) (f : Fault) (w : ℕ) (job table A B buf : List ℕ) (r : Pair) → f .0 ≡ n → prepared n f w job table A B buf r .number ≢ 0
-    → (prepared n f w job table A B buf r .masks ≡ r) × (prepared n f w job table A B buf r .buffer ≡ buf)
+prepared-back : (n : ℕ) (f : Fault) (σ : Script) (A B buf : List ℕ) (r : Pair) → f .0 ≡ n → prepared n f σ A B buf r .number ≢ 0
+    → (prepared n f σ A B buf r .masks ≡ r) × (prepared n f σ A B buf r .buffer ≡ buf)
 unfolding prepared
-prepared-back zero f w job table A B buf r e h = absurd (h refl)
-prepared-back (suc n) f w job table A B buf r e h = (refl, refl)
+prepared-back zero f σ A B buf r e h = absurd (h refl)
+prepared-back (suc n) f σ A B buf r e h = (refl, refl)
 
-pub prepare-back : (w : ℕ) (job table A B buf : List ℕ) (r : Pair) → prepare w job table A B buf r .number ≢ 0
-    → (prepare w job table A B buf r .masks ≡ r) × (prepare w job table A B buf r .buffer ≡ buf)
+pub prepare-back : (σ : Script) (A B buf : List ℕ) (r : Pair) → prepare σ A B buf r .number ≢ 0
+    → (prepare σ A B buf r .masks ≡ r) × (prepare σ A B buf r .buffer ≡ buf)
 unfolding prepare
-prepare-back w job table A B buf r h = prepared-back (dealer-fault w job table A B buf .0) (dealer-fault w job table A B buf) w job table A B buf r refl h
+prepare-back σ A B buf r h = prepared-back (dealer-fault σ A B buf .0) (dealer-fault σ A B buf) σ A B buf r refl h
 
--- ---- a refused starting or hearing, on a state of sixteen registers and more
+-- ---- a refused starting or hearing, on a state of n slots and more
 
-pub record Sixteen (s : State) : Type 0 where
-  pub m : 16 ≤ length (s .m)
-  pub mask : 16 ≤ length (s .mask)
+pub record Holds (n : ℕ) (s : State) : Type 0 where
+  pub m : n ≤ length (s .m)
+  pub mask : n ≤ length (s .mask)
 
-take-fresh : (l : List ℕ) → 16 ≤ length l → take 16 (fresh (take 16 l)) ++ drop 16 l ≡ l
+take-fresh : (n : ℕ) (l : List ℕ) → n ≤ length l → take n (fresh (take n l)) ++ drop n l ≡ l
 unfolding fresh
-take-fresh l h =
-    let n : length (take 16 l) ≡ 16 = length-take 16 l ∙ min-eq-left h in
-    ap (λ (x : List ℕ). x ++ drop 16 l) (take-append-le 16 (take 16 l) (replicate 8 0) (omega arith) ∙ take-all 16 (take 16 l) (omega arith)) ∙ take-append-drop 16 l
+take-fresh n l h =
+    let k : length (take n l) ≡ n = length-take n l ∙ min-eq-left h in
+    ap (λ (x : List ℕ). x ++ drop n l) (take-append-le n (take n l) (replicate 8 0) (omega arith) ∙ take-all n (take n l) (omega arith)) ∙ take-append-drop n l
 
-pub turned-same : (w : ℕ) {s s′ : State} → Sixteen s → Turned w s s′ → s′ ≡ s
+pub turned-same : (n : ℕ) {s s′ : State} → Holds n s → Turned n s s′ → s′ ≡ s
 unfolding given
-turned-same w {s} z (at-start L h) =
-    rw (start-state w L (registers s) h, take-fresh (s .m) (z .m), take-fresh (s .mask) (z .mask))
-turned-same w {s} z (at-hearing L v h) = hear-state w L s v h
+turned-same n {s} z (at-start L h) =
+    rw (start-state L (registers n s) h, take-fresh n (s .m) (z .m), take-fresh n (s .mask) (z .mask))
+turned-same n {s} z (at-hearing L v h) = hear-state L s v h

@@ -1,4 +1,4 @@
--- A host that has started was lent an accepted job, with lists that are long enough. Assumes nothing.
+-- A host that has started was lent an accepted script, with lists that are long enough. Assumes nothing.
 use mathlib.Core.Path.{_≡_, refl}
 use mathlib.Core.Bool.{Bool, true, false, cond}
 use mathlib.Core.List.{List}
@@ -8,9 +8,10 @@ use native.Mathlib.Omega.{arith}
 use borrow.Author.Tests.{eqb-true, eqb-false, ltb-false}
 use lib.Dec.{eqb, ltb}
 use lib.ListN.{length}
-use Rattle.jobs.specs.Job.{Fault, job-fault, job-cost, short-a}
+use Rattle.jobs.specs.Job.{Fault, short-a}
+use Rattle.parties.specs.Scripts.{script-cost}
 use Rattle.parties.specs.Lent.{or-else, lists-fault, lent-fault}
-use Rattle.runs.specs.Runs.{Setting, waiting, going, World, world, Refuses, dealer, dealer-later, dealer-elsewhere, dealer-later-elsewhere, one-waiting, two-waiting, one-going, two-going, Call, registers, lent1, Completes, prepares, starts1, starts2, hears1, hears2, Run, begin, complete, refuse, order1}
+use Rattle.runs.specs.Runs.{Stage, waiting, going, World, world, Refuses, dealer, dealer-later, dealer-elsewhere, dealer-later-elsewhere, one-waiting, two-waiting, one-going, two-going, Call, registers, lent1, Completes, prepares, starts1, starts2, hears1, hears2, Run, begin, complete, refuse, order1}
 use Rattle.runs.proofs.Refusals.{start-none}
 
 pub or-else-none : (f : Fault) (n : ℕ) → or-else f n .0 ≡ 0 → (f .0 ≡ 0) × (n ≡ 0)
@@ -26,39 +27,39 @@ Gone (world z buf (waiting s) two) = ⊥
 Gone (world z buf (going s t said) two) = Unit
 
 -- what host 1's starting was checked for
-pub record Checked (w : ℕ) (S : Setting) : Type 0 where
-  pub job : job-fault w (S .job) (S .table) .0 ≡ 0
-  pub a : job-cost w (S .job) (S .table) .a ≤ length (S .A)
+pub record Checked (S : Stage) : Type 0 where
+  pub script : S .script .fault .0 ≡ 0
+  pub a : script-cost (S .script) .a ≤ length (S .A)
 
-checked-of : (w : ℕ) (S : Setting) (D : List ℕ) → lent-fault w (lent1 w S D) .0 ≡ 0 → Checked w S
+checked-of : (S : Stage) (D : List ℕ) → lent-fault (lent1 S D) .0 ≡ 0 → Checked S
 unfolding lent-fault lists-fault short-a
-checked-of w S D e =
-    let p = or-else-none (job-fault w (S .job) (S .table)) _ e in
-    record { job = p .0; a = go (ltb (length (S .A)) (job-cost w (S .job) (S .table) .a)) refl (p .1) }
+checked-of S D e =
+    let p = or-else-none (S .script .fault) _ e in
+    record { script = p .0; a = go (ltb (length (S .A)) (script-cost (S .script) .a)) refl (p .1) }
   where
-    go : (b : Bool) → ltb (length (S .A)) (job-cost w (S .job) (S .table) .a) ≡ b → _≡_ {A = ℕ} (cond b 6 0) 0 → job-cost w (S .job) (S .table) .a ≤ length (S .A)
+    go : (b : Bool) → ltb (length (S .A)) (script-cost (S .script) .a) ≡ b → _≡_ {A = ℕ} (cond b 6 0) 0 → script-cost (S .script) .a ≤ length (S .A)
     go true t h = absurd (omega arith)
-    go false t h = ltb-false (length (S .A)) (job-cost w (S .job) (S .table) .a) t
+    go false t h = ltb-false (length (S .A)) (script-cost (S .script) .a) t
 
-module _ (w : ℕ) (S : Setting) where
-  completed : {c : Call} {v v′ : World} → Completes w S c v v′ → (Gone v → Checked w S) → Gone v′ → Checked w S
+module _ (S : Stage) where
+  completed : {c : Call} {v v′ : World} → Completes S c v v′ → (Gone v → Checked S) → Gone v′ → Checked S
   completed (prepares {one = waiting s} e) h g = absurd g
   completed (prepares {one = going s t said} e) h g = h tt
-  completed (starts1 {s = s} D e) h g = checked-of w S D (start-none w (lent1 w S D) (registers s) e .0)
+  completed (starts1 {s = s} D e) h g = checked-of S D (start-none (lent1 S D) (registers (S .script .slots) s) e .0)
   completed (starts2 {one = waiting s} D d e) h g = absurd g
   completed (starts2 {one = going s t said} D d e) h g = h tt
   completed (hears1 D v m e) h g = h tt
   completed (hears2 D d v m e) h g = h tt
 
-  refused : {v v′ : World} → Refuses w v v′ → (Gone v → Checked w S) → Gone v′ → Checked w S
-  refused (dealer {one = waiting s} job table A B e) h g = absurd g
-  refused (dealer {one = going s t said} job table A B e) h g = h tt
-  refused (dealer-later {one = waiting s} job table A B e) h g = absurd g
-  refused (dealer-later {one = going s t said} job table A B e) h g = h tt
-  refused (dealer-elsewhere {one = waiting s} job table A B b e) h g = absurd g
-  refused (dealer-elsewhere {one = going s t said} job table A B b e) h g = h tt
-  refused (dealer-later-elsewhere {one = waiting s} job table A B b e) h g = absurd g
-  refused (dealer-later-elsewhere {one = going s t said} job table A B b e) h g = h tt
+  refused : {v v′ : World} → Refuses (S .script .slots) v v′ → (Gone v → Checked S) → Gone v′ → Checked S
+  refused (dealer {one = waiting s} σ A B e) h g = absurd g
+  refused (dealer {one = going s t said} σ A B e) h g = h tt
+  refused (dealer-later {one = waiting s} σ A B e) h g = absurd g
+  refused (dealer-later {one = going s t said} σ A B e) h g = h tt
+  refused (dealer-elsewhere {one = waiting s} σ A B b e) h g = absurd g
+  refused (dealer-elsewhere {one = going s t said} σ A B b e) h g = h tt
+  refused (dealer-later-elsewhere {one = waiting s} σ A B b e) h g = absurd g
+  refused (dealer-later-elsewhere {one = going s t said} σ A B b e) h g = h tt
   refused (one-waiting e) h g = absurd g
   refused (two-waiting {one = waiting s} e) h g = absurd g
   refused (two-waiting {one = going s t said} e) h g = h tt
@@ -66,12 +67,12 @@ module _ (w : ℕ) (S : Setting) where
   refused (two-going {one = waiting s} e) h g = absurd g
   refused (two-going {one = going s t said} e) h g = h tt
 
-  gone : {cs : List Call} {v : World} → Run w S cs v → Gone v → Checked w S
+  gone : {cs : List Call} {v : World} → Run S cs v → Gone v → Checked S
   gone (begin h k) g = absurd g
   gone (complete r c) g = completed c (λ h. gone r h) g
   gone (refuse r c) g = refused c (λ h. gone r h) g
 
-  -- a run in which host 1 is past an order is one of an accepted job
-  pub past-checked : {cs : List Call} (v : World) (q : ℕ) → Run w S cs v → q < order1 v → Checked w S
+  -- a run in which host 1 is past an order is one of an accepted script
+  pub past-checked : {cs : List Call} (v : World) (q : ℕ) → Run S cs v → q < order1 v → Checked S
   past-checked (world z buf (waiting s) two) q r l = absurd (not-suc-le-zero l)
   past-checked (world z buf (going s t said) two) q r l = gone r tt

@@ -8,7 +8,8 @@ use lib.Dec.{eqb}
 use Rattle.gates.specs.Parties.{Pair}
 use Rattle.gates.specs.Steps.{local, deal, exchange, end}
 use Rattle.tables.specs.Table.{keeps-rules}
-use Rattle.jobs.specs.Job.{orders, ill-sized, orders-fault, job-cost, short-a, short-b, short-deals}
+use Rattle.jobs.specs.Job.{orders, ill-sized, orders-fault, short-a, short-b, short-deals}
+use Rattle.parties.specs.Scripts.{Script, script-cost}
 use Rattle.parties.specs.Places.{Found, nowhere, found}
 use Rattle.parties.specs.Lent.{Lent}
 use Rattle.parties.specs.Calls.{State, given, start, found-of, hear, prepare}
@@ -35,14 +36,13 @@ job-conditions w job table =
     ∷ (5, eqb (orders-fault w (keeps-rules table) (orders job) 0 .0) 5) ∷ []
 
 -- 6 and 7, host by host: "host 0: A and B; host 1: A; host 2: B"; "hosts 0 and 2"
-unfoldable pub dealer-lists : (w : ℕ) (job table A B buffer : List ℕ) → Conditions
-dealer-lists w job table A B D =
-    (6, short-a (job-cost w job table) A || short-b (job-cost w job table) B) ∷ (7, short-deals (job-cost w job table) D) ∷ []
+unfoldable pub dealer-lists : Script → (A B buffer : List ℕ) → Conditions
+dealer-lists σ A B D = (6, short-a (script-cost σ) A || short-b (script-cost σ) B) ∷ (7, short-deals (script-cost σ) D) ∷ []
 
-unfoldable pub host-lists : ℕ → Lent → Conditions
-host-lists w L =
-    (6, cond (eqb (L .host) 1) (short-a (job-cost w (L .job) (L .table)) (L .masks)) (short-b (job-cost w (L .job) (L .table)) (L .masks)))
-    ∷ (7, not (eqb (L .host) 1) && short-deals (job-cost w (L .job) (L .table)) (L .deals)) ∷ []
+unfoldable pub host-lists : Lent → Conditions
+host-lists L =
+    (6, cond (eqb (L .host) 1) (short-a (script-cost (L .script)) (L .masks)) (short-b (script-cost (L .script)) (L .masks)))
+    ∷ (7, not (eqb (L .host) 1) && short-deals (script-cost (L .script)) (L .deals)) ∷ []
 
 -- "8. The state's place is neither the end nor a product or refresh of this job."
 unfoldable pub misplaced : Found → Bool
@@ -59,27 +59,37 @@ at-end nowhere = false
 at-end (found [] c) = true
 at-end (found (x ∷ ss) c) = false
 
--- ---- "preparation 2 to 7, starting 1 to 7, hearing 1 to 9"
+-- ---- "preparation 2 to 7, starting 1 to 7, hearing 1 to 9", where cs are the conditions of what is run: for a job 2 to 5
 
-unfoldable pub preparing-checks : (w : ℕ) (job table A B buffer : List ℕ) → Conditions
-preparing-checks w job table A B D = job-conditions w job table ++ dealer-lists w job table A B D
+unfoldable pub preparing-checks : Conditions → Script → (A B buffer : List ℕ) → Conditions
+preparing-checks cs σ A B D = cs ++ dealer-lists σ A B D
 
-unfoldable pub starting-checks : ℕ → Lent → Conditions
-starting-checks w L = (1, foreign L) ∷ (job-conditions w (L .job) (L .table) ++ host-lists w L)
+unfoldable pub starting-checks : Conditions → Lent → Conditions
+starting-checks cs L = (1, foreign L) ∷ (cs ++ host-lists L)
 
-unfoldable pub hearing-checks : ℕ → Lent → State → Conditions
-hearing-checks w L s = starting-checks w L ++ ((8, misplaced (found-of w L s)) ∷ (9, at-end (found-of w L s)) ∷ [])
+unfoldable pub hearing-checks : Conditions → Lent → State → Conditions
+hearing-checks cs L s = starting-checks cs L ++ ((8, misplaced (found-of L s)) ∷ (9, at-end (found-of L s)) ∷ [])
+
+-- no condition has the number 0
+abbrev pub Positive : Conditions → Type 0
+Positive [] = Unit
+Positive (c ∷ cs) = (eqb (c .0) 0 ≡ false) × Positive cs
+
+-- a script's fault is the first of the conditions cs that holds
+pub record Tells (σ : Script) (cs : Conditions) : Type 0 where
+  pub first : σ .fault .0 ≡ reached cs
+  pub numbered : Positive cs
 
 -- a call's answer in the words of demand 1: the number reached first; where it is not 0 nothing is changed, and every other number but the index is 0
-pub record Preparing (w : ℕ) : Type 0 where
-  pub number : (job table A B D : List ℕ) (r : Pair) → prepare w job table A B D r .number ≡ reached (preparing-checks w job table A B D)
-  pub unchanged : (job table A B D : List ℕ) (r : Pair) → prepare w job table A B D r .number ≢ 0
-      → (prepare w job table A B D r .masks ≡ r) × (prepare w job table A B D r .buffer ≡ D) × (prepare w job table A B D r .deals ≡ 0)
+pub record Preparing : Type 0 where
+  pub number : (σ : Script) (cs : Conditions) → Tells σ cs → (A B D : List ℕ) (r : Pair) → prepare σ A B D r .number ≡ reached (preparing-checks cs σ A B D)
+  pub unchanged : (σ : Script) (A B D : List ℕ) (r : Pair) → prepare σ A B D r .number ≢ 0
+      → (prepare σ A B D r .masks ≡ r) × (prepare σ A B D r .buffer ≡ D) × (prepare σ A B D r .deals ≡ 0)
 
-pub record Starting (w : ℕ) : Type 0 where
-  pub number : (L : Lent) (r : Pair) → start w L r .number ≡ reached (starting-checks w L)
-  pub unchanged : (L : Lent) (r : Pair) → start w L r .number ≢ 0 → (start w L r .state ≡ given r) × (start w L r .spoken ≡ 0) × (start w L r .word ≡ 0)
+pub record Starting : Type 0 where
+  pub number : (L : Lent) (cs : Conditions) → Tells (L .script) cs → (r : Pair) → start L r .number ≡ reached (starting-checks cs L)
+  pub unchanged : (L : Lent) (r : Pair) → start L r .number ≢ 0 → (start L r .state ≡ given r) × (start L r .spoken ≡ 0) × (start L r .word ≡ 0)
 
-pub record Hearing (w : ℕ) : Type 0 where
-  pub number : (L : Lent) (s : State) (v : ℕ) → hear w L s v .number ≡ reached (hearing-checks w L s)
-  pub unchanged : (L : Lent) (s : State) (v : ℕ) → hear w L s v .number ≢ 0 → (hear w L s v .state ≡ s) × (hear w L s v .spoken ≡ 0) × (hear w L s v .word ≡ 0)
+pub record Hearing : Type 0 where
+  pub number : (L : Lent) (cs : Conditions) → Tells (L .script) cs → (s : State) (v : ℕ) → hear L s v .number ≡ reached (hearing-checks cs L s)
+  pub unchanged : (L : Lent) (s : State) (v : ℕ) → hear L s v .number ≢ 0 → (hear L s v .state ≡ s) × (hear L s v .spoken ≡ 0) × (hear L s v .word ≡ 0)

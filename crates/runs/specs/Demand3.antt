@@ -5,7 +5,7 @@ use mathlib.Core.List.{List}
 use Prim.Native.Nat.{ℕ, _+_, _*_, _^_, _<_}
 use lib.Dec.{T}
 use lib.IntN.{ℤ, pos, _+ℤ_}
-use lib.ListN.{length, set}
+use lib.ListN.{set}
 use lib.Signed.{leZ, _≤ℤ_}
 use Rattle.words.specs.Words.{numbers}
 use Rattle.words.specs.Signed.{floor, signed, wrap, in-range}
@@ -16,13 +16,13 @@ use Rattle.curves.specs.Curve.{scaled, line, last-count, Near}
 use Rattle.curves.specs.Count.{count}
 use Rattle.circuits.specs.Programs.{sum-program}
 use Rattle.circuits.specs.Costs.{program-cost}
-use Rattle.jobs.specs.Job.{orders}
-use Rattle.runs.specs.Runs.{Setting, World, Call, Completes, Run, Finished, opened-after, buffer-of, Accepted}
-use Rattle.runs.specs.Orders.{Words, slot, before-order, order-at, counts-before, refresh-mask}
+use Rattle.parties.specs.Scripts.{orders-in}
+use Rattle.runs.specs.Runs.{Stage, Setting, staged, World, Call, Completes, Run, Finished, opened-after, buffer-of, Accepted}
+use Rattle.runs.specs.Orders.{Words, slot, before-order, order-of, used-before, refresh-mask}
 
 -- "x is the signed reading of what the order's source opens just before it"
 unfoldable pub reading : Setting → ℕ → ℤ
-reading S q = signed 32 (value (numbers 32) (slot (before-order 32 S q) (order-at S q .source)))
+reading S q = signed 32 (value (numbers 32) (slot (before-order (staged 32 S) q) (order-of S q .source)))
 
 -- Y of that reading
 unfoldable pub Y-of : Setting → ℕ → ℤ
@@ -30,27 +30,27 @@ Y-of S q = scaled (rows (S .table)) (reading S q)
 
 -- order q is a curve, in exact mode or in one-bit mode
 pub record Exact (S : Setting) (q : ℕ) : Type 0 where
-  pub kind : order-at S q .kind ≡ 10
-  pub mode : order-at S q .fourth ≡ 0
+  pub kind : order-of S q .kind ≡ 10
+  pub mode : order-of S q .fourth ≡ 0
 
 pub record OneBit (S : Setting) (q : ℕ) : Type 0 where
-  pub kind : order-at S q .kind ≡ 10
-  pub mode : order-at S q .fourth ≡ 1
+  pub kind : order-of S q .kind ≡ 10
+  pub mode : order-of S q .fourth ≡ 1
 
 -- what order q opens after a run: the number, 0 for none, and the value
 abbrev pub opens : Setting → World → ℕ → ℕ × ℤ
-opens S v q = opened-after 32 v q (order-at S q .target)
+opens S v q = opened-after 32 v q (order-of S q .target)
 
 -- a run that finishes order q
-pub record Finishes (S : Setting) (q : ℕ) (v : World) : Type 0 where
+pub record Finishes (S : Stage) (q : ℕ) (v : World) : Type 0 where
   pub words : Words 32 S
   pub calls : List Call
-  pub run : Run 32 S calls v
+  pub run : Run S calls v
   pub finished : Finished v q
 
 -- the place of the refresh's word in list A
 unfoldable pub refresh-place : Setting → ℕ → ℕ
-refresh-place S q = counts-before 32 S q .a + program-cost 32 (sum-program 32 (order-at S q .source) (rows (S .table))) .a
+refresh-place S q = used-before 32 S q .a + program-cost 32 (sum-program 32 (order-of S q .source) (rows (S .table))) .a
 
 -- the same setting with another word there: "alike in job, table, registers and every other mask word"
 unfoldable pub with-word : Setting → ℕ → ℕ → Setting
@@ -81,22 +81,22 @@ pub record Alike (S S′ : Setting) : Type 0 where
 
 pub record Demand3 : Type 0 where
   -- "each finished curve order, for every reading from -2^30 to 2^30 - 1 and every table that keeps document 01's rules, opens exactly floor(Y / 4096) in exact mode"
-  pub exact : (S : Setting) (q : ℕ) (v : World) → Finishes S q v → Exact S q → T (in-range 32 (reading S q)) → opens S v q ≡ (0, floor (Y-of S q) 4096)
+  pub exact : (S : Setting) (q : ℕ) (v : World) → Finishes (staged 32 S) q v → Exact S q → T (in-range 32 (reading S q)) → opens S v q ≡ (0, floor (Y-of S q) 4096)
   -- "In one-bit mode it opens one more exactly when (Y mod 4096) + (L mod 4096) is at least 4096, else the same; L is the sum of the two mask words of the curve's refresh."
-  pub one-bit : (S : Setting) (q : ℕ) (v : World) → Finishes S q v → OneBit S q → T (in-range 32 (reading S q))
+  pub one-bit : (S : Setting) (q : ℕ) (v : World) → Finishes (staged 32 S) q v → OneBit S q → T (in-range 32 (reading S q))
       → opens S v q ≡ (0, floor (Y-of S q) 4096 +ℤ pos (slip 12 (wrap 12 (Y-of S q)) (refresh-mask 32 S q)))
   -- "Over the 2^32 values of that refresh's list A word, in runs that finish the order and are alike in job, table, registers and every other mask word,
   -- exactly (Y mod 4096) × 2^20 give one more."
-  pub slips : (S : Setting) (q : ℕ) (v : ℕ → World) → Words 32 S → ((a : ℕ) → a < 2 ^ 32 → Finishes (with-word S q a) q (v a))
+  pub slips : (S : Setting) (q : ℕ) (v : ℕ → World) → Words 32 (staged 32 S) → ((a : ℕ) → a < 2 ^ 32 → Finishes (staged 32 (with-word S q a)) q (v a))
       → OneBit S q → T (in-range 32 (reading S q))
       → count (2 ^ 32) (λ a. eqZ (opens S (v a) q .1) (floor (Y-of S q) 4096 +ℤ pos 1)) ≡ wrap 12 (Y-of S q) * 2 ^ 20
   -- "In both modes the value is above C - 2 and below C + 1."
-  pub near-exact : (S : Setting) (q : ℕ) (v : World) → Finishes S q v → Exact S q → T (in-range 32 (reading S q)) → Near (line (rows (S .table)) (reading S q)) (opens S v q .1)
-  pub near-one-bit : (S : Setting) (q : ℕ) (v : World) → Finishes S q v → OneBit S q → T (in-range 32 (reading S q)) → Near (line (rows (S .table)) (reading S q)) (opens S v q .1)
+  pub near-exact : (S : Setting) (q : ℕ) (v : World) → Finishes (staged 32 S) q v → Exact S q → T (in-range 32 (reading S q)) → Near (line (rows (S .table)) (reading S q)) (opens S v q .1)
+  pub near-one-bit : (S : Setting) (q : ℕ) (v : World) → Finishes (staged 32 S) q v → OneBit S q → T (in-range 32 (reading S q)) → Near (line (rows (S .table)) (reading S q)) (opens S v q .1)
   -- "Two runs of one job on the same lists and table that finish a curve order, its source opening to the last row's count in one and to a larger one in the other,
   -- open that order alike."
-  pub saturated : (S S′ : Setting) (q : ℕ) (v v′ : World) → Alike S S′ → Finishes S q v → Finishes S′ q v′ → order-at S q .kind ≡ 10
+  pub saturated : (S S′ : Setting) (q : ℕ) (v v′ : World) → Alike S S′ → Finishes (staged 32 S) q v → Finishes (staged 32 S′) q v′ → order-of S q .kind ≡ 10
       → reading S q ≡ pos (last-count (rows (S .table))) → pos (last-count (rows (S .table))) ≤ℤ reading S′ q → opens S v q ≡ opens S′ v′ q
   -- "A run of a job accepted with its lists, after which only refused calls can stand, has finished every order."
-  pub finishes : (S : Setting) (v : World) (cs : List Call) → Run 32 S cs v → Accepted 32 S (buffer-of v) → ((c : Call) (v′ : World) → Completes 32 S c v v′ → ⊥)
-      → (q : ℕ) → q < length (orders (S .job)) → Finished v q
+  pub finishes : (S : Stage) (v : World) (cs : List Call) → Run S cs v → Accepted S (buffer-of v) → ((c : Call) (v′ : World) → Completes S c v v′ → ⊥)
+      → (q : ℕ) → q < orders-in (S .script) → Finished v q

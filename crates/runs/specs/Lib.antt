@@ -3,3 +3,9 @@ pub mod Orders
 pub mod Demand3
 pub mod Demand1
 pub mod Demand2
+pub mod Returned
+pub mod InOrder
+pub mod Strict
+pub mod Numbers
+pub mod Whole
+pub mod ReturnedCurves

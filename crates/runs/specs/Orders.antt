@@ -1,11 +1,14 @@
 -- What an order of a run finds and leaves: the three hosts' shares on the joint walk before it and after it, and the mask of a curve's refresh. Assumes nothing.
+use mathlib.Core.Path.{_≡_}
+use mathlib.Core.Bool.{false}
 use mathlib.Core.List.{List, [], _∷_}
 use Prim.Native.Nat.{ℕ, zero, suc, _+_, _^_, _<_}
+use lib.Dec.{eqb}
 use lib.ListN.{getD}
 use Rattle.words.specs.Words.{add}
 use Rattle.shares.specs.Gates.{Share}
 use Rattle.tables.specs.Table.{rows}
-use Rattle.gates.specs.Steps.{at, origin}
+use Rattle.gates.specs.Steps.{at, Step, local, deal, exchange, end, origin}
 use Rattle.gates.specs.Walk.{whole}
 use Rattle.gates.specs.Parties.{Triple, act}
 use Rattle.gates.specs.Costs.{Cost, cost-of, plus}
@@ -13,12 +16,12 @@ use Rattle.gates.specs.declared.Gate.{Gate}
 use Rattle.circuits.specs.declared.Order.{Order}
 use Rattle.circuits.specs.Programs.{sum-program}
 use Rattle.circuits.specs.Costs.{program-cost}
-use Rattle.jobs.specs.Job.{orders, job-gates, steps-of}
+use Rattle.jobs.specs.Job.{orders, job-gates}
 use Rattle.parties.specs.Calls.{fresh}
-use Rattle.runs.specs.Runs.{Setting}
+use Rattle.runs.specs.Runs.{Stage, Setting}
 
 -- all that the run is lent and given are words
-pub record Words (w : ℕ) (S : Setting) : Type 0 where
+pub record Words (w : ℕ) (S : Stage) : Type 0 where
   pub A : (i : ℕ) → at (S .A) i < 2 ^ w
   pub B : (i : ℕ) → at (S .B) i < 2 ^ w
   pub rm : (i : ℕ) → at (S .rm) i < 2 ^ w
@@ -26,28 +29,46 @@ pub record Words (w : ℕ) (S : Setting) : Type 0 where
   pub r2 : (i : ℕ) → at (S .r2) i < 2 ^ w
 
 -- the lanes m, L1 and L2 of all registers at the start
-abbrev pub first : Setting → Triple
+abbrev pub first : Stage → Triple
 first S = (fresh (S .rm), fresh (S .r1), fresh (S .r2))
 
 -- as each order leaves them, in order
-unfoldable pub trail : ℕ → Setting → List Triple
-trail w S = whole (act (S .A) (S .B)) (steps-of w (S .job) (S .table)) origin (first S) [] .trail
+unfoldable pub trail : Stage → List Triple
+trail S = whole (act (S .A) (S .B)) (S .script .steps) origin (first S) [] .trail
 
 -- as order q leaves them, and just before it
-unfoldable pub after-order : ℕ → Setting → ℕ → Triple
-after-order w S q = getD (trail w S) q (first S)
+unfoldable pub after-order : Stage → ℕ → Triple
+after-order S q = getD (trail S) q (first S)
 
-unfoldable pub before-order : ℕ → Setting → ℕ → Triple
-before-order w S zero = first S
-before-order w S (suc q) = after-order w S q
+unfoldable pub before-order : Stage → ℕ → Triple
+before-order S zero = first S
+before-order S (suc q) = after-order S q
 
 -- the share in slot i
 abbrev pub slot : Triple → ℕ → Share ℕ
 slot j i = record { m = at (j .0) i; l1 = at (j .1) i; l2 = at (j .2) i }
 
+-- no step of order q has slot i as its target
+abbrev pub Unwritten : (i q : ℕ) → List Step → Type 0
+Unwritten i q [] = Unit
+Unwritten i zero (local d m l ∷ ss) = (eqb i d ≡ false) × Unwritten i zero ss
+Unwritten i zero (deal d f ∷ ss) = (eqb i d ≡ false) × Unwritten i zero ss
+Unwritten i zero (exchange d e ∷ ss) = (eqb i d ≡ false) × Unwritten i zero ss
+Unwritten i zero (end ∷ ss) = Unit
+Unwritten i (suc q) (local d m l ∷ ss) = Unwritten i (suc q) ss
+Unwritten i (suc q) (deal d f ∷ ss) = Unwritten i (suc q) ss
+Unwritten i (suc q) (exchange d e ∷ ss) = Unwritten i (suc q) ss
+Unwritten i (suc q) (end ∷ ss) = Unwritten i q ss
+
+-- the sum of the two mask words that stand behind the counts k and all that the gates gs use
+abbrev pub mask-behind : (w : ℕ) (A B : List ℕ) → Cost → List Gate → ℕ
+mask-behind w A B k gs = add w (at A (k .a + program-cost w gs .a)) (at B (k .b + program-cost w gs .b))
+
+-- ---- of a job
+
 -- order q
-unfoldable pub order-at : Setting → ℕ → Order
-order-at S q = getD (orders (S .job)) q (record { kind = 0; target = 0; source = 0; fourth = 0 })
+unfoldable pub order-of : Setting → ℕ → Order
+order-of S q = getD (orders (S .job)) q (record { kind = 0; target = 0; source = 0; fourth = 0 })
 
 -- the counts of the first q of a list of programs
 unfoldable pub first-counts : (w q : ℕ) → List (List Gate) → Cost
@@ -56,11 +77,9 @@ first-counts w (suc q) [] = cost-of 0 0 0 0
 first-counts w (suc q) (g ∷ gs) = plus (program-cost w g) (first-counts w q gs)
 
 -- the counts of the orders before order q
-unfoldable pub counts-before : ℕ → Setting → ℕ → Cost
-counts-before w S q = first-counts w q (job-gates w (S .job) (S .table))
+unfoldable pub used-before : ℕ → Setting → ℕ → Cost
+used-before w S q = first-counts w q (job-gates w (S .job) (S .table))
 
 -- "L is the sum of the two mask words of the curve's refresh": the words of A and of B that come after all that the orders before it and its own sum use
 unfoldable pub refresh-mask : ℕ → Setting → ℕ → ℕ
-refresh-mask w S q =
-    add w (at (S .A) (counts-before w S q .a + program-cost w (sum-program w (order-at S q .source) (rows (S .table))) .a))
-    (at (S .B) (counts-before w S q .b + program-cost w (sum-program w (order-at S q .source) (rows (S .table))) .b))
+refresh-mask w S q = mask-behind w (S .A) (S .B) (used-before w S q) (sum-program w (order-of S q .source) (rows (S .table)))

@@ -1,4 +1,4 @@
--- Document 01, "Stepping": runs of a job, lists of preparation, starting and hearing with refused calls anywhere. Assumes nothing.
+-- Document 01, "Stepping": runs of a script, lists of preparation, starting and hearing with refused calls anywhere; and the runs of a job. Assumes nothing.
 use mathlib.Core.Path.{_≡_}
 use mathlib.Core.Logic.{_≢_, _⊎_}
 use mathlib.Core.List.{List, [], _∷_, _++_}
@@ -7,13 +7,25 @@ use lib.ListN.{getD, take, drop, length}
 use Rattle.shares.specs.Sharing.{Six, reconstruction}
 use Rattle.gates.specs.Steps.{Lane, at}
 use Rattle.gates.specs.Parties.{Pair}
-use Rattle.jobs.specs.Job.{job-fault, job-cost}
+use Rattle.parties.specs.Scripts.{Script, job-script, script-cost}
 use Rattle.parties.specs.Lent.{Lent, party-of}
 use Rattle.parties.specs.Calls.{State, Prepared, start-walk, start, found-of, hear-walk, hear, prepare-walk, prepare}
 use lib.IntN.{ℤ}
 
--- "every call is lent the same job, table and lists": these, and the registers that the hosts are given, which open: host 0 has the masks r1 and r2,
+-- what every call of a run is lent, the script and the lists; and the registers that the hosts are given, which open: host 0 has the masks r1 and r2,
 -- host 1 rm and r1, host 2 rm and r2
+pub record Stage : Type 0 where
+  pub script : Script
+  pub A : List ℕ
+  pub B : List ℕ
+  pub rm : Lane
+  pub r1 : Lane
+  pub r2 : Lane
+  pub rm-full : length rm ≡ script .slots
+  pub r1-full : length r1 ≡ script .slots
+  pub r2-full : length r2 ≡ script .slots
+
+-- "every call is lent the same job, table and lists"
 pub record Setting : Type 0 where
   pub job : List ℕ
   pub table : List ℕ
@@ -25,6 +37,21 @@ pub record Setting : Type 0 where
   pub rm-sixteen : length rm ≡ 16
   pub r1-sixteen : length r1 ≡ 16
   pub r2-sixteen : length r2 ≡ 16
+
+-- a job's stage
+abbrev pub staged : ℕ → Setting → Stage
+staged w S =
+    record {
+      script = job-script w (S .job) (S .table);
+      A = S .A;
+      B = S .B;
+      rm = S .rm;
+      r1 = S .r1;
+      r2 = S .r2;
+      rm-full = S .rm-sixteen;
+      r1-full = S .r1-sixteen;
+      r2-full = S .r2-sixteen;
+    }
 
 -- ---- what the hosts hold
 
@@ -53,90 +80,90 @@ pub data Side : Type 0 where
 pub data World : Type 0 where
   world : Dealer → List ℕ → Side → Side → World
 
-abbrev pub registers : State → Pair
-registers s = (take 16 (s .m), take 16 (s .mask))
+-- the first n slots of a state: for a job n is 16
+abbrev pub registers : (n : ℕ) → State → Pair
+registers n s = (take n (s .m), take n (s .mask))
 
 -- "after a refused starting, with the place and kept words it held"
-abbrev pub with-registers : State → Pair → State
-with-registers s r = record { m = r .0 ++ drop 16 (s .m); mask = r .1 ++ drop 16 (s .mask); order = s .order; turn = s .turn }
+abbrev pub with-registers : (n : ℕ) → State → Pair → State
+with-registers n s r = record { m = r .0 ++ drop n (s .m); mask = r .1 ++ drop n (s .mask); order = s .order; turn = s .turn }
 
 -- ---- refused calls, lent anything: what the host holds next is built from the call's answer
 
-module _ (w : ℕ) where
-  pub data Turned : State → State → Type 0 where
-    at-start : {s : State} (L : Lent) → start w L (registers s) .number ≢ 0 → Turned s (with-registers s (registers (start w L (registers s) .state)))
-    at-hearing : {s : State} (L : Lent) (v : ℕ) → hear w L s v .number ≢ 0 → Turned s (hear w L s v .state)
+pub data Turned (n : ℕ) : State → State → Type 0 where
+  at-start : {s : State} (L : Lent) → start L (registers n s) .number ≢ 0 → Turned n s (with-registers n s (registers n (start L (registers n s) .state)))
+  at-hearing : {s : State} (L : Lent) (v : ℕ) → hear L s v .number ≢ 0 → Turned n s (hear L s v .state)
 
-  pub data Refuses : World → World → Type 0 where
-    -- a preparation, lent the run's buffer
-    dealer : {r : Pair} {buf : List ℕ} {one two : Side} (job table A B : List ℕ) → prepare w job table A B buf r .number ≢ 0
-        → Refuses (world (idle r) buf one two) (world (idle (prepare w job table A B buf r .masks)) (prepare w job table A B buf r .buffer) one two)
-    dealer-later : {r : Pair} {t : List Pair} {buf : List ℕ} {one two : Side} (job table A B : List ℕ) → prepare w job table A B buf r .number ≢ 0
-        → Refuses (world (ready r t) buf one two) (world (ready (prepare w job table A B buf r .masks) t) (prepare w job table A B buf r .buffer) one two)
-    -- or another buffer
-    dealer-elsewhere : {r : Pair} {buf : List ℕ} {one two : Side} (job table A B other : List ℕ) → prepare w job table A B other r .number ≢ 0
-        → Refuses (world (idle r) buf one two) (world (idle (prepare w job table A B other r .masks)) buf one two)
-    dealer-later-elsewhere : {r : Pair} {t : List Pair} {buf : List ℕ} {one two : Side} (job table A B other : List ℕ) → prepare w job table A B other r .number ≢ 0
-        → Refuses (world (ready r t) buf one two) (world (ready (prepare w job table A B other r .masks) t) buf one two)
-    one-waiting : {z : Dealer} {buf : List ℕ} {s s′ : State} {two : Side} → Turned s s′ → Refuses (world z buf (waiting s) two) (world z buf (waiting s′) two)
-    two-waiting : {z : Dealer} {buf : List ℕ} {s s′ : State} {one : Side} → Turned s s′ → Refuses (world z buf one (waiting s)) (world z buf one (waiting s′))
-    one-going : {z : Dealer} {buf : List ℕ} {s s′ : State} {t : List Pair} {said : List Spoken} {two : Side} → Turned s s′
-        → Refuses (world z buf (going s t said) two) (world z buf (going s′ t said) two)
-    two-going : {z : Dealer} {buf : List ℕ} {s s′ : State} {t : List Pair} {said : List Spoken} {one : Side} → Turned s s′
-        → Refuses (world z buf one (going s t said)) (world z buf one (going s′ t said))
+pub data Refuses (n : ℕ) : World → World → Type 0 where
+  -- a preparation, lent the run's buffer
+  dealer : {r : Pair} {buf : List ℕ} {one two : Side} (σ : Script) (A B : List ℕ) → prepare σ A B buf r .number ≢ 0
+      → Refuses n (world (idle r) buf one two) (world (idle (prepare σ A B buf r .masks)) (prepare σ A B buf r .buffer) one two)
+  dealer-later : {r : Pair} {t : List Pair} {buf : List ℕ} {one two : Side} (σ : Script) (A B : List ℕ) → prepare σ A B buf r .number ≢ 0
+      → Refuses n (world (ready r t) buf one two) (world (ready (prepare σ A B buf r .masks) t) (prepare σ A B buf r .buffer) one two)
+  -- or another buffer
+  dealer-elsewhere : {r : Pair} {buf : List ℕ} {one two : Side} (σ : Script) (A B other : List ℕ) → prepare σ A B other r .number ≢ 0
+      → Refuses n (world (idle r) buf one two) (world (idle (prepare σ A B other r .masks)) buf one two)
+  dealer-later-elsewhere : {r : Pair} {t : List Pair} {buf : List ℕ} {one two : Side} (σ : Script) (A B other : List ℕ) → prepare σ A B other r .number ≢ 0
+      → Refuses n (world (ready r t) buf one two) (world (ready (prepare σ A B other r .masks) t) buf one two)
+  one-waiting : {z : Dealer} {buf : List ℕ} {s s′ : State} {two : Side} → Turned n s s′ → Refuses n (world z buf (waiting s) two) (world z buf (waiting s′) two)
+  two-waiting : {z : Dealer} {buf : List ℕ} {s s′ : State} {one : Side} → Turned n s s′ → Refuses n (world z buf one (waiting s)) (world z buf one (waiting s′))
+  one-going : {z : Dealer} {buf : List ℕ} {s s′ : State} {t : List Pair} {said : List Spoken} {two : Side} → Turned n s s′
+      → Refuses n (world z buf (going s t said) two) (world z buf (going s′ t said) two)
+  two-going : {z : Dealer} {buf : List ℕ} {s s′ : State} {t : List Pair} {said : List Spoken} {one : Side} → Turned n s s′
+      → Refuses n (world z buf one (going s t said)) (world z buf one (going s′ t said))
 
--- ---- calls that complete, of the run's own job
+-- ---- calls that complete, of the run's own script
 
 -- the calls of a run; a hearing names the word
 pub data Call : Type 0 where
   preparing starting1 starting2 turned-down : Call
   hearing1 hearing2 : ℕ → Call
 
-module _ (w : ℕ) (S : Setting) where
+module _ (S : Stage) where
   abbrev pub lent1 : (D : List ℕ) → Lent
-  lent1 D = record { host = 1; job = S .job; table = S .table; masks = S .A; deals = D }
+  lent1 D = record { host = 1; script = S .script; masks = S .A; deals = D }
 
   abbrev pub lent2 : (D : List ℕ) → Lent
-  lent2 D = record { host = 2; job = S .job; table = S .table; masks = S .B; deals = D }
+  lent2 D = record { host = 2; script = S .script; masks = S .B; deals = D }
 
   -- D begins with the deals that the preparation wrote
   abbrev pub Dealt : (buf D : List ℕ) → Type 0
-  Dealt buf D = take (job-cost w (S .job) (S .table) .deals) D ≡ take (job-cost w (S .job) (S .table) .deals) buf
+  Dealt buf D = take (script-cost (S .script) .deals) D ≡ take (script-cost (S .script) .deals) buf
 
   abbrev pub preparation : List ℕ → Pair → Prepared
-  preparation buf r = prepare w (S .job) (S .table) (S .A) (S .B) buf r
+  preparation buf r = prepare (S .script) (S .A) (S .B) buf r
 
   -- a host after its starting, and after a hearing
   abbrev pub started : Lent → State → Side
-  started L s = going (start w L (registers s) .state) (start-walk w L (registers s) .trail) (utter (start w L (registers s) .state) (start w L (registers s) .word) ∷ [])
+  started L s = going (start L (registers (S .script .slots) s) .state) (start-walk L (registers (S .script .slots) s) .trail) (utter (start L (registers (S .script .slots) s) .state) (start L (registers (S .script .slots) s) .word) ∷ [])
 
   abbrev pub stepped : Lent → State → (v : ℕ) → List Pair → List Spoken → Side
   stepped L s v t said =
-      going (hear w L s v .state) (t ++ hear-walk (party-of L) s v (found-of w L s) .trail) (utter (hear w L s v .state) (hear w L s v .word) ∷ said)
+      going (hear L s v .state) (t ++ hear-walk (party-of L) s v (found-of L s) .trail) (utter (hear L s v .state) (hear L s v .word) ∷ said)
 
   pub data Completes : Call → World → World → Type 0 where
     prepares : {r : Pair} {buf : List ℕ} {one two : Side} → preparation buf r .number ≡ 0
         → Completes preparing (world (idle r) buf one two)
-        (world (ready (preparation buf r .masks) (prepare-walk w (S .job) (S .table) (S .A) (S .B) r .trail)) (preparation buf r .buffer) one two)
-    starts1 : {z : Dealer} {buf : List ℕ} {s : State} {two : Side} (D : List ℕ) → start w (lent1 D) (registers s) .number ≡ 0
+        (world (ready (preparation buf r .masks) (prepare-walk (S .script) (S .A) (S .B) r .trail)) (preparation buf r .buffer) one two)
+    starts1 : {z : Dealer} {buf : List ℕ} {s : State} {two : Side} (D : List ℕ) → start (lent1 D) (registers (S .script .slots) s) .number ≡ 0
         → Completes starting1 (world z buf (waiting s) two) (world z buf (started (lent1 D) s) two)
     -- "starting host 2 after the preparation"
-    starts2 : {r : Pair} {t₀ : List Pair} {buf : List ℕ} {s : State} {one : Side} (D : List ℕ) → Dealt buf D → start w (lent2 D) (registers s) .number ≡ 0
+    starts2 : {r : Pair} {t₀ : List Pair} {buf : List ℕ} {s : State} {one : Side} (D : List ℕ) → Dealt buf D → start (lent2 D) (registers (S .script .slots) s) .number ≡ 0
         → Completes starting2 (world (ready r t₀) buf one (waiting s)) (world (ready r t₀) buf one (started (lent2 D) s))
     -- "the word the other host spoke at that same place"
     hears1 : {z : Dealer} {buf : List ℕ} {s s2 : State} {t t2 : List Pair} {said said2 : List Spoken} (D : List ℕ) (v : ℕ)
-        → Among (s .order, s .turn, v) said2 → hear w (lent1 D) s v .number ≡ 0
+        → Among (s .order, s .turn, v) said2 → hear (lent1 D) s v .number ≡ 0
         → Completes (hearing1 v) (world z buf (going s t said) (going s2 t2 said2)) (world z buf (stepped (lent1 D) s v t said) (going s2 t2 said2))
     hears2 : {z : Dealer} {buf : List ℕ} {s s1 : State} {t t1 : List Pair} {said said1 : List Spoken} (D : List ℕ) → Dealt buf D → (v : ℕ)
-        → Among (s .order, s .turn, v) said1 → hear w (lent2 D) s v .number ≡ 0
+        → Among (s .order, s .turn, v) said1 → hear (lent2 D) s v .number ≡ 0
         → Completes (hearing2 v) (world z buf (going s1 t1 said1) (going s t said)) (world z buf (going s1 t1 said1) (stepped (lent2 D) s v t said))
 
   -- a run and its calls, the last in front
   pub data Run : List Call → World → Type 0 where
-    begin : {buf : List ℕ} {one two : State} → registers one ≡ (S .rm, S .r1) → registers two ≡ (S .rm, S .r2)
+    begin : {buf : List ℕ} {one two : State} → registers (S .script .slots) one ≡ (S .rm, S .r1) → registers (S .script .slots) two ≡ (S .rm, S .r2)
         → Run [] (world (idle (S .r1, S .r2)) buf (waiting one) (waiting two))
     complete : {cs : List Call} {c : Call} {v v′ : World} → Run cs v → Completes c v v′ → Run (c ∷ cs) v′
-    refuse : {cs : List Call} {v v′ : World} → Run cs v → Refuses w v v′ → Run (turned-down ∷ cs) v′
+    refuse : {cs : List Call} {v v′ : World} → Run cs v → Refuses (S .script .slots) v v′ → Run (turned-down ∷ cs) v′
 
 -- ---- what a world shows
 
@@ -187,9 +214,9 @@ opened-after w v q i = opened-slot w (getD (trail0 v) q ([], [])) (getD (trail1 
 abbrev pub buffer-of : World → List ℕ
 buffer-of (world z buf one two) = buf
 
--- a job accepted with its lists and a buffer for its deals
-pub record Accepted (w : ℕ) (S : Setting) (buffer : List ℕ) : Type 0 where
-  pub job : job-fault w (S .job) (S .table) .0 ≡ 0
-  pub a : job-cost w (S .job) (S .table) .a ≤ length (S .A)
-  pub b : job-cost w (S .job) (S .table) .b ≤ length (S .B)
-  pub deals : job-cost w (S .job) (S .table) .deals ≤ length buffer
+-- a script accepted with its lists and a buffer for its deals
+pub record Accepted (S : Stage) (buffer : List ℕ) : Type 0 where
+  pub script : S .script .fault .0 ≡ 0
+  pub a : script-cost (S .script) .a ≤ length (S .A)
+  pub b : script-cost (S .script) .b ≤ length (S .B)
+  pub deals : script-cost (S .script) .deals ≤ length buffer

@@ -9,26 +9,27 @@ pub record Share (A : Type 0) : Type 0 where
   pub l2 : A
 
 module _ {A : Type 0} (O : Ops A) where
-  infixl 65 _+_
-  infixl 65 _-_
-  infixl 70 _*_
-  open Ops O using (add as _+_, sub as _-_, mul as _*_, neg, nil)
+  -- ⊕, ⊖ and ⊗ are the ring's own plus, minus and times
+  infixl 65 _⊕_
+  infixl 65 _⊖_
+  infixl 70 _⊗_
+  open Ops O using (add as _⊕_, sub as _⊖_, mul as _⊗_, neg, nil)
 
   -- L = L1 + L2
   abbrev pub mask : Share A → A
-  mask s = s .l1 + s .l2
+  mask s = s .l1 ⊕ s .l2
 
   -- x = m - L
   abbrev pub value : Share A → A
-  value s = s .m - mask s
+  value s = s .m ⊖ mask s
 
   -- "m = x + L"
   abbrev pub masked : (x l1 l2 : A) → Share A
-  masked x l1 l2 = record { m = x + (l1 + l2); l1 = l1; l2 = l2 }
+  masked x l1 l2 = record { m = x ⊕ (l1 ⊕ l2); l1 = l1; l2 = l2 }
 
   -- deal: "L1 = next A word, L2 = -L1 - v, sent to host 2; m = 0"; for bits that is "L2 = L1 xor v"
   abbrev pub deal : (v a : A) → Share A
-  deal v a = record { m = nil; l1 = a; l2 = neg a - v }
+  deal v a = record { m = nil; l1 = a; l2 = neg a ⊖ v }
 
   -- known value: "m = v, masks 0"
   abbrev pub known : (v : A) → Share A
@@ -36,15 +37,15 @@ module _ {A : Type 0} (O : Ops A) where
 
   -- a product's deal: "g2 = La × Lb - g1"
   abbrev pub product-deal : (a1 a2 b1 b2 g1 : A) → A
-  product-deal a1 a2 b1 b2 g1 = (a1 + a2) * (b1 + b2) - g1
+  product-deal a1 a2 b1 b2 g1 = (a1 ⊕ a2) ⊗ (b1 ⊕ b2) ⊖ g1
 
   -- "Host 1 speaks ma × mb - ma × Lb1 - mb × La1 + g1 + L1"
   abbrev pub product-word1 : (ma mb a1 b1 g1 l1 : A) → A
-  product-word1 ma mb a1 b1 g1 l1 = ma * mb - ma * b1 - mb * a1 + g1 + l1
+  product-word1 ma mb a1 b1 g1 l1 = ma ⊗ mb ⊖ ma ⊗ b1 ⊖ mb ⊗ a1 ⊕ g1 ⊕ l1
 
   -- "host 2 speaks g2 - ma × Lb2 - mb × La2 + L2"
   abbrev pub product-word2 : (ma mb a2 b2 g2 l2 : A) → A
-  product-word2 ma mb a2 b2 g2 l2 = g2 - ma * b2 - mb * a2 + l2
+  product-word2 ma mb a2 b2 g2 l2 = g2 ⊖ ma ⊗ b2 ⊖ mb ⊗ a2 ⊕ l2
 
   -- "The new m is the sum of the two spoken words."
   abbrev pub product : (a b : Share A) (g1 l1 l2 : A) → Share A
@@ -52,20 +53,20 @@ module _ {A : Type 0} (O : Ops A) where
       record {
         m =
             product-word1 (a .m) (b .m) (a .l1) (b .l1) g1 l1
-            + product-word2 (a .m) (b .m) (a .l2) (b .l2) (product-deal (a .l1) (a .l2) (b .l1) (b .l2) g1) l2;
+            ⊕ product-word2 (a .m) (b .m) (a .l2) (b .l2) (product-deal (a .l1) (a .l2) (b .l1) (b .l2) g1) l2;
         l1 = l1;
         l2 = l2;
       }
 
   -- refresh: "host 1 speaks ma - La1 + L1, host 2 speaks L2 - La2; the new m is the sum"
   abbrev pub refresh-word1 : (ma a1 l1 : A) → A
-  refresh-word1 ma a1 l1 = ma - a1 + l1
+  refresh-word1 ma a1 l1 = ma ⊖ a1 ⊕ l1
 
   abbrev pub refresh-word2 : (a2 l2 : A) → A
-  refresh-word2 a2 l2 = l2 - a2
+  refresh-word2 a2 l2 = l2 ⊖ a2
 
   abbrev pub refresh : (a : Share A) (l1 l2 : A) → Share A
-  refresh a l1 l2 = record { m = refresh-word1 (a .m) (a .l1) l1 + refresh-word2 (a .l2) l2; l1 = l1; l2 = l2 }
+  refresh a l1 l2 = record { m = refresh-word1 (a .m) (a .l1) l1 ⊕ refresh-word2 (a .l2) l2; l1 = l1; l2 = l2 }
 
 -- what each gate opens
 pub record Open {A : Type 0} (O : Ops A) : Type 0 where

@@ -6,45 +6,39 @@ use Prim.Native.Nat.{ℕ, zero, suc, _+_, _≤_, _<_}
 use native.Mathlib.Nat.{zero-add}
 use native.Mathlib.Omega.{arith}
 use lib.ListN.{length}
-use Rattle.gates.specs.declared.Gate.{Gate}
 use Rattle.gates.specs.Steps.{Exchange, Step, local, deal, exchange, end, Cursor, origin, past}
-use Rattle.gates.specs.Meaning.{meaning, order-steps, job-steps}
 use Rattle.gates.specs.Walk.{Conf, conf, whole, far, Exchanging}
 use Rattle.gates.specs.Parties.{Pair, Triple, of1, of2, act, joint1, joint2}
-use Rattle.gates.specs.Costs.{cost}
 use Rattle.gates.proofs.Needs.{far-used}
 use Rattle.gates.proofs.Seen.{through}
-use Rattle.jobs.specs.Job.{orders, job-gates, steps-of, job-cost}
-use Rattle.parties.specs.Places.{Found, nowhere, found, seek}
+use Rattle.parties.specs.Scripts.{script-cost, ends, orders-in, Closed}
+use Rattle.parties.specs.Places.{seek}
 use Rattle.parties.specs.Calls.{State, Answer, word-at, spoken-at, state-of, unless, given}
-use Rattle.runs.specs.Runs.{Setting}
-use Rattle.runs.proofs.Places.{Halted, orders as ends, orders-pos, exchange-or-end, seek-pos, shrinks, whole-pos}
-use Rattle.runs.proofs.Chain.{orders-of}
-use Rattle.runs.proofs.Counts.{job-closed, far-at, stands}
+use Rattle.runs.specs.Runs.{Stage}
+use Rattle.runs.proofs.Places.{Halted, steps-in, ends-pos, exchange-or-end, seek-pos, shrinks, whole-pos}
+use Rattle.runs.proofs.Counts.{far-at, stands}
 use Rattle.runs.proofs.Kept.{all, j₀}
 use Rattle.runs.proofs.Progress.{unless-zero}
 use Rattle.trio.specs.Together.{Lending, Trio, prepared, preparation as trio-preparation, left, ended, heard, together}
 use Rattle.trio.proofs.Positions.{lent-of, given-of, P, D, at-n, answer-at, standing, Standing, heard-at}
 
--- ---- a job ends with an order's end: "the end is the number of orders and 0"
+-- ---- where every step stands in an order, the last ends one: "the end is the number of orders and 0"
 
-far-order : (w : ℕ) (gs : List Gate) (ss : List Step) (c : Cursor) → (c′ : Cursor) × (c′ .turn ≡ 0) × (far (order-steps w gs ss) c ≡ far ss c′)
-unfolding far order-steps past
-far-order w [] ss c = (past end c, refl, refl)
-far-order w (g ∷ gs) ss c = far-order w gs ss (past (meaning w g) c)
+end-alone : (x : Step) (c : Cursor) → 1 ≤ ends (x ∷ []) → past x c .turn ≡ 0
+unfolding ends past
+end-alone (local d m l) c h = absurd (omega arith)
+end-alone (deal d f) c h = absurd (omega arith)
+end-alone (exchange d e) c h = absurd (omega arith)
+end-alone end c h = refl
 
-far-job : (w : ℕ) (os : List (List Gate)) (c : Cursor) → c .turn ≡ 0 → far (job-steps w os) c .turn ≡ 0
-unfolding far job-steps
-far-job w [] c e = e
-far-job w (o ∷ os) c e = let r = far-order w o (job-steps w os) c in ap (λ (x : Cursor). x .turn) (r .2) ∙ far-job w os (r .0) (r .1)
+far-closed : (ss : List Step) (c : Cursor) → Closed ss → (ss ≡ [] → c .turn ≡ 0) → far ss c .turn ≡ 0
+unfolding far
+far-closed [] c h e = e refl
+far-closed (x ∷ ss) c h e = far-closed ss (past x c) (h .1) (λ n. end-alone x c (rw n at (h .0)))
 
 -- the steps ahead of a state's place
-abbrev pub steps-in : Found → ℕ
-steps-in nowhere = 0
-steps-in (found ss c) = length ss
-
-abbrev pub ahead : ℕ → Lending → State → ℕ
-ahead w L s = steps-in (seek (s .order) (s .turn) (steps-of w (L .job) (L .table)) origin)
+abbrev pub ahead : Lending → State → ℕ
+ahead L s = steps-in (seek (s .order) (s .turn) (L .script .steps) origin)
 
 -- an answer with no step left
 last-answer : (h : Triple → Pair) (say : Exchange → Cursor → Triple → ℕ) (ss : List Step) (c : Cursor) (j : Triple) (t : List Triple) (b o : ℕ) → ss ≡ [] → c .b ≡ b → c .order ≡ o
@@ -73,82 +67,82 @@ unfolding far
 far-rest [] c e = refl
 far-rest (x ∷ ss) c e = cc
 
-module _ (w : ℕ) (S : Setting) (buf : List ℕ) (done : P w S buf .number ≡ 0) where
+module _ (S : Stage) (shut : Closed (S .script .steps)) (buf : List ℕ) (done : P S buf .number ≡ 0) where
   abbrev walk-at : ℕ → Conf Triple
-  walk-at n = at-n w S buf n
+  walk-at n = at-n S buf n
 
   -- ---- before the end a word is to be heard
 
-  live : (n : ℕ) → Halted (walk-at n .rest) → walk-at n .cur .order < length (orders (S .job)) → Exchanging (walk-at n .rest)
+  live : (n : ℕ) → Halted (walk-at n .rest) → walk-at n .cur .order < orders-in (S .script) → Exchanging (walk-at n .rest)
   unfolding ends
-  live n h l = go (exchange-or-end (act (S .A) (S .B)) (all w S) (j₀ w S) _ h)
+  live n h l = go (exchange-or-end (act (S .A) (S .B)) (all S) (j₀ S) _ h)
     where
       go : Exchanging (walk-at n .rest) ⊎ (walk-at n .rest ≡ []) → Exchanging (walk-at n .rest)
       go (inl x) = x
       go (inr e) =
-          let p : ends (walk-at n .rest) + walk-at n .cur .order ≡ ends (all w S) = orders-pos (act (S .A) (S .B)) (all w S) (j₀ w S) n in
-          let q : 0 + walk-at n .cur .order ≡ ends (all w S) = ap (λ (ss : List Step). ends ss + walk-at n .cur .order) (sym e) ∙ p in
-          absurd (omega (arith, q, orders-of w S))
+          let p : ends (walk-at n .rest) + walk-at n .cur .order ≡ ends (all S) = ends-pos (act (S .A) (S .B)) (all S) (j₀ S) n in
+          let q : 0 + walk-at n .cur .order ≡ ends (all S) = ap (λ (ss : List Step). ends ss + walk-at n .cur .order) (sym e) ∙ p in
+          absurd (omega (arith, q))
 
-  ahead-at : (n : ℕ) → Halted (walk-at n .rest) → ahead w (lent-of S) (standing w S buf n .one .state) ≡ length (walk-at n .rest)
-  ahead-at n h = ap steps-in (seek-pos (act (S .A) (S .B)) (all w S) (j₀ w S) n h)
+  ahead-at : (n : ℕ) → Halted (walk-at n .rest) → ahead (lent-of S) (standing S buf n .one .state) ≡ length (walk-at n .rest)
+  ahead-at n h = ap steps-in (seek-pos (act (S .A) (S .B)) (all S) (j₀ S) n h)
 
   pub record Turn (s : Trio) : Type 0 where
-    pub stands : Standing w S buf (heard w (lent-of S) s)
-    pub fewer : ahead w (lent-of S) (heard w (lent-of S) s .one .state) < ahead w (lent-of S) (s .one .state)
+    pub stands : Standing S buf (heard (lent-of S) s)
+    pub fewer : ahead (lent-of S) (heard (lent-of S) s .one .state) < ahead (lent-of S) (s .one .state)
 
-  turn-at : (n : ℕ) → Halted (walk-at n .rest) → walk-at n .cur .order < length (orders (S .job)) → Turn (standing w S buf n)
+  turn-at : (n : ℕ) → Halted (walk-at n .rest) → walk-at n .cur .order < orders-in (S .script) → Turn (standing S buf n)
   turn-at n h l =
       let x = live n h l in
-      let r = heard-at w S buf done n h x in
-      let m : ahead w (lent-of S) (heard w (lent-of S) (standing w S buf n) .one .state) ≡ length (walk-at (r .0 .n) .rest) =
-      ap (λ (s : Trio). ahead w (lent-of S) (s .one .state)) (r .0 .is) ∙ ahead-at (r .0 .n) (r .0 .halts) in
-      record { stands = r .0; fewer = omega (arith, m, ahead-at n h, shrinks (act (S .A) (S .B)) (all w S) (j₀ w S) n (r .0 .n) x (r .1)) }
+      let r = heard-at S buf done n h x in
+      let m : ahead (lent-of S) (heard (lent-of S) (standing S buf n) .one .state) ≡ length (walk-at (r .0 .n) .rest) =
+      ap (λ (s : Trio). ahead (lent-of S) (s .one .state)) (r .0 .is) ∙ ahead-at (r .0 .n) (r .0 .halts) in
+      record { stands = r .0; fewer = omega (arith, m, ahead-at n h, shrinks (act (S .A) (S .B)) (all S) (j₀ S) n (r .0 .n) x (r .1)) }
 
-  pub turn : (s : Trio) → Standing w S buf s → s .one .state .order < length (orders (S .job)) → Turn s
+  pub turn : (s : Trio) → Standing S buf s → s .one .state .order < orders-in (S .script) → Turn s
   turn s Z l = rw (Z .is) (turn-at (Z .n) (Z .halts) (rw (Z .is) at l))
 
   -- ---- at the end
 
-  no-step : (n : ℕ) → Halted (walk-at n .rest) → length (orders (S .job)) ≤ walk-at n .cur .order → walk-at n .rest ≡ []
-  no-step n h l = go (exchange-or-end (act (S .A) (S .B)) (all w S) (j₀ w S) _ h)
+  no-step : (n : ℕ) → Halted (walk-at n .rest) → orders-in (S .script) ≤ walk-at n .cur .order → walk-at n .rest ≡ []
+  no-step n h l = go (exchange-or-end (act (S .A) (S .B)) (all S) (j₀ S) _ h)
     where
       go : Exchanging (walk-at n .rest) ⊎ (walk-at n .rest ≡ []) → walk-at n .rest ≡ []
       go (inl x) =
-          let p : ends (walk-at n .rest) + walk-at n .cur .order ≡ ends (all w S) = orders-pos (act (S .A) (S .B)) (all w S) (j₀ w S) n in
-          let q = stands (S .A) (S .B) (all w S) (j₀ w S) (job-closed w S) n h .at-end (omega (arith, p, l, orders-of w S)) in
+          let p : ends (walk-at n .rest) + walk-at n .cur .order ≡ ends (all S) = ends-pos (act (S .A) (S .B)) (all S) (j₀ S) n in
+          let q = stands (S .A) (S .B) (all S) (j₀ S) shut n h .at-end (omega (arith, p, l)) in
           absurd (omega (arith, q .0, speaks (walk-at n .rest) (walk-at n .cur) x))
       go (inr e) = e
 
   module _ (n : ℕ) (e : walk-at n .rest ≡ []) where
-    cur-is : walk-at n .cur ≡ far (all w S) origin
-    cur-is = sym (far-rest _ _ e) ∙ far-at (S .A) (S .B) (all w S) (j₀ w S) (job-closed w S) n
+    cur-is : walk-at n .cur ≡ far (all S) origin
+    cur-is = sym (far-rest _ _ e) ∙ far-at (S .A) (S .B) (all S) (j₀ S) shut n
 
-    state-is : walk-at n .state ≡ left w (lent-of S) (given-of S)
+    state-is : walk-at n .state ≡ left (lent-of S) (given-of S)
     unfolding left
-    state-is = sym (ap (λ (p : Conf Triple). p .state) (whole-pos (act (S .A) (S .B)) (all w S) (j₀ w S) n) ∙ whole-rest (S .A) (S .B) _ _ _ _ e)
+    state-is = sym (ap (λ (p : Conf Triple). p .state) (whole-pos (act (S .A) (S .B)) (all S) (j₀ S) n) ∙ whole-rest (S .A) (S .B) _ _ _ _ e)
 
-    last-is : (h : Triple → Pair) (say : Exchange → Cursor → Triple → ℕ) → answer-at w S buf h say n ≡ ended w (lent-of S) (h (left w (lent-of S) (given-of S)))
-    unfolding ended job-cost steps-of ends
+    last-is : (h : Triple → Pair) (say : Exchange → Cursor → Triple → ℕ) → answer-at S buf h say n ≡ ended (lent-of S) (h (left (lent-of S) (given-of S)))
+    unfolding ended ends
     last-is h say =
-        let p : ends (walk-at n .rest) + walk-at n .cur .order ≡ ends (all w S) = orders-pos (act (S .A) (S .B)) (all w S) (j₀ w S) n in
-        let q : walk-at n .cur .order ≡ length (orders (S .job)) = sym (zero-add _) ∙ ap (λ (ss : List Step). ends ss + walk-at n .cur .order) (sym e) ∙ p ∙ orders-of w S in
-        let b : walk-at n .cur .b ≡ cost (all w S) .b = ap (λ (c : Cursor). c .b) cur-is ∙ far-used (all w S) origin .b ∙ zero-add _ in
-        let t : walk-at n .cur .turn ≡ 0 = ap (λ (c : Cursor). c .turn) cur-is ∙ far-job w (job-gates w (S .job) (S .table)) origin refl in
+        let p : ends (walk-at n .rest) + walk-at n .cur .order ≡ ends (all S) = ends-pos (act (S .A) (S .B)) (all S) (j₀ S) n in
+        let q : walk-at n .cur .order ≡ orders-in (S .script) = sym (zero-add _) ∙ ap (λ (ss : List Step). ends ss + walk-at n .cur .order) (sym e) ∙ p in
+        let b : walk-at n .cur .b ≡ script-cost (S .script) .b = ap (λ (c : Cursor). c .b) cur-is ∙ far-used (all S) origin .b ∙ zero-add _ in
+        let t : walk-at n .cur .turn ≡ 0 = ap (λ (c : Cursor). c .turn) cur-is ∙ far-closed (all S) origin shut (λ n. refl) in
         last-answer h say (walk-at n .rest) (walk-at n .cur) (walk-at n .state) (walk-at n .trail) _ _ e b q t
-        ∙ ap {B = Answer} (λ (j : Triple). ended w (lent-of S) (h j)) state-is
+        ∙ ap {B = Answer} (λ (j : Triple). ended (lent-of S) (h j)) state-is
 
-    finish-at : standing w S buf n ≡ together w (lent-of S) (given-of S) buf
+    finish-at : standing S buf n ≡ together (lent-of S) (given-of S) buf
     unfolding together prepared trio-preparation
     finish-at =
         rw (
           last-is of1 (joint1 (S .A) (S .B)),
           last-is of2 (joint2 (S .A) (S .B)),
-          unless-zero (P w S buf .number) (P w S buf .number, P w S buf .index) (given (S .rm, S .r1)) (ended w (lent-of S) (of1 (left w (lent-of S) (given-of S)))) done,
-          unless-zero (P w S buf .number) (P w S buf .number, P w S buf .index) (given (S .rm, S .r2)) (ended w (lent-of S) (of2 (left w (lent-of S) (given-of S)))) done,
+          unless-zero (P S buf .number) (P S buf .number, P S buf .index) (given (S .rm, S .r1)) (ended (lent-of S) (of1 (left (lent-of S) (given-of S)))) done,
+          unless-zero (P S buf .number) (P S buf .number, P S buf .index) (given (S .rm, S .r2)) (ended (lent-of S) (of2 (left (lent-of S) (given-of S)))) done,
         )
 
-  pub finish : (s : Trio) → Standing w S buf s → length (orders (S .job)) ≤ s .one .state .order → s ≡ together w (lent-of S) (given-of S) buf
+  pub finish : (s : Trio) → Standing S buf s → orders-in (S .script) ≤ s .one .state .order → s ≡ together (lent-of S) (given-of S) buf
   finish s Z l =
-      let k : length (orders (S .job)) ≤ walk-at (Z .n) .cur .order = rw (Z .is) at l in
+      let k : orders-in (S .script) ≤ walk-at (Z .n) .cur .order = rw (Z .is) at l in
       Z .is ∙ finish-at (Z .n) (no-step (Z .n) (Z .halts) k)

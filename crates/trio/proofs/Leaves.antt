@@ -1,4 +1,4 @@
--- What the three hosts leave: a register opens what the joint walk holds in it, and the counts are the job's. Assumes nothing.
+-- What the three hosts leave: a register opens what the joint walk holds in it, and the counts are the script's. Assumes nothing.
 use mathlib.Core.Path.{_≡_, refl, sym, ap, _∙_, subst}
 use mathlib.Core.List.{List, [], _∷_, _++_}
 use Prim.Native.Nat.{ℕ, _<_}
@@ -9,13 +9,13 @@ use Rattle.words.specs.Signed.{signed}
 use Rattle.shares.specs.Gates.{value}
 use Rattle.shares.proofs.RoundTrip.{share-opens}
 use Rattle.gates.specs.declared.Gate.{Gate}
-use Rattle.gates.specs.Steps.{Cursor, origin, past}
+use Rattle.gates.specs.Steps.{Step, Cursor, origin, past}
 use Rattle.gates.specs.Meaning.{meaning, order-steps, job-steps}
 use Rattle.gates.specs.Walk.{Conf, whole}
 use Rattle.gates.specs.Parties.{Pair, Triple, of1, of2, act}
-use Rattle.jobs.specs.Job.{job-gates, steps-of, job-cost}
+use Rattle.parties.specs.Scripts.{script-cost}
 use Rattle.parties.specs.Calls.{State, given}
-use Rattle.runs.specs.Runs.{Setting, ready, opened-slot}
+use Rattle.runs.specs.Runs.{Stage, ready, opened-slot}
 use Rattle.runs.specs.Orders.{slot, after-order, trail, first}
 use Rattle.runs.proofs.Chain.{mark-gate}
 use Rattle.runs.proofs.Demand2.{demand2}
@@ -34,43 +34,43 @@ order-whole w A B (g ∷ gs) c j t =
     let f : List Triple → Conf Triple = λ u. whole (act A B) (order-steps w gs []) (past (meaning w g) c) (act A B (meaning w g) c j) u in
     subst (λ (u : List Triple). f u .trail ≡ t ++ (f u .state ∷ [])) (sym (mark-gate w g j t)) (order-whole w A B gs _ _ t)
 
-pub left-one : (w : ℕ) (S : Setting) (gs : List Gate) → job-gates w (S .job) (S .table) ≡ gs ∷ [] → left w (lent-of S) (given-of S) ≡ after-order w S 0
-unfolding left after-order trail steps-of job-steps
+pub left-one : (w : ℕ) (S : Stage) (gs : List Gate) → S .script .steps ≡ job-steps w (gs ∷ []) → left (lent-of S) (given-of S) ≡ after-order S 0
+unfolding left after-order trail job-steps
 left-one w S gs e =
-    let f : List (List Gate) → Conf Triple = λ os. whole (act (S .A) (S .B)) (job-steps w os) origin (first S) [] in
-    subst (λ (os : List (List Gate)). f os .state ≡ getD (f os .trail) 0 (first S)) (sym e)
+    let f : List Step → Conf Triple = λ ss. whole (act (S .A) (S .B)) ss origin (first S) [] in
+    subst (λ (ss : List Step). f ss .state ≡ getD (f ss .trail) 0 (first S)) (sym e)
     (sym (ap (λ (t : List Triple). getD t 0 (first S)) (order-whole w (S .A) (S .B) gs origin (first S) [])))
 
-module _ (w : ℕ) (S : Setting) (buf : List ℕ) (done : P w S buf .number ≡ 0) where
+module _ (S : Stage) (buf : List ℕ) (done : P S buf .number ≡ 0) where
   abbrev over : Trio
-  over = together w (lent-of S) (given-of S) buf
+  over = together (lent-of S) (given-of S) buf
 
   abbrev end-state : Triple
-  end-state = left w (lent-of S) (given-of S)
+  end-state = left (lent-of S) (given-of S)
 
-  over-is : over ≡ record { number = P w S buf .number; index = P w S buf .index; deals = P w S buf .deals; masks = P w S buf .masks; one = ended w (lent-of S) (of1 end-state); two = ended w (lent-of S) (of2 end-state); buffer = P w S buf .buffer }
+  over-is : over ≡ record { number = P S buf .number; index = P S buf .index; deals = P S buf .deals; masks = P S buf .masks; one = ended (lent-of S) (of1 end-state); two = ended (lent-of S) (of2 end-state); buffer = P S buf .buffer }
   unfolding together prepared trio-preparation
   over-is =
       rw (
-        unless-zero (P w S buf .number) (P w S buf .number, P w S buf .index) (given (S .rm, S .r1)) (ended w (lent-of S) (of1 end-state)) done,
-        unless-zero (P w S buf .number) (P w S buf .number, P w S buf .index) (given (S .rm, S .r2)) (ended w (lent-of S) (of2 end-state)) done,
+        unless-zero (P S buf .number) (P S buf .number, P S buf .index) (given (S .rm, S .r1)) (ended (lent-of S) (of1 end-state)) done,
+        unless-zero (P S buf .number) (P S buf .number, P S buf .index) (given (S .rm, S .r2)) (ended (lent-of S) (of2 end-state)) done,
       )
 
-  masks-are : P w S buf .masks ≡ (take 16 (end-state .1), take 16 (end-state .2))
+  masks-are : P S buf .masks ≡ (take (S .script .slots) (end-state .1), take (S .script .slots) (end-state .2))
   unfolding left
-  masks-are = go (prepares-ok w S (S .r1, S .r2) buf refl done)
+  masks-are = go (prepares-ok S (S .r1, S .r2) buf refl done)
     where
-      go : {t : List Pair} {d : List ℕ} → DealerOk w S (ready (P w S buf .masks) t) d → P w S buf .masks ≡ (take 16 (end-state .1), take 16 (end-state .2))
+      go : {t : List Pair} {d : List ℕ} → DealerOk S (ready (P S buf .masks) t) d → P S buf .masks ≡ (take (S .script .slots) (end-state .1), take (S .script .slots) (end-state .2))
       go (dealt-all post e m t) = m
 
   -- opening never meets 10
-  pub register-opens : (i : ℕ) → i < 16 → opened-slot w (over .masks) (over .one .state .m, over .one .state .mask) (over .two .state .m, over .two .state .mask) i ≡ (0, signed w (value (numbers w) (slot end-state i)))
+  pub register-opens : (w i : ℕ) → i < S .script .slots → opened-slot w (over .masks) (over .one .state .m, over .one .state .mask) (over .two .state .m, over .two .state .mask) i ≡ (0, signed w (value (numbers w) (slot end-state i)))
   unfolding ended
-  register-opens i h = rw (over-is, masks-are, getD-take 16 (end-state .1) i 0 h, getD-take 16 (end-state .2) i 0 h) (share-opens w (slot end-state i))
+  register-opens w i h = rw (over-is, masks-are, getD-take (S .script .slots) (end-state .1) i 0 h, getD-take (S .script .slots) (end-state .2) i 0 h) (share-opens w (slot end-state i))
 
-  pub words-spoken : (over .one .spoken ≡ job-cost w (S .job) (S .table) .b) × (over .two .spoken ≡ job-cost w (S .job) (S .table) .b)
+  pub words-spoken : (over .one .spoken ≡ script-cost (S .script) .b) × (over .two .spoken ≡ script-cost (S .script) .b)
   unfolding ended
   words-spoken = rw over-is (refl, refl)
 
-pub deals-dealt : (S : Setting) (buf : List ℕ) → P 32 S buf .number ≡ 0 → together 32 (lent-of S) (given-of S) buf .deals ≡ job-cost 32 (S .job) (S .table) .deals
-deals-dealt S buf done = ap (λ (s : Trio). s .deals) (over-is 32 S buf done) ∙ demand2 .deals-counted S buf (S .r1, S .r2) done
+pub deals-dealt : (S : Stage) (buf : List ℕ) → P S buf .number ≡ 0 → together (lent-of S) (given-of S) buf .deals ≡ script-cost (S .script) .deals
+deals-dealt S buf done = ap (λ (s : Trio). s .deals) (over-is S buf done) ∙ demand2 .deals-counted S buf (S .r1, S .r2) done

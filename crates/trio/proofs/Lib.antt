@@ -2,3 +2,4 @@ pub mod Positions
 pub mod Ends
 pub mod Turns
 pub mod Leaves
+pub mod Ran

@@ -1,4 +1,4 @@
--- Document 01, "Stepping": a job that the three hosts run in one place, each word carried to the other host at once. Assumes nothing.
+-- Document 01, "Stepping": a script that the three hosts run in one place, each word carried to the other host at once. Assumes nothing.
 use mathlib.Core.Path.{_≡_}
 use mathlib.Core.List.{List, []}
 use Prim.Native.Nat.{ℕ}
@@ -6,22 +6,21 @@ use lib.ListN.{length}
 use Rattle.gates.specs.Steps.{origin}
 use Rattle.gates.specs.Walk.{whole}
 use Rattle.gates.specs.Parties.{Pair, Triple, of0, of1, of2, act}
-use Rattle.jobs.specs.Job.{orders, steps-of, job-cost}
+use Rattle.parties.specs.Scripts.{Script, script-cost, orders-in}
 use Rattle.parties.specs.Lent.{Lent}
 use Rattle.parties.specs.Calls.{Answer, Prepared, fresh, given, unless, start, hear, prepare}
 use Rattle.hosts.specs.Answers.{answer-of}
 use Rattle.trio.specs.declared.Trio.{Trio as Trio′}
 use Rattle.trio.specs.declared.Shared.{Shared}
 
--- "every call is lent the same job, table and lists"
+-- "every call is lent the same job, table and lists": the same script and lists
 pub record Lending : Type 0 where
-  pub job : List ℕ
-  pub table : List ℕ
+  pub script : Script
   pub A : List ℕ
   pub B : List ℕ
 
-abbrev pub lending : (job table A B : List ℕ) → Lending
-lending j t a b = record { job = j; table = t; A = a; B = b }
+abbrev pub lending : Script → (A B : List ℕ) → Lending
+lending σ a b = record { script = σ; A = a; B = b }
 
 -- the preparation's number, index, deals and masks, the last answers of hosts 1 and 2, and the buffer of deals
 pub record Trio : Type 0 where
@@ -50,22 +49,22 @@ trio-of s buf =
 abbrev pub shared : Shared → Triple
 shared r = (r .m, r .l1, r .l2)
 
--- sixteen shares
-pub record Sixteen (r : Triple) : Type 0 where
-  pub m : length (r .0) ≡ 16
-  pub l1 : length (r .1) ≡ 16
-  pub l2 : length (r .2) ≡ 16
+-- n shares
+pub record Full (n : ℕ) (r : Triple) : Type 0 where
+  pub m : length (r .0) ≡ n
+  pub l1 : length (r .1) ≡ n
+  pub l2 : length (r .2) ≡ n
 
 -- host 1 is lent A, host 2 B; both the deals, of which host 1 takes no notice
 abbrev pub to1 : Lending → (deals : List ℕ) → Lent
-to1 L D = record { host = 1; job = L .job; table = L .table; masks = L .A; deals = D }
+to1 L D = record { host = 1; script = L .script; masks = L .A; deals = D }
 
 abbrev pub to2 : Lending → (deals : List ℕ) → Lent
-to2 L D = record { host = 2; job = L .job; table = L .table; masks = L .B; deals = D }
+to2 L D = record { host = 2; script = L .script; masks = L .B; deals = D }
 
-module _ (w : ℕ) (L : Lending) where
+module _ (L : Lending) where
   unfoldable pub preparation : Triple → (buffer : List ℕ) → Prepared
-  preparation r buf = prepare w (L .job) (L .table) (L .A) (L .B) buf (of0 r)
+  preparation r buf = prepare (L .script) (L .A) (L .B) buf (of0 r)
 
   -- the three hosts after the preparation, with these answers of hosts 1 and 2; neither starts where the preparation is refused
   unfoldable pub prepared : Triple → Prepared → (one two : Answer) → Trio
@@ -83,7 +82,7 @@ module _ (w : ℕ) (L : Lending) where
   -- preparation, then both startings
   unfoldable pub begun : Triple → (buffer : List ℕ) → Trio
   begun r buf =
-      prepared r (preparation r buf) (start w (to1 L (preparation r buf .buffer)) (of1 r)) (start w (to2 L (preparation r buf .buffer)) (of2 r))
+      prepared r (preparation r buf) (start (to1 L (preparation r buf .buffer)) (of1 r)) (start (to2 L (preparation r buf .buffer)) (of2 r))
 
   -- each hears "the word the other host spoke"
   unfoldable pub heard : Trio → Trio
@@ -93,26 +92,26 @@ module _ (w : ℕ) (L : Lending) where
         index = s .index;
         deals = s .deals;
         masks = s .masks;
-        one = hear w (to1 L (s .buffer)) (s .one .state) (s .two .word);
-        two = hear w (to2 L (s .buffer)) (s .two .state) (s .one .word);
+        one = hear (to1 L (s .buffer)) (s .one .state) (s .two .word);
+        two = hear (to2 L (s .buffer)) (s .two .state) (s .one .word);
         buffer = s .buffer;
       }
 
-  -- the three hosts' lanes m, L1 and L2 when every gate of the job is done
+  -- the three hosts' lanes m, L1 and L2 when every gate is done
   unfoldable pub left : Triple → Triple
-  left r = whole (act (L .A) (L .B)) (steps-of w (L .job) (L .table)) origin (fresh (r .0), fresh (r .1), fresh (r .2)) [] .state
+  left r = whole (act (L .A) (L .B)) (L .script .steps) origin (fresh (r .0), fresh (r .1), fresh (r .2)) [] .state
 
-  -- a host at the end: "the end is the number of orders and 0", "the word given is 0", and each host has spoken a word for each word of B, half the job's words
+  -- a host at the end: "the end is the number of orders and 0", "the word given is 0", and each host has spoken a word for each word of B, half the script's words
   unfoldable pub ended : Pair → Answer
   ended s =
       record {
         number = 0;
         index = 0;
-        spoken = job-cost w (L .job) (L .table) .b;
+        spoken = script-cost (L .script) .b;
         word = 0;
-        state = record { m = s .0; mask = s .1; order = length (orders (L .job)); turn = 0 };
+        state = record { m = s .0; mask = s .1; order = orders-in (L .script); turn = 0 };
       }
 
-  -- the whole job
+  -- the whole script
   unfoldable pub together : Triple → (buffer : List ℕ) → Trio
   together r buf = prepared r (preparation r buf) (ended (of1 (left r))) (ended (of2 (left r)))

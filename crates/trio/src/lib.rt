@@ -1,9 +1,10 @@
 // The three hosts in one place: preparation, both startings, and every spoken word carried to the other host.
 ghost use mathlib.Core.Path.{_≡_};
 ghost use Rattle.parties.specs.Calls as Calls;
+ghost use Rattle.parties.specs.Scripts.{job-script};
 ghost use Rattle.parties.specs.Lent.{lent};
 ghost use Rattle.hosts.specs.Answers.{answer-of, lanes-of};
-ghost use Rattle.trio.specs.Together.{trio-of, shared, Sixteen, lending, begun, heard, together};
+ghost use Rattle.trio.specs.Together.{trio-of, shared, Full, lending, begun, heard, together};
 use dealer::Masks;
 use dealer::prepare;
 use hosts::Answer;
@@ -43,7 +44,7 @@ fn first(
     ensures { λ r.
         ⌜ answer-of r
         ≡ Calls.unless number (number, index) (Calls.given (lanes-of registers))
-        (Calls.start 32 (lent host (now (job .entry)) (now (table .entry)) (now (masks .entry)) (now (deals .entry)))
+        (Calls.start (lent host (job-script 32 (now (job .entry)) (now (table .entry))) (now (masks .entry)) (now (deals .entry)))
         (lanes-of registers)) ⌝ }
 {
     if number == 0 {
@@ -80,9 +81,9 @@ fn begin(
 ) -> Trio
     ensures { λ r.
         ⌜ trio-of r (now (deals .exit))
-        ≡ begun 32 (lending (now (job .entry)) (now (table .entry)) (now (a .entry)) (now (b .entry))) (m, l1, l2)
+        ≡ begun (lending (job-script 32 (now (job .entry)) (now (table .entry))) (now (a .entry)) (now (b .entry))) (m, l1, l2)
         (now (deals .entry)) ⌝ }
-    ensures { λ r. ⌜ Sixteen (m, l1, l2) ⌝ }
+    ensures { λ r. ⌜ Full 16 (m, l1, l2) ⌝ }
 {
     let done = prepare(job, table, a, b, deals, Masks { l1, l2 });
     let number = done.number;
@@ -122,7 +123,7 @@ fn begin(
 fn exchange(job: &[u32], table: &[u32], a: &[u32], b: &[u32], deals: &[u32], s: Trio) -> Trio
     ensures { λ r.
         ⌜ trio-of r (now (deals .entry))
-        ≡ heard 32 (lending (now (job .entry)) (now (table .entry)) (now (a .entry)) (now (b .entry)))
+        ≡ heard (lending (job-script 32 (now (job .entry)) (now (table .entry))) (now (a .entry)) (now (b .entry)))
         (trio-of s (now (deals .entry))) ⌝ }
 {
     let first = s.one.state;
@@ -151,7 +152,7 @@ pub fn run(
 ) -> Trio
     ensures { λ r.
         ⌜ trio-of r (now (deals .exit))
-        ≡ together 32 (lending (now (job .entry)) (now (table .entry)) (now (a .entry)) (now (b .entry))) (shared registers)
+        ≡ together (lending (job-script 32 (now (job .entry)) (now (table .entry))) (now (a .entry)) (now (b .entry))) (shared registers)
         (now (deals .entry)) ⌝ }
 {
     let m = registers.m;

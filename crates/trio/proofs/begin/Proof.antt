@@ -1,6 +1,7 @@
 use mathlib.Core.Path.{refl}
 use denote.Ref.{now}
 use native.Mathlib.Omega.{arith}
+use Rattle.parties.specs.Scripts.{job-script}
 use Rattle.trio.specs.Together.{lending, preparation}
 use Rattle.trio.proofs.Turns.{begins}
 use borrow.Author.Needs.{needs}
@@ -25,7 +26,7 @@ returns c =
     let p = c .before .before .before .before .before .before .before in
     let s = p .before .before .before .before .before .before .before in
     let a = s .args in (
-      begins 32 (lending (now (a .job)) (now (a .table)) (now (a .a)) (now (a .b))) (a .m, a .l1, a .l2) (now (a .deals)) _ _ _ _ (p .prepare .ensures) refl (c .before .before .first .ensures) (c .first2 .ensures),
+      begins (lending (job-script 32 (now (a .job)) (now (a .table))) (now (a .a)) (now (a .b))) (a .m, a .l1, a .l2) (now (a .deals)) _ _ _ _ (p .prepare .ensures) refl (c .before .before .first .ensures) (c .first2 .ensures),
       record { m = omega (arith, s .good); l1 = omega (arith, s .good); l2 = omega (arith, s .good) },
     )
 

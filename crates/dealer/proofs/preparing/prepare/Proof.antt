@@ -2,7 +2,8 @@ use mathlib.Core.Path.{sym, ap, _∙_}
 use native.Mathlib.Omega.{arith}
 use denote.Ref.{now}
 use Rattle.gates.specs.Costs.{Cost}
-use Rattle.jobs.specs.Job.{Fault}
+use Rattle.jobs.specs.Job.{Fault, job-cost}
+use Rattle.parties.specs.Scripts.{job-script}
 use Rattle.parties.proofs.Faults.{no-fault-passed}
 use Rattle.dealer.proofs.Answers.{room-outset, refused, dealt-count, finished}
 use borrow.Author.Needs.{needs}
@@ -18,7 +19,7 @@ same-length c = search needs
 returns : tie.Need-returns
 returns c =
     let s = c .before .before .before .before .before .before .before .before .before .args in
-    refused 32 (now (s .job)) (now (s .table)) (now (s .a)) (now (s .b)) (now (s .deals)) (s .masks .l1, s .masks .l2) _ _ (c .before .before .check-dealer .ensures .0) (c .if1 .taken)
+    refused (job-script 32 (now (s .job)) (now (s .table))) (now (s .a)) (now (s .b)) (now (s .deals)) (s .masks .l1, s .masks .l2) _ _ (c .before .before .check-dealer .ensures .0) (c .if1 .taken)
 
 fresh-requires : tie.Need-fresh-requires
 fresh-requires c κs = search needs
@@ -29,7 +30,7 @@ fresh-requires-2 c κs = search needs
 deal-job-requires : tie.Need-deal-job-requires
 deal-job-requires c κs =
     let s = c .before .before .before .before .before .before .before .before .before .before .before .before .before .before .before .before .args in
-    room-outset 32 (now (s .job)) (now (s .table)) (now (s .a)) (now (s .b)) (now (s .deals)) _ _ (sym (ap (λ (f : Fault). f .0) (c .before .before .before .before .before .before .before .before .before .check-dealer .ensures .0)) ∙ c .before .before .before .before .before .before .before .if1 .left)
+    room-outset (job-script 32 (now (s .job)) (now (s .table))) (now (s .a)) (now (s .b)) (now (s .deals)) _ _ (sym (ap (λ (f : Fault). f .0) (c .before .before .before .before .before .before .before .before .before .check-dealer .ensures .0)) ∙ c .before .before .before .before .before .before .before .if1 .left)
 
 registers-requires : tie.Need-registers-requires
 registers-requires c κs = search needs
@@ -38,10 +39,11 @@ registers-requires-2 : tie.Need-registers-requires-2
 registers-requires-2 c κs = search needs
 
 cast-t23 : tie.Need-cast-t23
+unfolding job-cost
 cast-t23 c =
     let s = c .before .before .before .before .before .before .before .before .before .before .before .before .before .before .before .before .before .before .before .before .before .before .args in
     let e = sym (ap (λ (f : Fault). f .0) (c .before .before .before .before .before .before .before .before .before .before .before .before .before .before .before .check-dealer .ensures .0)) ∙ c .before .before .before .before .before .before .before .before .before .before .before .before .before .if1 .left in
-    let n = dealt-count 32 (now (s .job)) (now (s .table)) (now (s .a)) (now (s .b)) (now (s .deals)) (s .masks .l1, s .masks .l2) _ _ _ e (c .before .before .before .before .before .before .before .before .before .before .fresh .ensures) (c .before .before .before .before .before .before .before .before .before .fresh2 .ensures) (c .before .before .before .before .before .deal-job .ensures) in
+    let n = dealt-count (job-script 32 (now (s .job)) (now (s .table))) (now (s .a)) (now (s .b)) (now (s .deals)) (s .masks .l1, s .masks .l2) _ _ _ e (c .before .before .before .before .before .before .before .before .before .before .fresh .ensures) (c .before .before .before .before .before .before .before .before .before .fresh2 .ensures) (c .before .before .before .before .before .deal-job .ensures) in
     let k = ap (λ (n : Cost). n .deals) (c .before .before .before .before .before .before .before .before .before .before .before .before .before .before .before .check-dealer .ensures .1 ∙ no-fault-passed _ _ (c .before .before .before .before .before .before .before .before .before .before .before .before .before .if1 .left)) in
     omega (arith, n, k, c .before .before .before .before .before .before .before .before .before .before .before .before .before .before .before .check-dealer .ok)
 
@@ -52,7 +54,7 @@ returns-2 : tie.Need-returns-2
 returns-2 c =
     let s = c .before .before .before .before .before .before .before .before .before .before .before .before .before .before .before .before .before .before .before .before .before .before .args in
     let e = sym (ap (λ (f : Fault). f .0) (c .before .before .before .before .before .before .before .before .before .before .before .before .before .before .before .check-dealer .ensures .0)) ∙ c .before .before .before .before .before .before .before .before .before .before .before .before .before .if1 .left in
-    finished 32 (now (s .job)) (now (s .table)) (now (s .a)) (now (s .b)) (now (s .deals)) (s .masks .l1, s .masks .l2) _ _ _ e (c .before .before .before .before .before .before .before .before .before .before .fresh .ensures) (c .before .before .before .before .before .before .before .before .before .fresh2 .ensures) (c .before .before .before .before .before .deal-job .ensures) _ _ (c .before .before .registers .ensures) (c .before .registers2 .ensures)
+    finished (job-script 32 (now (s .job)) (now (s .table))) (now (s .a)) (now (s .b)) (now (s .deals)) (s .masks .l1, s .masks .l2) _ _ _ e (c .before .before .before .before .before .before .before .before .before .before .fresh .ensures) (c .before .before .before .before .before .before .before .before .before .fresh2 .ensures) (c .before .before .before .before .before .deal-job .ensures) _ _ (c .before .before .registers .ensures) (c .before .registers2 .ensures)
 
 pub prepare-spec : {M : Type 1} → statement M
 prepare-spec =

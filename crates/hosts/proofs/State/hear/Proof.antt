@@ -2,9 +2,12 @@ use mathlib.Core.Path.{_∙_}
 use denote.Ref.{now}
 use native.Mathlib.Omega.{arith}
 use Prim.Native.Nat.{_+_}
+use Rattle.jobs.specs.Job.{job-gates, steps-of}
 use Rattle.jobs.specs.Walk.{counted}
+use Rattle.parties.specs.Scripts.{job-script}
+use Rattle.parties.proofs.Scripts.{job-made}
 use Rattle.hosts.specs.Answers.{state-of}
-use Rattle.hosts.proofs.Jobs.{sized}
+use Rattle.hosts.proofs.Jobs.{gates-count, gates-drop, sized}
 use Rattle.hosts.proofs.Heard.{steps-at}
 use Rattle.hosts.proofs.Finding.{There, hear-refused, at-nowhere, at-exchange, past-orders, accepted, none-there, found-there}
 use borrow.Author.Needs.{needs}
@@ -38,7 +41,7 @@ refused-requires c κs = search needs
 returns : tie.Need-returns
 returns c =
     let a = c .before .before .before .before .before .before .before .before .before .args in
-    c .refused .ensures ∙ hear-refused (a .host) (now (a .job)) (now (a .table)) (now (a .masks)) (now (a .deals)) (state-of (a .self)) (a .heard) _ _ (c .before .before .before .check-lent .ensures .0) (c .before .if1 .taken)
+    c .refused .ensures ∙ hear-refused (a .host) (job-script 32 (now (a .job)) (now (a .table))) (now (a .masks)) (now (a .deals)) (state-of (a .self)) (a .heard) _ _ (c .before .before .before .check-lent .ensures .0) (c .before .if1 .taken)
 
 cast-turn : tie.Need-cast-turn
 cast-turn c = search needs
@@ -53,7 +56,7 @@ returns-2 : tie.Need-returns-2
 returns-2 c =
     let k = c .before .before .before .before in
     let a = k .before .before .before .before .before .before .before .before .args in
-    c .refused2 .ensures ∙ past-orders (a .host) (now (a .job)) (now (a .table)) (now (a .masks)) (now (a .deals)) (state-of (a .self)) (a .heard) _ _ (k .before .before .check-lent .ensures .0) (k .if1 .left) _ (c .before .before .if2 .taken) (c .before .end-fault .ensures)
+    c .refused2 .ensures ∙ past-orders (a .host) (job-script 32 (now (a .job)) (now (a .table))) (now (a .masks)) (now (a .deals)) (state-of (a .self)) (a .heard) _ _ (k .before .before .check-lent .ensures .0) (k .if1 .left) (job-gates 32 (now (a .job)) (now (a .table))) (job-made 32 (now (a .job)) (now (a .table))) _ (gates-count 32 (now (a .job)) (now (a .table))) _ (c .before .before .if2 .taken) (c .before .end-fault .ensures)
 
 order-at-requires : tie.Need-order-at-requires
 order-at-requires c κs = search needs
@@ -103,22 +106,24 @@ resume-requires c κs =
     )
 
 returns-3 : tie.Need-returns-3
+unfolding steps-of
 returns-3 c =
     let q = c .before .before .before in
     let k = q .before .before .before .before in
     let a = k .before .before .before .before .before .before .before .before .args in
     c .refused3 .ensures
-    ∙ at-nowhere (a .host) (now (a .job)) (now (a .table)) (now (a .masks)) (now (a .deals)) (state-of (a .self)) (a .heard) _ _ (k .before .before .check-lent .ensures .0) (k .if1 .left)
+    ∙ at-nowhere (a .host) (job-script 32 (now (a .job)) (now (a .table))) (now (a .masks)) (now (a .deals)) (state-of (a .self)) (a .heard) _ _ (k .before .before .check-lent .ensures .0) (k .if1 .left)
     (none-there (a .host) (now (a .job)) (now (a .table)) (now (a .masks)) (now (a .deals)) _ _ (k .before .before .check-lent .ensures .0) (k .if1 .left) (a .self .order) (a .self .turn) (q .before .before .if2 .left) _ (q .before .order-at .ensures) _ (q .seek .ensures) (c .before .enum-told .given .1))
 
 returns-4 : tie.Need-returns-4
+unfolding steps-of
 returns-4 c =
     let k = c .before .before .before .before .before .before .before .before .before .before .before .before in
     let a = k .before .before .before .before .before .before .before .before .args in
     let h = there (c .before .before .before .before) in
     let s = h .standing in
     c .resume .ensures
-    ∙ at-exchange (a .host) (now (a .job)) (now (a .table)) (now (a .masks)) (now (a .deals)) (state-of (a .self)) (a .heard) _ _ (k .before .before .check-lent .ensures .0) (k .if1 .left) _ _ _ _ (s .speaks) (steps-at (a .host) (now (a .job)) (now (a .table)) (now (a .masks)) (now (a .deals)) (a .self .order) _ (s .in-job) (s .held) (s .there)) (h .is)
+    ∙ at-exchange (a .host) (job-script 32 (now (a .job)) (now (a .table))) (now (a .masks)) (now (a .deals)) (state-of (a .self)) (a .heard) _ _ (k .before .before .check-lent .ensures .0) (k .if1 .left) _ _ _ _ (s .speaks) (steps-at (a .host) (now (a .masks)) (now (a .deals)) (job-gates 32 (now (a .job)) (now (a .table))) (a .self .order) _ _ (gates-drop 32 (now (a .job)) (now (a .table)) (a .self .order) (s .in-job)) (s .held) (s .there)) (h .is)
 
 pub hear-spec : {M : Type 1} → statement M
 hear-spec =

@@ -3,8 +3,10 @@ use denote.Ref.{now}
 use Prim.Native.Nat.{_≤_}
 use native.Mathlib.Omega.{arith}
 use Rattle.gates.specs.Meaning.{meaning}
+use Rattle.jobs.specs.Job.{job-gates}
 use Rattle.hosts.specs.Answers.{state-of}
 use Rattle.gates.proofs.Uses.{few-used}
+use Rattle.hosts.proofs.Jobs.{gates-drop}
 use Rattle.hosts.proofs.Heard.{resumed, not-past, fetched-there, speaks-there}
 use borrow.Author.Needs.{needs}
 use Rattle.hosts.proofs.hearing.resume.Statement.{statement}
@@ -73,7 +75,7 @@ returns-2 c =
     let p = f .before .before .before .before .before .before .before .pre in
     let b = c .before .behind .ensures in
     c .advance .ensures
-    ∙ resumed (a .host) (now (a .job)) (now (a .table)) (now (a .masks)) (now (a .deals)) (a .s .order) (a .at .gate) (p .1 .in-job) _
+    ∙ resumed (a .host) (now (a .masks)) (now (a .deals)) (job-gates 32 (now (a .job)) (now (a .table))) (a .s .order) (a .at .gate) _ (gates-drop 32 (now (a .job)) (now (a .table)) (a .s .order) (p .1 .in-job)) _
     (fetched-there (now (a .job)) (now (a .table)) (a .s .order) (a .at .gate) (p .1) _ (f .before .order-at .ensures) _ (f .fetch .ensures) _ (g .g .given .1)) (speaks-there (now (a .job)) (now (a .table)) (a .s .order) (a .at .gate) (p .1) _ (f .before .order-at .ensures) _ (f .fetch .ensures) _ (g .g .given .1))
     (state-of (a .s)) (a .heard) (a .at .a) (a .b) (a .at .k) _ _ _ _ _ _ (u .used-by .ensures) (u .before .meet .ensures) (b .0) (b .1) (b .2)
 

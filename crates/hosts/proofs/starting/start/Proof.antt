@@ -1,7 +1,9 @@
 use mathlib.Core.Path.{sym, ap, _∙_}
 use denote.Ref.{now}
 use native.Mathlib.Omega.{arith}
-use Rattle.jobs.specs.Job.{Fault}
+use Rattle.jobs.specs.Job.{Fault, job-gates}
+use Rattle.parties.specs.Scripts.{job-script}
+use Rattle.parties.proofs.Scripts.{job-made}
 use Rattle.hosts.specs.Answers.{lanes-of}
 use Rattle.parties.proofs.Faults.{no-fault}
 use Rattle.hosts.proofs.Jobs.{sized}
@@ -26,19 +28,19 @@ returns : tie.Need-returns
 returns c =
     let k = c .before .before .before in
     let a = k .before .before .before .before .before .before .before .before .before .args in
-    c .refused .ensures ∙ start-refused (a .host) (now (a .job)) (now (a .table)) (now (a .masks)) (now (a .deals)) (lanes-of (a .registers)) _ _ (k .check-lent .ensures .0) _ _ (k .before .before .fresh .ensures) (k .before .fresh2 .ensures) (c .before .if1 .taken)
+    c .refused .ensures ∙ start-refused (a .host) (job-script 32 (now (a .job)) (now (a .table))) (now (a .masks)) (now (a .deals)) (lanes-of (a .registers)) _ _ (k .check-lent .ensures .0) _ _ (k .before .before .fresh .ensures) (k .before .fresh2 .ensures) (c .before .if1 .taken)
 
 advance-requires : tie.Need-advance-requires
 advance-requires c κs =
     let k = c .before .before in
     let a = k .before .before .before .before .before .before .before .before .before .args in
-    (sized (now (a .job)) (now (a .table)) (no-fault _ _ _ _ _ (ap (λ (f : Fault). f .0) (sym (k .check-lent .ensures .0)) ∙ c .if1 .left)), omega arith, omega arith, omega arith, omega arith)
+    (sized (now (a .job)) (now (a .table)) (no-fault _ (job-script 32 (now (a .job)) (now (a .table))) _ _ (ap (λ (f : Fault). f .0) (sym (k .check-lent .ensures .0)) ∙ c .if1 .left)), omega arith, omega arith, omega arith, omega arith)
 
 returns-2 : tie.Need-returns-2
 returns-2 c =
     let k = c .before .before .before in
     let a = k .before .before .before .before .before .before .before .before .before .args in
-    c .advance .ensures ∙ started (a .host) (now (a .job)) (now (a .table)) (now (a .masks)) (now (a .deals)) (lanes-of (a .registers)) _ _ (k .check-lent .ensures .0) _ _ (k .before .before .fresh .ensures) (k .before .fresh2 .ensures) (c .before .if1 .left)
+    c .advance .ensures ∙ started (a .host) (job-script 32 (now (a .job)) (now (a .table))) (now (a .masks)) (now (a .deals)) (lanes-of (a .registers)) _ _ (k .check-lent .ensures .0) _ _ (k .before .before .fresh .ensures) (k .before .fresh2 .ensures) (job-gates 32 (now (a .job)) (now (a .table))) (job-made 32 (now (a .job)) (now (a .table))) (c .before .if1 .left)
 
 pub start-spec : {M : Type 1} → statement M
 start-spec =

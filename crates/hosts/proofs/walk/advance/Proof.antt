@@ -10,6 +10,7 @@ use Rattle.circuits.specs.declared.Order.{Order}
 use Rattle.jobs.specs.Job.{job-gates}
 use Rattle.exchanges.specs.Exchanges.{cursor, host-of}
 use Rattle.hosts.specs.Walks.{steps-from, reported}
+use Rattle.hosts.proofs.Jobs.{order-there, gates-over}
 use Rattle.hosts.proofs.Advancing.{finished, halted, next-order}
 use Rattle.hosts.proofs.walk.advance.Statement.{statement}
 use Rattle.hosts.proofs.walk.advance.Tie as tie
@@ -90,7 +91,7 @@ returns c =
     let w = c .before .before .before .before .before .before .before in
     let h : l .order < length (now (a .job)) / 4 = omega (arith, c .before .before .before .before .before .before .before .before .before .before .before .before .loop-test .taken, l .inv .0) in
     c .answered .ensures
-    ∙ sym (halted (a .host) (now (a .job)) (now (a .table)) (now (a .masks)) (now (a .deals)) (l .order) (l .turn) (l .at .gate) (l .at .a) (a .b) (l .at .k) (l .m, l .mask) h _ (w .before .before .before .before .order-at .ensures) _ _ _ _ _ (w .before .walk-order .ensures) _ (w .fetch .ensures) _ _ (c .before .before .before .before .before .g .given .1) (c .before .say .ensures)) ∙ l .inv .5
+    ∙ sym (halted (a .host) (now (a .masks)) (now (a .deals)) (job-gates 32 (now (a .job)) (now (a .table))) (l .order) (l .turn) (l .at .gate) (l .at .a) (a .b) (l .at .k) (l .m, l .mask) _ (order-there 32 (now (a .job)) (now (a .table)) (l .order) h _ (w .before .before .before .before .order-at .ensures)) _ _ _ _ _ (w .before .walk-order .ensures) _ (w .fetch .ensures) _ _ (c .before .before .before .before .before .g .given .1) (c .before .say .ensures)) ∙ l .inv .5
 
 enum-told : tie.Need-enum-told Inv-loop μ-loop
 enum-told c = search needs
@@ -114,7 +115,7 @@ loop-again c =
       omega (arith, h, p .0 .few-words),
       omega (arith, w .few, w .few-a, l .inv .3),
       omega (arith, w .few, w .few-k, l .inv .4),
-      sym (next-order (a .host) (now (a .job)) (now (a .table)) (now (a .masks)) (now (a .deals)) (l .order) (l .turn) (l .at .gate) (l .at .a) (a .b) (l .at .k) (l .m, l .mask) h _ (c .before .before .before .before .before .before .order-at .ensures) _ _ _ _ _ w _ (c .before .before .fetch .ensures) (c .enum-told .given .1)) ∙ l .inv .5,
+      sym (next-order (a .host) (now (a .masks)) (now (a .deals)) (job-gates 32 (now (a .job)) (now (a .table))) (l .order) (l .turn) (l .at .gate) (l .at .a) (a .b) (l .at .k) (l .m, l .mask) _ (order-there 32 (now (a .job)) (now (a .table)) (l .order) h _ (c .before .before .before .before .before .before .order-at .ensures)) _ _ _ _ _ w _ (c .before .before .fetch .ensures) (c .enum-told .given .1)) ∙ l .inv .5,
     )
 
 cast-answered-3 : tie.Need-cast-answered-3 Inv-loop μ-loop
@@ -136,7 +137,7 @@ returns-2 c =
     let l = t .loop in
     let a = t .before .before .before .before .before .before .before .before .args in
     let p = t .before .before .before .before .before .before .before .before .pre in
-    c .answered2 .ensures ∙ sym (finished (a .host) (now (a .job)) (now (a .table)) (now (a .masks)) (now (a .deals)) (l .order) (l .turn) (l .at .gate) (l .at .a) (a .b) (l .at .k) (l .m, l .mask) (omega (arith, c .before .loop-test .left, l .inv .0))) ∙ l .inv .5
+    c .answered2 .ensures ∙ sym (finished (a .host) (now (a .masks)) (now (a .deals)) (job-gates 32 (now (a .job)) (now (a .table))) (l .order) (l .turn) (l .at .gate) (l .at .a) (a .b) (l .at .k) (l .m, l .mask) (gates-over 32 (now (a .job)) (now (a .table)) (l .order) (omega (arith, c .before .loop-test .left, l .inv .0)))) ∙ l .inv .5
 
 pub advance-spec : {M : Type 1} → statement M
 advance-spec =

@@ -1,5 +1,6 @@
 use mathlib.Core.Path.{_∙_}
 use borrow.Author.Needs.{needs}
+use Rattle.jobs.specs.Job.{job-cost}
 use Rattle.parties.specs.Lent.{dealer-fault}
 use Rattle.lendings.specs.Faults.{needs-of}
 use Rattle.lendings.proofs.Hosts.{all-before}
@@ -10,7 +11,7 @@ check-job-requires : tie.Need-check-job-requires
 check-job-requires c κs = search needs
 
 returns : tie.Need-returns
-unfolding dealer-fault needs-of
+unfolding dealer-fault needs-of job-cost
 returns c = (c .check-job .ensures .0, c .check-job .ensures .1 ∙ all-before _ _ _)
 
 pub check-dealer-spec : {M : Type 1} → statement M

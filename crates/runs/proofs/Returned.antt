@@ -1,0 +1,461 @@
+-- After every run: what the hosts now hold opens what the last order that wrote the register opened, or what was given. Assumes nothing.
+use mathlib.Core.Path.{_≡_, refl, sym, ap, _∙_, subst}
+use mathlib.Core.Bool.{Bool, true, false, true≢false}
+use mathlib.Core.List.{List, [], _∷_, _++_}
+use Prim.Native.Nat.{ℕ, zero, suc, _+_, _-_, _≤_, _<_}
+use native.Mathlib.Omega.{arith}
+use native.Mathlib.Nat.{not-suc-le-zero}
+use native.Mathlib.Decide.{decLe}
+use borrow.Author.Tests.{eqb-true}
+use lib.Dec.{eqb, lit≤, lit<}
+use lib.ListN.{getD, length, take, replicate, length-append, List·getD-append}
+use lib.Seq.{getD-take, getD-at}
+use Rattle.words.specs.Words.{numbers}
+use Rattle.words.specs.Signed.{signed}
+use Rattle.shares.specs.Gates.{Share, value}
+use Rattle.shares.proofs.RoundTrip.{share-opens}
+use Rattle.tables.specs.Table.{rows}
+use Rattle.gates.specs.declared.Gate.{Gate}
+use Rattle.gates.specs.declared.Gate.the-variants.{Add, Sub, Xor, Mul, And, Refresh, Scale, Plus, Up, Bit, Const, Public, Deal, DealBits}
+use Rattle.gates.specs.Steps.{Lane, at, Step, local, deal, exchange, end, Cursor, origin, past}
+use Rattle.gates.specs.Meaning.{meaning, order-steps, job-steps}
+use Rattle.gates.specs.Walk.{Conf, conf, whole, next}
+use Rattle.gates.specs.Parties.{Pair, Triple, of1, of2, act, joint1, joint2}
+use Rattle.circuits.proofs.Points.{target}
+use Rattle.jobs.specs.Job.{orders}
+use Rattle.parties.specs.Scripts.{ends, orders-in, Closed}
+use Rattle.parties.proofs.Scripts.{job-made}
+use Rattle.parties.specs.Calls.{State, fresh}
+use Rattle.runs.specs.Runs.{Stage, Setting, staged, Spoken, Dealer, Side, World, Call, Run, registers, order1, order2, Finished, opened-slot, opened-after}
+use Rattle.runs.specs.Orders.{Words, trail, after-order, slot, Unwritten, order-of}
+use Rattle.runs.specs.Demand3.{Finishes}
+use Rattle.runs.specs.Returned.{dealer-holds, side-holds, opened-now, opened-given, UnwrittenFrom, Holds, by-order, by-given, UntargetedFrom, JobHolds, of-order, of-given, Returned}
+use Rattle.runs.proofs.Spared.{other-slot}
+use Rattle.runs.proofs.Places.{pos, trail-pos, trail-length, whole-pos}
+use Rattle.runs.proofs.Ties.{joint, Tied}
+use Rattle.runs.proofs.Kept.{all, j₀, last, DealerOk, not-yet, dealt-all, OneOk, wait1, go1, TwoOk, wait2, go2, Ok, ok, kept}
+use Rattle.runs.proofs.Chain.{gates-length}
+use Rattle.runs.proofs.Opened.{gates, gates-is, order-good}
+use Rattle.runs.proofs.Curves.{in-job, checked}
+use Rattle.runs.proofs.Opening.{finished-order, finished-opens}
+use Rattle.runs.proofs.Written.{Spares, none, also, spares-program}
+
+-- ---- steps that do not write slot i
+
+abbrev Misses : ℕ → Step → Type 0
+Misses i (local d m l) = eqb i d ≡ false
+Misses i (deal d f) = eqb i d ≡ false
+Misses i (exchange d e) = eqb i d ≡ false
+Misses i end = Unit
+
+act-misses : (A B : List ℕ) (x : Step) (c : Cursor) (j : Triple) (i : ℕ) → Misses i x → slot (act A B x c j) i ≡ slot j i
+unfolding act
+act-misses A B (local d m l) c j i h = other-slot A B j d i _ _ _ h
+act-misses A B (deal d f) c j i h = other-slot A B j d i _ _ _ h
+act-misses A B (exchange d e) c j i h = other-slot A B j d i _ _ _ h
+act-misses A B end c j i h = refl
+
+-- ---- a list of steps in which, once k orders have ended, no step writes slot i
+
+abbrev Spared : (i k : ℕ) → List Step → Type 0
+Spared i k [] = Unit
+Spared i zero (x ∷ ss) = Misses i x × Spared i zero ss
+Spared i (suc k) (local d m l ∷ ss) = Spared i (suc k) ss
+Spared i (suc k) (deal d f ∷ ss) = Spared i (suc k) ss
+Spared i (suc k) (exchange d e ∷ ss) = Spared i (suc k) ss
+Spared i (suc k) (end ∷ ss) = Spared i k ss
+
+-- behind the first step of order 0, and behind a step of an earlier order
+within : (i : ℕ) (ss ss′ : List Step) → Unwritten i 0 ss → ((p : ℕ) → 0 ≤ p → Unwritten i (suc p) ss′ → Unwritten i (suc p) ss)
+    → ((p : ℕ) → 0 ≤ p → Unwritten i p ss′) → (p : ℕ) → 0 ≤ p → Unwritten i p ss
+within i ss ss′ u g f zero l = u
+within i ss ss′ u g f (suc p) l = g p (omega arith) (f (suc p) (omega arith))
+
+before-it : (i k : ℕ) (ss ss′ : List Step) → ((p : ℕ) → Unwritten i (suc p) ss′ → Unwritten i (suc p) ss)
+    → ((p : ℕ) → suc k ≤ p → Unwritten i p ss′) → (p : ℕ) → suc k ≤ p → Unwritten i p ss
+before-it i k ss ss′ g f zero l = absurd (omega arith)
+before-it i k ss ss′ g f (suc p) l = g p (f (suc p) l)
+
+spared-from : (i k : ℕ) (ss : List Step) → ((p : ℕ) → k ≤ p → Unwritten i p ss) → Spared i k ss
+spared-from i k [] f = tt
+spared-from i zero (local d m l ∷ ss) f = (f 0 (omega arith) .0, spared-from i 0 ss (within i ss (local d m l ∷ ss) (f 0 (omega arith) .1) (λ p h u. u) f))
+spared-from i zero (deal d e ∷ ss) f = (f 0 (omega arith) .0, spared-from i 0 ss (within i ss (deal d e ∷ ss) (f 0 (omega arith) .1) (λ p h u. u) f))
+spared-from i zero (exchange d e ∷ ss) f = (f 0 (omega arith) .0, spared-from i 0 ss (within i ss (exchange d e ∷ ss) (f 0 (omega arith) .1) (λ p h u. u) f))
+spared-from i zero (end ∷ ss) f = (tt, spared-from i 0 ss (λ p l. f (suc p) (omega arith)))
+spared-from i (suc k) (local d m l ∷ ss) f = spared-from i (suc k) ss (before-it i k ss (local d m l ∷ ss) (λ p u. u) f)
+spared-from i (suc k) (deal d e ∷ ss) f = spared-from i (suc k) ss (before-it i k ss (deal d e ∷ ss) (λ p u. u) f)
+spared-from i (suc k) (exchange d e ∷ ss) f = spared-from i (suc k) ss (before-it i k ss (exchange d e ∷ ss) (λ p u. u) f)
+spared-from i (suc k) (end ∷ ss) f = spared-from i k ss (λ p l. f (suc p) (omega arith))
+
+pub spared-all : (S : Stage) (q i : ℕ) → UnwrittenFrom S q i → Spared i q (all S)
+spared-all S q i u = spared-from i q (all S) u
+
+-- where every step stands in an order, none comes behind the last
+closed-from : (i : ℕ) (ss : List Step) → Closed ss → (p : ℕ) → ends ss ≤ p → Unwritten i p ss
+unfolding ends
+closed-from i [] c p h = tt
+closed-from i (local d m l ∷ ss) c zero h = absurd (omega (arith, c .0))
+closed-from i (local d m l ∷ ss) c (suc p) h = closed-from i ss (c .1) (suc p) h
+closed-from i (deal d f ∷ ss) c zero h = absurd (omega (arith, c .0))
+closed-from i (deal d f ∷ ss) c (suc p) h = closed-from i ss (c .1) (suc p) h
+closed-from i (exchange d e ∷ ss) c zero h = absurd (omega (arith, c .0))
+closed-from i (exchange d e ∷ ss) c (suc p) h = closed-from i ss (c .1) (suc p) h
+closed-from i (end ∷ ss) c zero h = tt
+closed-from i (end ∷ ss) c (suc p) h = closed-from i ss (c .1) p (omega arith)
+
+-- ---- lists of gates
+
+unwritten-gate : (w i : ℕ) (g : Gate) (ss : List Step) → eqb i (target g) ≡ false → Unwritten i 0 ss → Unwritten i 0 (meaning w g ∷ ss)
+unfolding meaning target
+unwritten-gate w i (Add d a b) ss h u = (h, u)
+unwritten-gate w i (Sub d a b) ss h u = (h, u)
+unwritten-gate w i (Xor d a b) ss h u = (h, u)
+unwritten-gate w i (Mul d a b) ss h u = (h, u)
+unwritten-gate w i (And d a b) ss h u = (h, u)
+unwritten-gate w i (Refresh d a) ss h u = (h, u)
+unwritten-gate w i (Scale d a n) ss h u = (h, u)
+unwritten-gate w i (Plus d a n) ss h u = (h, u)
+unwritten-gate w i (Up d a n) ss h u = (h, u)
+unwritten-gate w i (Bit d a n) ss h u = (h, u)
+unwritten-gate w i (Const d n) ss h u = (h, u)
+unwritten-gate w i (Public d a f) ss h u = (h, u)
+unwritten-gate w i (Deal d a f) ss h u = (h, u)
+unwritten-gate w i (DealBits d a) ss h u = (h, u)
+
+skip-gate : (w i k : ℕ) (g : Gate) (ss : List Step) → Unwritten i (suc k) ss → Unwritten i (suc k) (meaning w g ∷ ss)
+unfolding meaning
+skip-gate w i k (Add d a b) ss h = h
+skip-gate w i k (Sub d a b) ss h = h
+skip-gate w i k (Xor d a b) ss h = h
+skip-gate w i k (Mul d a b) ss h = h
+skip-gate w i k (And d a b) ss h = h
+skip-gate w i k (Refresh d a) ss h = h
+skip-gate w i k (Scale d a n) ss h = h
+skip-gate w i k (Plus d a n) ss h = h
+skip-gate w i k (Up d a n) ss h = h
+skip-gate w i k (Bit d a n) ss h = h
+skip-gate w i k (Const d n) ss h = h
+skip-gate w i k (Public d a f) ss h = h
+skip-gate w i k (Deal d a f) ss h = h
+skip-gate w i k (DealBits d a) ss h = h
+
+unwritten-order : (w i : ℕ) (gs : List Gate) (ss : List Step) → Spares i gs → Unwritten i 0 (order-steps w gs ss)
+unfolding order-steps
+unwritten-order w i [] ss none = tt
+unwritten-order w i (g ∷ gs) ss (also e p) = unwritten-gate w i g (order-steps w gs ss) e (unwritten-order w i gs ss p)
+
+skip-order : (w i k : ℕ) (gs : List Gate) (ss : List Step) → Unwritten i k ss → Unwritten i (suc k) (order-steps w gs ss)
+unfolding order-steps
+skip-order w i k [] ss h = h
+skip-order w i k (g ∷ gs) ss h = skip-gate w i k g (order-steps w gs ss) (skip-order w i k gs ss h)
+
+unwritten-gates : (w i p : ℕ) (os : List (List Gate)) → (p < length os → Spares i (getD os p [])) → Unwritten i p (job-steps w os)
+unfolding job-steps
+unwritten-gates w i p [] f = tt
+unwritten-gates w i zero (o ∷ os) f = unwritten-order w i o (job-steps w os) (f (omega arith))
+unwritten-gates w i (suc p) (o ∷ os) f = skip-order w i p o (job-steps w os) (unwritten-gates w i p os (λ h. f (omega arith)))
+
+-- a stage whose steps are those of lists of gates: where no list from list q on writes slot i
+pub gated-from : (w : ℕ) (S : Stage) (os : List (List Gate)) → S .script .steps ≡ job-steps w os → (q i : ℕ)
+    → ((p : ℕ) → q ≤ p → p < length os → Spares i (getD os p [])) → UnwrittenFrom S q i
+gated-from w S os made q i f p l = subst (λ (ss : List Step). Unwritten i p ss) (sym made) (unwritten-gates w i p os (f p l))
+
+-- ---- along the joint walk
+
+module _ (A B : List ℕ) (all : List Step) (j₀ : Triple) where
+  -- before the end of order q, or past it with slot i as order q left it
+  data Standing (q i : ℕ) : List Step → Cursor → Triple → List Triple → Type 0 where
+    ahead : {ss : List Step} {c : Cursor} {j : Triple} {t : List Triple} (k : ℕ) → suc k + c .order ≡ suc q → Spared i (suc k) ss → length t ≡ c .order → Standing q i ss c j t
+    behind : {ss : List Step} {c : Cursor} {j : Triple} {t : List Triple} → q < c .order → Spared i 0 ss → slot j i ≡ slot (getD t q j₀) i → q < length t → Standing q i ss c j t
+
+  abbrev StandingAt : (q i : ℕ) → Conf Triple → Type 0
+  StandingAt q i p = Standing q i (p .rest) (p .cur) (p .state) (p .trail)
+
+  standing-next : (q i : ℕ) (ss : List Step) (c : Cursor) (j : Triple) (t : List Triple) → Standing q i ss c j t → StandingAt q i (next (act A B) (conf ss c j t))
+  unfolding past act
+  standing-next q i [] c j t s = s
+  standing-next q i (local d m l ∷ ss) c j t (ahead k e h n) = ahead k e h n
+  standing-next q i (deal d f ∷ ss) c j t (ahead k e h n) = ahead k e h n
+  standing-next q i (exchange d x ∷ ss) c j t (ahead k e h n) = ahead k e h n
+  standing-next q i (end ∷ ss) c j t (ahead zero e h n) =
+      let l : q < suc (c .order) = omega arith in
+      let z : length t ≡ q = omega arith in
+      let y : q < length (t ++ (j ∷ [])) = omega (arith, length-append t (j ∷ [])) in
+      behind l h (ap (λ (x : Triple). slot x i) (sym (getD-at t j [] j₀ q z))) y
+  standing-next q i (end ∷ ss) c j t (ahead (suc k) e h n) =
+      let l : suc k + suc (c .order) ≡ suc q = omega arith in
+      let y : length (t ++ (j ∷ [])) ≡ suc (c .order) = omega (arith, length-append t (j ∷ [])) in
+      ahead k l h y
+  standing-next q i (local d m l ∷ ss) c j t (behind p h e n) = behind p (h .1) (act-misses A B (local d m l) c j i (h .0) ∙ e) n
+  standing-next q i (deal d f ∷ ss) c j t (behind p h e n) = behind p (h .1) (act-misses A B (deal d f) c j i (h .0) ∙ e) n
+  standing-next q i (exchange d x ∷ ss) c j t (behind p h e n) = behind p (h .1) (act-misses A B (exchange d x) c j i (h .0) ∙ e) n
+  standing-next q i (end ∷ ss) c j t (behind p h e n) =
+      let l : q < suc (c .order) = omega arith in
+      let y : q < length (t ++ (j ∷ [])) = omega (arith, length-append t (j ∷ [])) in
+      behind l (h .1) (e ∙ ap (λ (x : Triple). slot x i) (sym (List·getD-append t (j ∷ []) j₀ q n))) y
+
+  standing : (q i : ℕ) → Spared i (suc q) all → (n : ℕ) → StandingAt q i (joint A B all j₀ n)
+  unfolding pos
+  standing q i h zero = let l : suc q + 0 ≡ suc q = omega arith in ahead q l h refl
+  standing q i h (suc n) =
+      let p : Conf Triple = joint A B all j₀ n in standing-next q i (p .rest) (p .cur) (p .state) (p .trail) (standing q i h n)
+
+  -- past order q, slot i is as order q left it
+  past-is : (q i n : ℕ) → Spared i (suc q) all → q < joint A B all j₀ n .cur .order
+      → slot (joint A B all j₀ n .state) i ≡ slot (getD (whole (act A B) all origin j₀ [] .trail) q j₀) i
+  unfolding pos
+  past-is q i n h l = go (standing q i h n)
+    where
+      go : StandingAt q i (joint A B all j₀ n) → slot (joint A B all j₀ n .state) i ≡ slot (getD (whole (act A B) all origin j₀ [] .trail) q j₀) i
+      go (ahead k e s t) = absurd (omega arith)
+      go (behind p s e t) =
+          let r = trail-pos (act A B) all j₀ n in
+          e ∙ ap (λ (x : Triple). slot x i) (sym (ap (λ (u : List Triple). getD u q j₀) (r .1) ∙ List·getD-append (joint A B all j₀ n .trail) (r .0) j₀ q t))
+
+  -- where no step writes it, slot i is as at the start
+  never-next : (i : ℕ) (ss : List Step) (c : Cursor) (j : Triple) (t : List Triple) → Spared i 0 ss
+      → Spared i 0 (next (act A B) (conf ss c j t) .rest) × (slot (next (act A B) (conf ss c j t) .state) i ≡ slot j i)
+  never-next i [] c j t h = (tt, refl)
+  never-next i (x ∷ ss) c j t h = (h .1, act-misses A B x c j i (h .0))
+
+  never : (i : ℕ) → Spared i 0 all → (n : ℕ) → Spared i 0 (joint A B all j₀ n .rest) × (slot (joint A B all j₀ n .state) i ≡ slot j₀ i)
+  unfolding pos
+  never i h zero = (h, refl)
+  never i h (suc n) =
+      let p : Conf Triple = joint A B all j₀ n in
+      let r = never i h n in
+      let s = never-next i (p .rest) (p .cur) (p .state) (p .trail) (r .0) in (s .0, s .1 ∙ r .1)
+
+  -- ---- the last position
+
+  shorter : (ss : List Step) (c : Cursor) (j : Triple) (t : List Triple) → length (next (act A B) (conf ss c j t) .rest) ≡ length ss - 1
+  shorter [] c j t = refl
+  shorter (x ∷ ss) c j t = omega arith
+
+  pub rest-length : (n : ℕ) → length (joint A B all j₀ n .rest) ≡ length all - n
+  unfolding pos
+  rest-length zero = omega arith
+  rest-length (suc n) = let p : Conf Triple = joint A B all j₀ n in omega (arith, shorter (p .rest) (p .cur) (p .state) (p .trail), rest-length n)
+
+  whole-here : (ss : List Step) (c : Cursor) (j : Triple) (t : List Triple) → length ss ≡ 0 → whole (act A B) ss c j t ≡ conf ss c j t
+  unfolding whole
+  whole-here [] c j t e = refl
+  whole-here (x ∷ ss) c j t e = absurd (omega arith)
+
+  pub last-is : whole (act A B) all origin j₀ [] ≡ joint A B all j₀ (length all)
+  unfolding pos
+  last-is =
+      let p : Conf Triple = joint A B all j₀ (length all) in
+      whole-pos (act A B) all j₀ (length all) ∙ whole-here (p .rest) (p .cur) (p .state) (p .trail) (omega (arith, rest-length (length all)))
+
+-- ---- the three hosts' words of slot i, where they are those of one share
+
+same-share : (w : ℕ) (p0 p1 p2 : Pair) (i : ℕ) (x : Share ℕ) → at (p0 .0) i ≡ x .l1 → at (p0 .1) i ≡ x .l2 → at (p1 .0) i ≡ x .m → at (p1 .1) i ≡ x .l1
+    → at (p2 .0) i ≡ x .m → at (p2 .1) i ≡ x .l2 → opened-slot w p0 p1 p2 i ≡ (0, signed w (value (numbers w) x))
+same-share w p0 p1 p2 i x a b c d e f = rw (a, b, c, d, e, f) (share-opens w x)
+
+module _ (w : ℕ) (S : Stage) (i : ℕ) (hi : i < S .script .slots) where
+  front : (l : Lane) → at (take (S .script .slots) l) i ≡ at l i
+  front l = getD-take (S .script .slots) l i 0 hi
+
+  -- the three hosts hold slot i of x where the joint walk's positions that they stand at do
+  module _ (x : Share ℕ) where
+    host0-has : (r : Pair) → slot (last S .state) i ≡ x → r ≡ (take (S .script .slots) (last S .state .1), take (S .script .slots) (last S .state .2)) → (at (r .0) i ≡ x .l1) × (at (r .1) i ≡ x .l2)
+    host0-has r e h = (ap (λ (p : Pair). at (p .0) i) h ∙ front (last S .state .1) ∙ ap (λ (y : Share ℕ). y .l1) e, ap (λ (p : Pair). at (p .1) i) h ∙ front (last S .state .2) ∙ ap (λ (y : Share ℕ). y .l2) e)
+
+    host1-has : (s : State) (t : List Pair) (said : List Spoken) (Z : Tied (S .A) (S .B) (all S) (j₀ S) of1 (joint1 (S .A) (S .B)) s t said)
+        → slot (joint (S .A) (S .B) (all S) (j₀ S) (Z .n) .state) i ≡ x → (at (take (S .script .slots) (s .m)) i ≡ x .m) × (at (take (S .script .slots) (s .mask)) i ≡ x .l1)
+    host1-has s t said Z e =
+        (front (s .m) ∙ ap (λ (s : State). at (s .m) i) (Z .is) ∙ ap (λ (y : Share ℕ). y .m) e, front (s .mask) ∙ ap (λ (s : State). at (s .mask) i) (Z .is) ∙ ap (λ (y : Share ℕ). y .l1) e)
+
+    host2-has : (s : State) (t : List Pair) (said : List Spoken) (Z : Tied (S .A) (S .B) (all S) (j₀ S) of2 (joint2 (S .A) (S .B)) s t said)
+        → slot (joint (S .A) (S .B) (all S) (j₀ S) (Z .n) .state) i ≡ x → (at (take (S .script .slots) (s .m)) i ≡ x .m) × (at (take (S .script .slots) (s .mask)) i ≡ x .l2)
+    host2-has s t said Z e =
+        (front (s .m) ∙ ap (λ (s : State). at (s .m) i) (Z .is) ∙ ap (λ (y : Share ℕ). y .m) e, front (s .mask) ∙ ap (λ (s : State). at (s .mask) i) (Z .is) ∙ ap (λ (y : Share ℕ). y .l2) e)
+
+  -- ---- an order q that is finished, where no later order writes register i
+
+  pub now-after : {cs : List Call} (v : World) → Run S cs v → (q : ℕ) → Finished v q → UnwrittenFrom S (suc q) i
+      → opened-now w (S .script .slots) v i ≡ (0, signed w (value (numbers w) (slot (after-order S q) i)))
+  unfolding opened-now after-order trail
+  now-after v r q f u = go v (kept S r) (f .one) (f .two) (finished-order S v r q f)
+    where
+      h : Spared i (suc q) (all S)
+      h = spared-all S (suc q) i u
+
+      x : Share ℕ
+      x = slot (after-order S q) i
+
+      at-end : q < length (trail S) → slot (last S .state) i ≡ slot (after-order S q) i
+      at-end l =
+          let e = last-is (S .A) (S .B) (all S) (j₀ S) in
+          let k : q < length (joint (S .A) (S .B) (all S) (j₀ S) (length (all S)) .trail) = rw (← ap (λ (p : Conf Triple). p .trail) e) l in
+          ap (λ (p : Conf Triple). slot (p .state) i) e
+          ∙ past-is (S .A) (S .B) (all S) (j₀ S) q i (length (all S)) h (rw (trail-length (act (S .A) (S .B)) (all S) (j₀ S) (length (all S))) at k)
+
+      go : (v : World) → Ok S v → q < order1 v → q < order2 v → q < length (trail S) → opened-now w (S .script .slots) v i ≡ (0, signed w (value (numbers w) (slot (after-order S q) i)))
+      go _ (ok z (wait1 a) two b) l k m = absurd (not-suc-le-zero l)
+      go _ (ok z (go1 X) (wait2 a) b) l k m = absurd (not-suc-le-zero k)
+      go _ (ok (not-yet a) (go1 X) (go2 Y) b) l k m = absurd b
+      go _ (ok (dealt-all {r = r} p g a e) (go1 {s = s1} X) (go2 {s = s2} Y) b) l k m =
+          let p0 = host0-has (slot (after-order S q) i) r (at-end m) a in
+          let p1 = host1-has (slot (after-order S q) i) _ _ _ X (past-is (S .A) (S .B) (all S) (j₀ S) q i (X .n) h (rw (X .is) at l)) in
+          let p2 = host2-has (slot (after-order S q) i) _ _ _ Y (past-is (S .A) (S .B) (all S) (j₀ S) q i (Y .n) h (rw (Y .is) at k)) in
+          same-share w r (registers (S .script .slots) s1) (registers (S .script .slots) s2) i (slot (after-order S q) i) (p0 .0) (p0 .1) (p1 .0) (p1 .1) (p2 .0) (p2 .1)
+
+  -- ---- a register that no order writes
+
+  given-at : (l : Lane) → length l ≡ S .script .slots → at (fresh l) i ≡ at l i
+  unfolding fresh
+  given-at l n = List·getD-append l (replicate 8 0) 0 i (omega arith)
+
+  -- what was given, as a share
+  abbrev start : Share ℕ
+  start = record { m = at (S .rm) i; l1 = at (S .r1) i; l2 = at (S .r2) i }
+
+  start-is : slot (j₀ S) i ≡ start
+  start-is = rw (given-at (S .rm) (S .rm-full), given-at (S .r1) (S .r1-full), given-at (S .r2) (S .r2-full))
+
+  pub now-given : {cs : List Call} (v : World) → Run S cs v → UnwrittenFrom S 0 i → opened-now w (S .script .slots) v i ≡ opened-given w S i
+  unfolding opened-now opened-given
+  now-given v r u = go v (kept S r)
+    where
+      h : Spared i 0 (all S)
+      h = spared-all S 0 i u
+
+      here : (n : ℕ) → slot (joint (S .A) (S .B) (all S) (j₀ S) n .state) i ≡ start
+      here n = never (S .A) (S .B) (all S) (j₀ S) i h n .1 ∙ start-is
+
+      zero-has : (z : Dealer) (buf : List ℕ) → DealerOk S z buf → (at (dealer-holds z .0) i ≡ start .l1) × (at (dealer-holds z .1) i ≡ start .l2)
+      zero-has _ _ (not-yet a) = (ap (λ (p : Pair). at (p .0) i) a, ap (λ (p : Pair). at (p .1) i) a)
+      zero-has _ _ (dealt-all {r = r} p g a e) =
+          host0-has start r (ap (λ (p : Conf Triple). slot (p .state) i) (last-is (S .A) (S .B) (all S) (j₀ S)) ∙ here (length (all S))) a
+
+      one-has : (x : Side) → OneOk S x → (at (side-holds (S .script .slots) x .0) i ≡ start .m) × (at (side-holds (S .script .slots) x .1) i ≡ start .l1)
+      one-has _ (wait1 a) = (ap (λ (p : Pair). at (p .0) i) a, ap (λ (p : Pair). at (p .1) i) a)
+      one-has _ (go1 X) = host1-has start _ _ _ X (here (X .n))
+
+      two-has : (x : Side) → TwoOk S x → (at (side-holds (S .script .slots) x .0) i ≡ start .m) × (at (side-holds (S .script .slots) x .1) i ≡ start .l2)
+      two-has _ (wait2 a) = (ap (λ (p : Pair). at (p .0) i) a, ap (λ (p : Pair). at (p .1) i) a)
+      two-has _ (go2 Y) = host2-has start _ _ _ Y (here (Y .n))
+
+      go : (v : World) → Ok S v → opened-now w (S .script .slots) v i ≡ opened-given w S i
+      go _ (ok {z = z} {buf = buf} {one = one} {two = two} a b c d) =
+          let p0 = zero-has z buf a in
+          let p1 = one-has one b in
+          let p2 = two-has two c in
+          same-share w (dealer-holds z) (side-holds (S .script .slots) one) (side-holds (S .script .slots) two) i start (p0 .0) (p0 .1) (p1 .0) (p1 .1) (p2 .0) (p2 .1)
+          ∙ sym (same-share w (S .r1, S .r2) (S .rm, S .r1) (S .rm, S .r2) i start refl refl refl refl refl refl)
+
+written : (S : Stage) (q : ℕ) (v : World) → Finishes S q v → (i : ℕ) → i < S .script .slots → UnwrittenFrom S (suc q) i
+    → opened-now 32 (S .script .slots) v i ≡ opened-after 32 v q i
+written S q v F i hi u = now-after 32 S i hi v (F .run) q (F .finished) u ∙ sym (finished-opens S 32 v (F .run) q i (F .finished))
+
+-- ---- the last of the first n orders that writes slot i
+
+-- an order's steps write the slot, or they do not
+both-or : {P Q : Type 0} → Dec P → Dec Q → Dec (P × Q)
+both-or (yes p) (yes q) = yes (p, q)
+both-or (yes p) (no q) = no (λ r. q (r .1))
+both-or (no p) q = no (λ r. p (r .0))
+
+unequal : (b : Bool) → Dec (b ≡ false)
+unequal true = no (λ e. true≢false e)
+unequal false = yes refl
+
+writes : (i q : ℕ) (ss : List Step) → Dec (Unwritten i q ss)
+writes i q [] = yes tt
+writes i zero (local d m l ∷ ss) = both-or (unequal (eqb i d)) (writes i 0 ss)
+writes i zero (deal d f ∷ ss) = both-or (unequal (eqb i d)) (writes i 0 ss)
+writes i zero (exchange d e ∷ ss) = both-or (unequal (eqb i d)) (writes i 0 ss)
+writes i zero (end ∷ ss) = yes tt
+writes i (suc q) (local d m l ∷ ss) = writes i (suc q) ss
+writes i (suc q) (deal d f ∷ ss) = writes i (suc q) ss
+writes i (suc q) (exchange d e ∷ ss) = writes i (suc q) ss
+writes i (suc q) (end ∷ ss) = writes i q ss
+
+-- of the first n: the last for which K does not hold
+data Last (K : ℕ → Type 0) (n : ℕ) : Type 0 where
+  writer : (q : ℕ) → q < n → (K q → ⊥) → ((p : ℕ) → suc q ≤ p → p < n → K p) → Last K n
+  nobody : ((p : ℕ) → p < n → K p) → Last K n
+
+last-of : (K : ℕ → Type 0) → ((p : ℕ) → Dec (K p)) → (n : ℕ) → Last K n
+last-of K dec zero = nobody (λ p h. absurd (omega arith))
+last-of K dec (suc n) = go (dec n) (last-of K dec n)
+  where
+    -- the orders below n, and order n
+    upto : (q : ℕ) → K n → ((p : ℕ) → q ≤ p → p < n → K p) → (p : ℕ) → q ≤ p → p < suc n → K p
+    upto q e f p l h = at (decLe (suc p) n)
+      where
+        at : Dec (suc p ≤ n) → K p
+        at (yes k) = f p l k
+        at (no k) = let z : n ≡ p = omega arith in rw z at e
+
+    go : Dec (K n) → Last K n → Last K (suc n)
+    go (no e) l = writer n (omega arith) e (λ p m h. absurd (omega arith))
+    go (yes e) (writer q h t f) = writer q (omega arith) t (upto (suc q) e f)
+    go (yes e) (nobody f) = nobody (λ p h. upto 0 e (λ x l y. f x y) p (omega arith) h)
+
+-- up to the last order, and so for every one behind
+from-all : (S : Stage) (q i : ℕ) → Closed (S .script .steps) → ((p : ℕ) → q ≤ p → p < orders-in (S .script) → Unwritten i p (S .script .steps)) → UnwrittenFrom S q i
+from-all S q i shut f p l = go (decLe (suc p) (orders-in (S .script)))
+  where
+    go : Dec (suc p ≤ orders-in (S .script)) → Unwritten i p (S .script .steps)
+    go (yes h) = f p l h
+    go (no h) = closed-from i (S .script .steps) shut p (omega arith)
+
+every : (S : Stage) → Closed (S .script .steps) → (cs : List Call) (v : World) → Words 32 S → Run S cs v → ((q : ℕ) → q < orders-in (S .script) → Finished v q)
+    → (i : ℕ) → i < S .script .slots → Holds S v i
+every S shut cs v W r f i hi = go (last-of (λ p. Unwritten i p (S .script .steps)) (λ p. writes i p (S .script .steps)) (orders-in (S .script)))
+  where
+    go : Last (λ p. Unwritten i p (S .script .steps)) (orders-in (S .script)) → Holds S v i
+    go (writer q h t u) =
+        let g : UnwrittenFrom S (suc q) i = from-all S (suc q) i shut u in
+        by-order q h t g (written S q v (record { words = W; calls = cs; run = r; finished = f q h }) i hi g)
+    go (nobody u) = let g : UnwrittenFrom S 0 i = from-all S 0 i shut (λ p l h. u p h) in by-given g (now-given 32 S i hi v r g)
+
+-- ---- of a job
+
+untargeted : (S : Setting) (q i : ℕ) → i < 16 → UntargetedFrom S q i → UnwrittenFrom (staged 32 S) q i
+untargeted S q i hi u = gated-from 32 (staged 32 S) (gates 32 S) (job-made 32 (S .job) (S .table)) q i each
+  where
+    each : (p : ℕ) → q ≤ p → p < length (gates 32 S) → Spares i (getD (gates 32 S) p [])
+    each p l h =
+        let k : p < length (orders (S .job)) = rw (gates-length 32 (S .job) (S .table)) at h in
+        rw (gates-is 32 S p k) (spares-program 32 (rows (S .table)) (order-of S p) i hi (u p l k))
+
+-- an accepted order's target is a register
+target-low : (S : Setting) (q : ℕ) (v : World) (F : Finishes (staged 32 S) q v) → order-of S q .target < 16
+target-low S q v F = order-good 32 S (F .words) (lit≤ tt) (lit< tt) (checked S q v F .script) q (in-job S q v F) .target
+
+job-written : (S : Setting) (q : ℕ) (v : World) → Finishes (staged 32 S) q v → (i : ℕ) → i < 16 → UntargetedFrom S (suc q) i → opened-now 32 16 v i ≡ opened-after 32 v q i
+job-written S q v F i hi u = written (staged 32 S) q v F i hi (untargeted S (suc q) i hi u)
+
+target-is : (i t : ℕ) → (eqb i t ≡ false → ⊥) → t ≡ i
+target-is i t n = go (eqb i t) refl
+  where
+    go : (b : Bool) → eqb i t ≡ b → t ≡ i
+    go true e = sym (eqb-true i t e)
+    go false e = absurd (n e)
+
+job-every : (S : Setting) (cs : List Call) (v : World) → Words 32 (staged 32 S) → Run (staged 32 S) cs v
+    → ((q : ℕ) → q < length (orders (S .job)) → Finished v q) → (i : ℕ) → i < 16 → JobHolds S v i
+job-every S cs v W r f i hi = go (last-of (λ p. eqb i (order-of S p .target) ≡ false) (λ p. unequal (eqb i (order-of S p .target))) (length (orders (S .job))))
+  where
+    go : Last (λ p. eqb i (order-of S p .target) ≡ false) (length (orders (S .job))) → JobHolds S v i
+    go (writer q h t u) =
+        let e : order-of S q .target ≡ i = target-is i (order-of S q .target) t in
+        of-order q h e u (job-written S q v (record { words = W; calls = cs; run = r; finished = f q h }) i hi u ∙ ap (opened-after 32 v q) (sym e))
+    go (nobody u) = of-given (λ p l h. u p h) (now-given 32 (staged 32 S) i hi v r (untargeted S 0 i hi (λ p l h. u p h)))
+
+pub returned : Returned
+returned =
+    record {
+      written = written;
+      untouched = λ S cs v r i hi u. now-given 32 S i hi v r u;
+      all-done = λ S shut q v F e i hi. written S q v F i hi (from-all S (suc q) i shut (λ p l h. absurd (omega arith)));
+      every-slot = every;
+      untargeted = untargeted;
+      last-writer = λ S q v F u. job-written S q v F (order-of S q .target) (target-low S q v F) u;
+      every-register = job-every;
+    }

@@ -1,0 +1,28 @@
+-- "every spoken word is the one defined there", in order and each once: what a host has spoken is the front of what is defined for it. Assumes nothing.
+use mathlib.Core.Path.{_≡_}
+use mathlib.Core.Logic.{_⊎_}
+use mathlib.Core.List.{List, [], _∷_, reverse}
+use Prim.Native.Nat.{ℕ, _<_}
+use lib.ListN.{length, take}
+use Rattle.gates.specs.Parties.{Pair}
+use Rattle.parties.specs.Calls.{State}
+use Rattle.runs.specs.Runs.{Stage, Spoken, Among, Dealer, Side, going, world, Call, Run}
+use Rattle.runs.specs.Demand2.{words-of-1, words-of-2}
+
+-- one place comes before another
+abbrev pub Before : Spoken → Spoken → Type 0
+Before p r = (p .0 < r .0) ⊎ ((p .0 ≡ r .0) × (p .1 < r .1))
+
+-- each word's place comes before all that follow, so no place comes twice
+abbrev pub Rising : List Spoken → Type 0
+Rising [] = Unit
+Rising (p ∷ l) = ((r : Spoken) → Among r l → Before p r) × Rising l
+
+-- the last word spoken stands in front, so the list is read backwards
+pub record InOrder : Type 0 where
+  pub host1 : (S : Stage) (cs : List Call) (z : Dealer) (buf : List ℕ) (s : State) (t : List Pair) (said : List Spoken) (two : Side)
+      → Run S cs (world z buf (going s t said) two) → reverse said ≡ take (length said) (words-of-1 S)
+  pub host2 : (S : Stage) (cs : List Call) (z : Dealer) (buf : List ℕ) (one : Side) (s : State) (t : List Pair) (said : List Spoken)
+      → Run S cs (world z buf one (going s t said)) → reverse said ≡ take (length said) (words-of-2 S)
+  pub each-once-1 : (S : Stage) → Rising (words-of-1 S)
+  pub each-once-2 : (S : Stage) → Rising (words-of-2 S)
