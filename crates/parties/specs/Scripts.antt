@@ -39,3 +39,10 @@ orders-in σ = ends (σ .steps)
 abbrev pub Closed : List Step → Type 0
 Closed [] = Unit
 Closed (x ∷ ss) = (1 ≤ ends (x ∷ ss)) × Closed ss
+
+-- what the laws of calls and runs ask of a script
+pub record Orderly (σ : Script) : Type 0 where
+  -- every step stands in an order
+  pub closed : Closed (σ .steps)
+  -- the slots given have room for sixteen registers
+  pub room : 16 ≤ σ .slots

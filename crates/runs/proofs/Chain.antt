@@ -16,7 +16,7 @@ use Rattle.circuits.specs.Costs.{program-cost}
 use Rattle.circuits.proofs.Gates.{Fits}
 use Rattle.circuits.proofs.Points.{Point, after, afters}
 use Rattle.jobs.specs.Job.{orders, job-gates, steps-of}
-use Rattle.parties.specs.Scripts.{ends, Closed}
+use Rattle.parties.specs.Scripts.{job-script, ends, Closed, Orderly}
 use Rattle.runs.proofs.Lists.{length-map}
 use Rattle.runs.specs.Orders.{first-counts}
 
@@ -173,3 +173,6 @@ ends-closed w (o ∷ os) = closed-order w o (job-steps w os) (ends-closed w os) 
 pub job-closed : (w : ℕ) (job table : List ℕ) → Closed (steps-of w job table)
 unfolding steps-of
 job-closed w job table = ends-closed w (job-gates w job table)
+
+pub job-orderly : (w : ℕ) (job table : List ℕ) → Orderly (job-script w job table)
+job-orderly w job table = record { closed = job-closed w job table; room = omega arith }

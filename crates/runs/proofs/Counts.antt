@@ -35,7 +35,7 @@ module _ (A B : List ℕ) (all : List Step) (j₀ : Triple) (shut : Closed all) 
   closed-next [] c j t h = tt
   closed-next (x ∷ ss) c j t h = h .1
 
-  closed-at : (n : ℕ) → Closed (at-n n .rest)
+  pub closed-at : (n : ℕ) → Closed (at-n n .rest)
   unfolding pos
   closed-at zero = shut
   closed-at (suc n) = closed-next (at-n n .rest) (at-n n .cur) (at-n n .state) (at-n n .trail) (closed-at n)

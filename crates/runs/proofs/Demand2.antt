@@ -20,7 +20,7 @@ use Rattle.runs.specs.Demand2.{words-of-1, words-of-2, Counted, Demand2}
 use Rattle.runs.proofs.Ties.{Shadow, shadow1, shadow2, Tied, Answered}
 use Rattle.runs.proofs.Kept.{all, j₀, supplied, not-yet, dealt-all, wait1, go1, wait2, go2, Ok, ok, kept}
 use Rattle.runs.proofs.Answers.{Answered1, start1-answered, hear1-answered, Answered2, start2-answered, hear2-answered}
-use Rattle.runs.proofs.Chain.{job-orders, job-closed}
+use Rattle.runs.proofs.Chain.{job-orders, job-orderly}
 use Rattle.runs.proofs.Spared.{slot-kept}
 use Rattle.runs.proofs.Opened.{order-leaves, order-keeps}
 use Rattle.runs.proofs.Opening.{finished-opens}
@@ -91,13 +91,13 @@ demand2 =
       host1-speaks = λ S cs z buf s t said two r. speaks1 S (kept S r);
       host2-speaks = λ S cs z buf one s t said r. speaks2 S (kept S r);
       deals-counted = λ S buf r. let f = dealer-fault (S .script) (S .A) (S .B) buf in prepared-count (f .0) f S buf r refl;
-      start1-counted = λ S shut cs z buf D s two r e. counted1 S shut (start1-answered S D s (one-waits S (kept S r)) e);
-      hear1-counted = λ S shut cs z buf D s s2 t t2 said said2 v r m e.
-          let k = both-go S (kept S r) in counted1 S shut (hear1-answered S D s t said said2 _ v (k .0) (k .1 .heard) m e);
-      start2-counted = λ S shut cs r₀ t₀ buf D one s r d e.
-          let k = two-waits S (kept S r) in counted2 S shut D (k .1 D d) (start2-answered S D (k .1 D d) s (k .0) e);
-      hear2-counted = λ S shut cs z buf D s1 s t1 t said1 said v r d m e.
-          let k = both-go S (kept S r) in counted2 S shut D (k .2 D d) (hear2-answered S D (k .2 D d) s t said said1 _ v (k .1) (k .0 .heard) m e);
+      start1-counted = λ S ok cs z buf D s two r e. counted1 S (ok .closed) (start1-answered S D s (one-waits S (kept S r)) e);
+      hear1-counted = λ S ok cs z buf D s s2 t t2 said said2 v r m e.
+          let k = both-go S (kept S r) in counted1 S (ok .closed) (hear1-answered S D s t said said2 _ v (k .0) (k .1 .heard) m e);
+      start2-counted = λ S ok cs r₀ t₀ buf D one s r d e.
+          let k = two-waits S (kept S r) in counted2 S (ok .closed) D (k .1 D d) (start2-answered S D (k .1 D d) s (k .0) e);
+      hear2-counted = λ S ok cs z buf D s1 s t1 t said1 said v r d m e.
+          let k = both-go S (kept S r) in counted2 S (ok .closed) D (k .2 D d) (hear2-answered S D (k .2 D d) s t said said1 _ v (k .1) (k .0 .heard) m e);
       job-orders = job-orders 32;
-      job-closed = job-closed 32;
+      job-orderly = job-orderly 32;
     }

@@ -2,21 +2,23 @@
 use mathlib.Core.Path.{_≡_, refl, sym, ap, _∙_}
 use mathlib.Core.Logic.{_⊎_, inl, inr}
 use mathlib.Core.List.{List, [], _∷_, _++_, reverse, reverseAux, append-assoc}
-use Prim.Native.Nat.{ℕ, zero, suc, _≤_, _<_}
+use Prim.Native.Nat.{ℕ, zero, suc, _+_, _≤_, _<_}
 use native.Mathlib.Omega.{arith}
 use lib.ListN.{length, take, length-append}
-use lib.Seq.{take-at}
+use lib.Seq.{take-at, take-all}
 use Rattle.gates.specs.Steps.{Exchange, Step, local, deal, exchange, end, Cursor, origin, past}
 use Rattle.gates.specs.Walk.{Conf, conf, next}
 use Rattle.gates.specs.Parties.{Pair, Triple, of1, of2, act, joint1, joint2, Supplied}
 use Rattle.gates.proofs.Seen.{Always}
+use Rattle.parties.specs.Scripts.{orders-in, ends, Closed}
 use Rattle.parties.specs.Lent.{Party, party1, party2}
 use Rattle.parties.specs.Calls.{State, Answer, word-at}
-use Rattle.runs.specs.Runs.{Stage, Spoken, utter, Among, Dealer, Side, waiting, going, World, world, Call, Completes, prepares, starts1, starts2, hears1, hears2, Run, begin, complete, refuse}
+use Rattle.runs.specs.Runs.{Stage, Spoken, utter, Among, Dealer, Side, waiting, going, World, world, Call, Completes, prepares, starts1, starts2, hears1, hears2, given-out, Run, begin, complete, refuse}
 use Rattle.runs.specs.Demand2.{defined-words}
 use Rattle.runs.specs.InOrder.{Before, Rising, InOrder}
-use Rattle.runs.proofs.Places.{Halted, pos}
-use Rattle.runs.proofs.Ties.{Shadow, shadow1, shadow2, joint, spoken, Answered}
+use Rattle.runs.proofs.Places.{Halted, pos, ends-pos}
+use Rattle.runs.proofs.Ties.{Shadow, shadow1, shadow2, joint, spoken, Tied, Answered}
+use Rattle.runs.proofs.Counts.{closed-at}
 use Rattle.runs.proofs.Answers.{Answered1, start1-answered, hear1-answered, Answered2, start2-answered, hear2-answered}
 use Rattle.runs.proofs.Kept.{all, j₀, supplied, not-yet, dealt-all, wait1, go1, wait2, go2, Ok, ok, refuses-nothing, kept}
 
@@ -84,6 +86,15 @@ module _ (A B : List ℕ) (all : List Step) (j₀ : Triple) (say : Exchange → 
       let k : length (z .before ++ (x ∷ [])) ≡ suc (length said) = omega (arith, length-append (z .before) (x ∷ []), m) in
       reverse-cons x said ∙ ap (λ (l : List Spoken). l ++ (x ∷ [])) g ∙ sym (ap (take (suc (length said))) e ∙ take-at (z .before ++ (x ∷ [])) (u .0) (suc (length said)) k)
 
+  -- where nothing is left, that is all of them
+  all-front : (said : List Spoken) (n : ℕ) → at-n n .rest ≡ [] → length said ≡ suc (at-n n .cur .b) → Front said → reverse said ≡ defined-words A B say all origin j₀
+  unfolding defined-words
+  all-front said n e c f =
+      let z : Split (at-n n) = split n in
+      let w : defined-words A B say all origin j₀ ≡ z .before ++ ((at-n n .cur .order, at-n n .cur .turn, 0) ∷ []) = rw e at (z .is) in
+      let k : length (defined-words A B say all origin j₀) ≡ length said = omega (arith, ap length w, length-append (z .before) ((at-n n .cur .order, at-n n .cur .turn, 0) ∷ []), z .count, c) in
+      f ∙ take-all (length said) (defined-words A B say all origin j₀) (omega (arith, k))
+
 -- ---- from answer to answer
 
 module _ (S : Stage) where
@@ -132,7 +143,7 @@ module _ (S : Stage) where
       let o = supplied S buf p D x d in both f (front2 D o said (hear2-answered S D o _ _ _ _ _ v Y (X .heard) m e) g)
 
   fronts : {cs : List Call} {v : World} → Run S cs v → Both v
-  fronts (begin h k) = both tt tt
+  fronts (begin (given-out h k)) = both tt tt
   fronts (complete r c) = fronts-on c (kept S r) (fronts r)
   fronts (refuse r c) = rw (refuses-nothing S (kept S r) c) (fronts r)
 
@@ -141,6 +152,40 @@ module _ (S : Stage) where
 
   two-front : {z : Dealer} {buf : List ℕ} {s : State} {t : List Pair} {said : List Spoken} {one : Side} → Both (world z buf one (going s t said)) → Front2 said
   two-front (both f g) = g
+
+  -- ---- a host past every order
+
+  nothing-left : (n : ℕ) → Closed (all S) → Halted (joint A B (all S) (j₀ S) n .rest) → joint A B (all S) (j₀ S) n .cur .order ≡ orders-in (S .script)
+      → joint A B (all S) (j₀ S) n .rest ≡ []
+  unfolding ends
+  nothing-left n shut h e = go (joint A B (all S) (j₀ S) n .rest) h (closed-at A B (all S) (j₀ S) shut n) (ends-pos (act A B) (all S) (j₀ S) n)
+    where
+      go : (ss : List Step) → Halted ss → Closed ss → ends ss + joint A B (all S) (j₀ S) n .cur .order ≡ ends (all S) → ss ≡ []
+      go [] h c k = refl
+      go (local d m l ∷ ss) h c k = absurd h
+      go (deal d f ∷ ss) h c k = absurd h
+      go (exchange d x ∷ ss) h c k = absurd (omega (arith, c .0, e, k))
+      go (end ∷ ss) h c k = absurd h
+
+  all-said : (h : Triple → Pair) (own : Exchange → Cursor → Triple → ℕ) (s : State) (t : List Pair) (said : List Spoken) → Closed (all S)
+      → Tied A B (all S) (j₀ S) h own s t said → s .order ≡ orders-in (S .script) → Front A B (all S) (j₀ S) own said
+      → reverse said ≡ defined-words A B own (all S) origin (j₀ S)
+  all-said h own s t said shut Z e f =
+      all-front A B (all S) (j₀ S) own said (Z .n) (nothing-left (Z .n) shut (Z .halts) (sym (ap (λ (x : State). x .order) (Z .is)) ∙ e)) (Z .count) f
+
+  one-all : {cs : List Call} {z : Dealer} {buf : List ℕ} {s : State} {t : List Pair} {said : List Spoken} {two : Side} → Closed (all S)
+      → Run S cs (world z buf (going s t said) two) → s .order ≡ orders-in (S .script) → reverse said ≡ defined-words A B (joint1 A B) (all S) origin (j₀ S)
+  one-all {s = s} {t = t} {said = said} shut r e = all-said of1 (joint1 A B) s t said shut (tied1 (kept S r)) e (one-front (fronts r))
+    where
+      tied1 : {z : Dealer} {buf : List ℕ} {two : Side} → Ok S (world z buf (going s t said) two) → Tied A B (all S) (j₀ S) of1 (joint1 A B) s t said
+      tied1 (ok z (go1 X) two a) = X
+
+  two-all : {cs : List Call} {z : Dealer} {buf : List ℕ} {one : Side} {s : State} {t : List Pair} {said : List Spoken} → Closed (all S)
+      → Run S cs (world z buf one (going s t said)) → s .order ≡ orders-in (S .script) → reverse said ≡ defined-words A B (joint2 A B) (all S) origin (j₀ S)
+  two-all {s = s} {t = t} {said = said} shut r e = all-said of2 (joint2 A B) s t said shut (tied2 (kept S r)) e (two-front (fronts r))
+    where
+      tied2 : {z : Dealer} {buf : List ℕ} {one : Side} → Ok S (world z buf one (going s t said)) → Tied A B (all S) (j₀ S) of2 (joint2 A B) s t said
+      tied2 (ok z one (go2 Y) a) = Y
 
 -- ---- no place comes twice
 
@@ -188,4 +233,6 @@ in-order =
       host2 = λ S cs z buf one s t said r. two-front S (fronts S r);
       each-once-1 = λ S. rising (S .A) (S .B) (joint1 (S .A) (S .B)) (all S) origin (j₀ S);
       each-once-2 = λ S. rising (S .A) (S .B) (joint2 (S .A) (S .B)) (all S) origin (j₀ S);
+      all-said-1 = λ S ok cs z buf s t said two r e. one-all S (ok .closed) r e;
+      all-said-2 = λ S ok cs z buf one s t said r e. two-all S (ok .closed) r e;
     }

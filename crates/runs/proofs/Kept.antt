@@ -15,7 +15,7 @@ use Rattle.jobs.specs.Job.{Fault}
 use Rattle.parties.specs.Scripts.{script-cost}
 use Rattle.parties.specs.Lent.{party1, party2, party-of, dealer-fault}
 use Rattle.parties.specs.Calls.{State, fresh, fresh2, start-walk, start, found-of, hear, script-deals, prepare-walk, prepared, prepare}
-use Rattle.runs.specs.Runs.{Stage, Spoken, Among, Dealer, idle, ready, Side, waiting, going, World, world, registers, Refuses, dealer, dealer-later, dealer-elsewhere, dealer-later-elsewhere, one-waiting, two-waiting, one-going, two-going, Call, lent1, lent2, Dealt, preparation, started, stepped, Completes, prepares, starts1, starts2, hears1, hears2, Run, begin, complete, refuse}
+use Rattle.runs.specs.Runs.{Stage, Spoken, Among, Dealer, idle, ready, Side, waiting, going, World, world, registers, Refuses, dealer, dealer-later, dealer-elsewhere, dealer-later-elsewhere, one-waiting, two-waiting, one-going, two-going, Call, lent1, lent2, Dealt, preparation, started, stepped, Completes, prepares, starts1, starts2, hears1, hears2, given-out, Run, begin, complete, refuse}
 use Rattle.runs.proofs.Places.{pos}
 use Rattle.runs.proofs.Ties.{shadow1, shadow2, joint, Heard, Tied, tie-start, tie-hear}
 use Rattle.runs.proofs.Refusals.{start-none, hear-none, prepare-back, Holds, turned-same}
@@ -220,6 +220,6 @@ module _ (S : Stage) where
   refuses-nothing (ok z one two a) (two-going h) = rw (turned-same n (two-going-holds two) h)
 
   pub kept : {cs : List Call} {v : World} → Run S cs v → Ok v
-  kept (begin h k) = ok (not-yet refl) (wait1 h) (wait2 k) tt
+  kept (begin (given-out h k)) = ok (not-yet refl) (wait1 h) (wait2 k) tt
   kept (complete r c) = completes-ok c (kept r)
   kept (refuse r c) = rw (refuses-nothing (kept r) c) (kept r)

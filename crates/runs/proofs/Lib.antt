@@ -14,6 +14,8 @@ pub mod Started
 pub mod Curves
 pub mod Family
 pub mod Demand3
+pub mod Placed
+pub mod Numbers
 pub mod Demand1
 pub mod Counts
 pub mod Demand2
@@ -21,7 +23,7 @@ pub mod Written
 pub mod Returned
 pub mod InOrder
 pub mod Strict
-pub mod Numbers
+pub mod Buffers
 pub mod Whole
 pub mod ReturnedCurves
 pub mod Same

@@ -12,15 +12,17 @@ use Rattle.curves.specs.Count.{count}
 use Rattle.gates.specs.Steps.{Lane, at}
 use Rattle.jobs.specs.Job.{orders}
 use Rattle.parties.specs.Scripts.{orders-in}
-use Rattle.runs.specs.Runs.{Setting, staged, World, Accepted}
+use Rattle.parties.specs.Calls.{given}
+use Rattle.runs.specs.Runs.{Setting, staged, World, Begins, given-out, begin, Accepted}
 use Rattle.runs.specs.Orders.{Words, order-of}
 use Rattle.runs.specs.Demand3.{reading, Y-of, OneBit, opens, Finishes, refresh-place, with-word, eqZ}
 use Rattle.runs.specs.Strict.{Done}
+use Rattle.runs.specs.Whole.{outset}
 use Rattle.runs.specs.ReturnedCurves.{Stays, target-opens, ReturnedCurves}
 use Rattle.runs.proofs.Chain.{job-orders}
 use Rattle.runs.proofs.Demand3.{count-same, demand3}
 use Rattle.runs.proofs.Returned.{returned}
-use Rattle.runs.proofs.Strict.{wide}
+use Rattle.runs.proofs.Strict.{wide-on, given-back}
 use Rattle.runs.proofs.Same.{strict}
 
 now-opens : (S : Setting) (q : ℕ) (v : World) → Stays S q v → target-opens S v q ≡ opens S v q
@@ -44,8 +46,17 @@ module _ (S : Setting) (q : ℕ) where
   unfolding with-word
   accepted-with buf acc a = record { script = acc .script; a = rw (length-set (S .A) (refresh-place S q) a) (acc .a); b = acc .b; deals = acc .deals }
 
-  one-of : (buf : List ℕ) → Accepted (staged 32 S) buf → (a : ℕ) → Done (staged 32 (with-word S q a)) [] []
-  one-of buf acc a = strict .exists (staged 32 (with-word S q a)) [] buf (accepted-with buf acc a)
+  -- the registers given, with nothing kept
+  abbrev from : (buf : List ℕ) → ℕ → World
+  from buf a = outset (staged 32 (with-word S q a)) buf (given (S .rm, S .r1)) (given (S .rm, S .r2))
+
+  begins : (buf : List ℕ) (a : ℕ) → Begins (staged 32 (with-word S q a)) (from buf a)
+  unfolding with-word
+  begins buf a =
+      given-out (given-back (staged 32 S) [] (S .rm) (S .r1) (S .rm-sixteen) (S .r1-sixteen)) (given-back (staged 32 S) [] (S .rm) (S .r2) (S .rm-sixteen) (S .r2-sixteen))
+
+  one-of : (buf : List ℕ) → Accepted (staged 32 S) buf → (a : ℕ) → Done (staged 32 (with-word S q a)) [] (from buf a) [] []
+  one-of buf acc a = strict .exists (staged 32 (with-word S q a)) [] (from buf a) (begins buf a) (accepted-with buf acc a)
 
   same-orders : (a : ℕ) → q < length (orders (S .job)) → q < orders-in (staged 32 (with-word S q a) .script)
   unfolding with-word
@@ -54,7 +65,7 @@ module _ (S : Setting) (q : ℕ) where
   family : (buf : List ℕ) → Words 32 (staged 32 S) → Accepted (staged 32 S) buf → q < length (orders (S .job)) → (v : ℕ → World) × ((a : ℕ) → a < 2 ^ 32 → Finishes (staged 32 (with-word S q a)) q (v a))
   family buf W acc h = (
     λ a. one-of buf acc a .ends-in,
-    λ a l. record { words = words-with W a l; calls = _; run = wide (staged 32 (with-word S q a)) (one-of buf acc a .run); finished = one-of buf acc a .finished q (same-orders a h) },
+    λ a l. record { words = words-with W a l; calls = _; run = wide-on (staged 32 (with-word S q a)) (begin (begins buf a)) (one-of buf acc a .calls); finished = one-of buf acc a .finished q (same-orders a h) },
   )
 
   -- ---- the count

@@ -17,13 +17,13 @@ use Rattle.parties.specs.Places.{seek}
 use Rattle.parties.specs.Lent.{party2, party-of, or-else, lists-fault, lent-fault}
 use Rattle.parties.specs.Calls.{State, Answer, fresh2, word-at, spoken-at, state-of, start-walk, start, hear-walk, found-of, resume, hear}
 use Rattle.runs.specs.Runs.{Stage, Spoken, utter, Among, ready, Side, waiting, going, World, world, registers, Call, starting1, starting2, hearing1, hearing2, lent1, lent2, started, stepped, Completes, prepares, starts1, starts2, hears1, hears2, Run, begin, complete, refuse}
-use Rattle.runs.specs.Strict.{Narrow, StrictRun, begins, completes, refuses, Strict}
+use Rattle.runs.specs.Strict.{Narrow, none, refuses, StrictRun, Strict}
 use Rattle.runs.proofs.Places.{Halted, one-halt}
 use Rattle.runs.proofs.Ties.{shadow2, joint, words, Heard, Tied, Went, starts, hears-on, word-right}
 use Rattle.runs.proofs.Refusals.{start-none, hear-none}
 use Rattle.runs.proofs.Started.{or-else-none}
 use Rattle.runs.proofs.Kept.{all, j₀, supplied, deals-fit, not-yet, dealt-all, go1, wait2, go2, Ok, ok, kept}
-use Rattle.runs.proofs.Strict.{BothSpent, both, spent, wide, start-other, hear-other1, start-zero, hear-zero, resume-number, unheard, moved1, moved2, finished-all, strictly-ended, carried, begun}
+use Rattle.runs.proofs.Strict.{BothSpent, both, spent, wide, start-other, hear-other1, start-zero, hear-zero, resume-number, unheard, moved1, moved2, finished-all, strictly-ended, longer, next-run, carried, begun}
 
 module _ (S : Stage) where
   abbrev A : List ℕ
@@ -152,13 +152,15 @@ module _ (S : Stage) where
         subst (λ (x : Side). Exactly (hearing2 v) (world z buf (going s1 t1 said1) (going s t said)) h1 h2 (world z buf (going s1 t1 said1) x)) (stepped-same2 D buf D-has (supplied S buf p buf g refl) s t said _ _ v Y (X .heard) m e e′)
         (hears2 buf refl v m e′, (refl, unheard S of2 s _ _ v c (moved2 S D D-has s (c .n) _ v _ (c .stands) (X .heard) m e)))
 
-    pub strict-of : {cs : List Call} {v : World} → Run S cs v → (h1 : List Spoken) × (h2 : List Spoken) × StrictRun S E cs v h1 h2
-    strict-of (begin a b) = ([], [], begins a b)
+    strict-of : {cs : List Call} {v : World} → Run S cs v → (h1 : List Spoken) × (h2 : List Spoken) × StrictRun S E cs v h1 h2
+    strict-of (begin b) = ([], [], record { from = _; begins = b; calls = none })
     strict-of (complete r k) =
         let i = strict-of r in
         let x = exactly k (kept S r) (spent S (i .2)) in
-        (_, _, completes (i .2) (x .0) (x .1))
-    strict-of (refuse r f) = let i = strict-of r in (i .0, i .1, refuses (i .2) f)
+        (_, _, next-run S E (i .2) (x .0) (x .1))
+    strict-of (refuse r f) =
+        let i = strict-of r in
+        (i .0, i .1, record { from = i .2 .from; begins = i .2 .begins; calls = refuses (i .2 .calls) f })
 
 pub strict : Strict
 strict =
@@ -166,6 +168,7 @@ strict =
       wide = λ S E cs v h1 h2 r. wide S r;
       narrow = λ S E cs v r. strict-of S E r;
       finishes = λ S E cs v h1 h2 r acc n q h. finished-all S v (strictly-ended S E r acc n) q h;
+      longer = λ S E cs more v v′ h1 h2 u1 u2 r c. longer S r c;
       goes-on = λ S E cs v h1 h2 r acc. carried S E r acc;
-      exists = λ S E buffer acc. begun S E buffer acc;
+      exists = λ S E v b acc. begun S E v b acc;
     }

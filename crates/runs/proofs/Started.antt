@@ -11,7 +11,7 @@ use lib.ListN.{length}
 use Rattle.jobs.specs.Job.{Fault, short-a}
 use Rattle.parties.specs.Scripts.{script-cost}
 use Rattle.parties.specs.Lent.{or-else, lists-fault, lent-fault}
-use Rattle.runs.specs.Runs.{Stage, waiting, going, World, world, Refuses, dealer, dealer-later, dealer-elsewhere, dealer-later-elsewhere, one-waiting, two-waiting, one-going, two-going, Call, registers, lent1, Completes, prepares, starts1, starts2, hears1, hears2, Run, begin, complete, refuse, order1}
+use Rattle.runs.specs.Runs.{Stage, waiting, going, World, world, Refuses, dealer, dealer-later, dealer-elsewhere, dealer-later-elsewhere, one-waiting, two-waiting, one-going, two-going, Call, registers, lent1, Completes, prepares, starts1, starts2, hears1, hears2, given-out, Run, begin, complete, refuse, order1}
 use Rattle.runs.proofs.Refusals.{start-none}
 
 pub or-else-none : (f : Fault) (n : ℕ) → or-else f n .0 ≡ 0 → (f .0 ≡ 0) × (n ≡ 0)
@@ -68,7 +68,7 @@ module _ (S : Stage) where
   refused (two-going {one = going s t said} e) h g = h tt
 
   gone : {cs : List Call} {v : World} → Run S cs v → Gone v → Checked S
-  gone (begin h k) g = absurd g
+  gone (begin (given-out h k)) g = absurd g
   gone (complete r c) g = completed c (λ h. gone r h) g
   gone (refuse r c) g = refused c (λ h. gone r h) g
 

@@ -2,7 +2,7 @@
 -- until then. Assumes nothing.
 use mathlib.Core.Path.{_≡_, refl, sym, ap, _∙_}
 use mathlib.Core.Logic.{_⊎_, inl, inr}
-use mathlib.Core.List.{List, [], _∷_, _++_, append-assoc}
+use mathlib.Core.List.{List, [], _∷_, _++_, append-nil}
 use Prim.Native.Nat.{ℕ, zero, suc, _+_, _<_}
 use native.Mathlib.Omega.{arith}
 use lib.ListN.{length, take, replicate}
@@ -15,8 +15,8 @@ use Rattle.parties.specs.Scripts.{orders-in}
 use Rattle.parties.specs.Places.{Found, nowhere, found, seek}
 use Rattle.parties.specs.Lent.{Lent, Party, party1, party2, party-of, lists-fault, lent-fault}
 use Rattle.parties.specs.Calls.{State, Answer, fresh, state-of, report, unless, given, start-walk, start, place-fault, found-of, resume, hear}
-use Rattle.runs.specs.Runs.{Stage, Spoken, Among, Dealer, idle, ready, Side, waiting, going, World, world, registers, Call, lent1, lent2, Completes, prepares, starts1, starts2, hears1, hears2, Run, begin, complete, refuse, Finished, buffer-of, Accepted}
-use Rattle.runs.specs.Strict.{Narrow, heard-by-1, heard-by-2, StrictRun, begins, completes, refuses, Done}
+use Rattle.runs.specs.Runs.{Stage, Spoken, Among, Dealer, idle, ready, Side, waiting, going, World, world, registers, Call, lent1, lent2, Completes, prepares, starts1, starts2, hears1, hears2, Begins, given-out, Run, begin, complete, refuse, Finished, buffer-of, Accepted}
+use Rattle.runs.specs.Strict.{Narrow, heard-by-1, heard-by-2, Calls, none, completes, refuses, StrictRun, Done}
 use Rattle.runs.proofs.Places.{Halted, steps-in, seek-pos, once, shrinks}
 use Rattle.runs.proofs.Ties.{Shadow, shadow1, shadow2, joint, Heard, Tied, word-right, hears-on}
 use Rattle.runs.proofs.Refusals.{start-none, hear-none}
@@ -132,10 +132,23 @@ module _ (S : Stage) where
 
   -- ---- along a run
 
+  pub wide-on : {E : List ℕ} {cs more : List Call} {v v′ : World} {h1 h2 u1 u2 : List Spoken} → Run S cs v → Calls S E v h1 h2 more v′ u1 u2 → Run S (more ++ cs) v′
+  wide-on r none = r
+  wide-on r (completes c k n) = complete (wide-on r c) k
+  wide-on r (refuses c f) = refuse (wide-on r c) f
+
   pub wide : {E : List ℕ} {cs : List Call} {v : World} {h1 h2 : List Spoken} → StrictRun S E cs v h1 h2 → Run S cs v
-  wide (begins a b) = begin a b
-  wide (completes r k n) = complete (wide r) k
-  wide (refuses r f) = refuse (wide r) f
+  wide {cs = cs} r = rw (append-nil cs) at (wide-on (begin (r .begins)) (r .calls))
+
+  pub joined : {E : List ℕ} {v v′ v″ : World} {cs more : List Call} {h1 h2 u1 u2 w1 w2 : List Spoken} → Calls S E v h1 h2 cs v′ u1 u2
+      → Calls S E v′ u1 u2 more v″ w1 w2 → Calls S E v h1 h2 (more ++ cs) v″ w1 w2
+  joined r none = r
+  joined r (completes c k n) = completes (joined r c) k n
+  joined r (refuses c f) = refuses (joined r c) f
+
+  pub longer : {E : List ℕ} {v v′ : World} {cs more : List Call} {h1 h2 u1 u2 : List Spoken} → StrictRun S E cs v h1 h2 → Calls S E v h1 h2 more v′ u1 u2
+      → StrictRun S E (more ++ cs) v′ u1 u2
+  longer r c = record { from = r .from; begins = r .begins; calls = joined (r .calls) c }
 
   pub data BothSpent : World → (h1 h2 : List Spoken) → Type 0 where
     both : {z : Dealer} {buf : List ℕ} {one two : Side} {h1 h2 : List Spoken} → SideSpent of1 one h1 → SideSpent of2 two h2 → BothSpent (world z buf one two) h1 h2
@@ -150,10 +163,16 @@ module _ (S : Stage) where
   spent-on (hears2 {buf = buf} D d v m e) (ok (dealt-all p g h k) (go1 X) (go2 Y) x) o′ (both a b) =
       both a (spent-more of2 _ _ _ v b (moved2 D (supplied S buf p D g d) _ (b .n) _ v _ (b .stands) (X .heard) m e))
 
+  none-spent : {v : World} → Begins S v → BothSpent v [] []
+  none-spent (given-out a b) = both refl refl
+
+  spent-along : {E : List ℕ} {v v′ : World} {cs : List Call} {h1 h2 : List Spoken} → Begins S v → Calls S E v [] [] cs v′ h1 h2 → BothSpent v′ h1 h2
+  spent-along b none = none-spent b
+  spent-along b (completes c k n) = spent-on k (kept S (wide-on (begin b) c)) (kept S (complete (wide-on (begin b) c) k)) (spent-along b c)
+  spent-along b (refuses c f) = rw (refuses-nothing S (kept S (wide-on (begin b) c)) f) (spent-along b c)
+
   pub spent : {E : List ℕ} {cs : List Call} {v : World} {h1 h2 : List Spoken} → StrictRun S E cs v h1 h2 → BothSpent v h1 h2
-  spent (begins a b) = both refl refl
-  spent (completes r k n) = spent-on k (kept S (wide r)) (kept S (complete (wide r) k)) (spent r)
-  spent (refuses r f) = rw (refuses-nothing S (kept S (wide r)) f) (spent r)
+  spent r = spent-along (r .begins) (r .calls)
 
   -- ---- a call that can complete can be lent exactly what document 01 says
 
@@ -275,42 +294,50 @@ module _ (S : Stage) where
   finished-all v f q h = record { one = rw (f .one) h; two = rw (f .two) h }
 
   module _ (E : List ℕ) where
-    after-call : {c : Call} {cs : List Call} → Done S E (c ∷ cs) → Done S E cs
-    after-call {c} {cs} d =
+    -- one more run, by a call that completes
+    pub next-run : {cs : List Call} {c : Call} {v v′ : World} {h1 h2 : List Spoken} → StrictRun S E cs v h1 h2 → (k : Completes S c v v′) → Narrow S E h1 h2 k
+        → StrictRun S E (c ∷ cs) v′ (heard-by-1 S k h1) (heard-by-2 S k h2)
+    next-run r k n = record { from = r .from; begins = r .begins; calls = completes (r .calls) k n }
+
+    after-call : {c : Call} {v v′ : World} {h1 h2 : List Spoken} (k : Completes S c v v′) → Narrow S E h1 h2 k → Done S E v′ (heard-by-1 S k h1) (heard-by-2 S k h2) → Done S E v h1 h2
+    after-call {c} k n d =
         record {
           more = d .more ++ (c ∷ []);
           ends-in = d .ends-in;
           heard1 = d .heard1;
           heard2 = d .heard2;
-          run = rw (append-assoc (d .more) (c ∷ []) cs) (d .run);
+          calls = joined (completes none k n) (d .calls);
           finished = d .finished;
         }
 
     -- whatever K every call that completes keeps
     module _ (K : World → Type 0) (keeps : (c : Call) (v v′ : World) → Completes S c v v′ → K v → K v′) where
       carry : (k : ℕ) {cs : List Call} {v : World} {h1 h2 : List Spoken} → ahead v < k → StrictRun S E cs v h1 h2 → Accepted S (buffer-of v) → K v
-          → (d : Done S E cs) × K (d .ends-in)
+          → (d : Done S E v h1 h2) × K (d .ends-in)
       unfolding after-call
       carry zero l r acc x = absurd (omega arith)
       carry (suc k) {cs} {v} {h1} {h2} l r acc x = go (progress S (wide r) acc) (λ c v′ u1 u2 m r′ a x′. carry k m r′ a x′)
         where
           go : Onward S v ⊎ Ended S v
               → ((c : Call) (v′ : World) (u1 u2 : List Spoken) → ahead v′ < k → StrictRun S E (c ∷ cs) v′ u1 u2 → Accepted S (buffer-of v′) → K v′
-              → (d : Done S E (c ∷ cs)) × K (d .ends-in))
-              → (d : Done S E cs) × K (d .ends-in)
+              → (d : Done S E v′ u1 u2) × K (d .ends-in))
+              → (d : Done S E v h1 h2) × K (d .ends-in)
           go (inl o) f =
               let t = tight E (o .2) (kept S (wide r)) (spent r) acc in
-              let r′ = completes r (t .call) (t .narrow) in
+              let r′ = next-run r (t .call) (t .narrow) in
               let g = fewer (t .call) (kept S (wide r)) (kept S (wide r′)) in
               let d = f _ (t .next) _ _ (omega (arith, g, l)) r′ (buffer-kept (t .call) (kept S (wide r′)) acc) (keeps _ _ _ (t .call) x) in
-              (after-call (d .0), d .1)
-          go (inr e) f = (record { more = []; ends-in = v; heard1 = h1; heard2 = h2; run = r; finished = finished-all v e }, x)
+              (after-call (t .call) (t .narrow) (d .0), d .1)
+          go (inr e) f = (record { more = []; ends-in = v; heard1 = h1; heard2 = h2; calls = none; finished = finished-all v e }, x)
 
-      pub carried-with : {cs : List Call} {v : World} {h1 h2 : List Spoken} → StrictRun S E cs v h1 h2 → Accepted S (buffer-of v) → K v → (d : Done S E cs) × K (d .ends-in)
+      pub carried-with : {cs : List Call} {v : World} {h1 h2 : List Spoken} → StrictRun S E cs v h1 h2 → Accepted S (buffer-of v) → K v → (d : Done S E v h1 h2) × K (d .ends-in)
       carried-with {v = v} r acc x = carry (suc (ahead v)) (omega arith) r acc x
 
-    pub carried : {cs : List Call} {v : World} {h1 h2 : List Spoken} → StrictRun S E cs v h1 h2 → Accepted S (buffer-of v) → Done S E cs
+    pub carried : {cs : List Call} {v : World} {h1 h2 : List Spoken} → StrictRun S E cs v h1 h2 → Accepted S (buffer-of v) → Done S E v h1 h2
     carried r acc = carried-with (λ v. Unit) (λ c v v′ k x. tt) r acc tt .0
+
+    pub begun : (v : World) → Begins S v → Accepted S (buffer-of v) → Done S E v [] []
+    begun v b acc = carried (record { from = v; begins = b; calls = none }) acc
 
     -- ---- from the registers given
 
@@ -321,8 +348,3 @@ module _ (S : Stage) where
     pub given-back : (l k : Lane) → length l ≡ S .script .slots → length k ≡ S .script .slots → registers (S .script .slots) (given (l, k)) ≡ (l, k)
     unfolding given
     given-back l k m n = rw (front-back l m, front-back k n)
-
-    pub begun : (buf : List ℕ) → Accepted S buf → Done S E []
-    begun buf acc =
-        carried (begins {buf = buf} {one = given (S .rm, S .r1)} {two = given (S .rm, S .r2)} (given-back (S .rm) (S .r1) (S .rm-full) (S .r1-full))
-        (given-back (S .rm) (S .r2) (S .rm-full) (S .r2-full))) acc

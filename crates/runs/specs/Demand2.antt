@@ -13,18 +13,20 @@ use Rattle.gates.specs.Steps.{Exchange, Step, local, deal, exchange, end, Curso
 use Rattle.gates.specs.Parties.{Pair, Triple, act, joint1, joint2}
 use Rattle.circuits.specs.Opens.{order-value}
 use Rattle.jobs.specs.Job.{orders}
-use Rattle.parties.specs.Scripts.{job-script, script-cost, orders-in, Closed}
+use Rattle.parties.specs.Scripts.{job-script, script-cost, orders-in, Orderly}
 use Rattle.parties.specs.Calls.{State, start, hear}
-use Rattle.runs.specs.Runs.{Stage, Setting, staged, Spoken, Among, Dealer, ready, Side, waiting, going, World, world, registers, Call, lent1, lent2, Dealt, preparation, Run, opened-after}
+use Rattle.runs.specs.Runs.{Stage, Setting, staged, Spoken, Among, Dealer, ready, Side, waiting, going, World, world, Call, lent1, lent2, Dealt, preparation, held, Run, opened-after}
 use Rattle.runs.specs.Orders.{first, slot, after-order, before-order, Unwritten, order-of, refresh-mask}
 use Rattle.runs.specs.Demand3.{opens, Finishes}
 
 -- the words that a host speaks on the joint walk, each at its place, and 0 at the end
 unfoldable pub defined-words : (A B : List ℕ) → (Exchange → Cursor → Triple → ℕ) → List Step → Cursor → Triple → List Spoken
 defined-words A B say [] c j = (c .order, c .turn, 0) ∷ []
-defined-words A B say (local d m l ∷ ss) c j = defined-words A B say ss (past (local d m l) c) (act A B (local d m l) c j)
+defined-words A B say (local d m l ∷ ss) c j =
+    defined-words A B say ss (past (local d m l) c) (act A B (local d m l) c j)
 defined-words A B say (deal d f ∷ ss) c j = defined-words A B say ss (past (deal d f) c) (act A B (deal d f) c j)
-defined-words A B say (exchange d e ∷ ss) c j = (c .order, c .turn, say e c j) ∷ defined-words A B say ss (past (exchange d e) c) (act A B (exchange d e) c j)
+defined-words A B say (exchange d e ∷ ss) c j =
+    (c .order, c .turn, say e c j) ∷ defined-words A B say ss (past (exchange d e) c) (act A B (exchange d e) c j)
 defined-words A B say (end ∷ ss) c j = defined-words A B say ss (past end c) (act A B end c j)
 
 abbrev pub words-of-1 : Stage → List Spoken
@@ -38,40 +40,55 @@ pub record Counted (S : Stage) (k : ℕ) (s : State) (n : ℕ) : Type 0 where
   pub before-end : s .order < orders-in (S .script) → k ≡ n
   pub at-end : s .order ≡ orders-in (S .script) → (suc k ≡ n) × (k * 2 ≡ script-cost (S .script) .words)
 
+-- what register i opens just before order q, and its mask L = L1 + L2 there
+abbrev pub value-before : Setting → (q i : ℕ) → ℕ
+value-before S q i = value (numbers 32) (slot (before-order (staged 32 S) q) i)
+
+abbrev pub mask-before : Setting → (q i : ℕ) → ℕ
+mask-before S q i = mask (numbers 32) (slot (before-order (staged 32 S) q) i)
+
+-- the word that document 01 defines for order q, from what its sources open just before it, and the masks
+abbrev pub defined-value : Setting → (q : ℕ) → ℕ
+defined-value S q =
+    order-value 32 (rows (S .table)) (order-of S q) (value-before S q (order-of S q .source)) (value-before S q (order-of S q .fourth))
+    (mask-before S q (order-of S q .source)) (refresh-mask 32 S q)
+
 pub record Demand2 : Type 0 where
-  -- "each order opens to the value that document 01 defines for it": from what its sources opened just before it, and the masks
+  -- "each order opens to the value that document 01 defines for it"
   pub order-opens : (S : Setting) (q : ℕ) (v : World) → Finishes (staged 32 S) q v
-      → opens S v q
-      ≡ (
-        0,
-        signed 32 (order-value 32 (rows (S .table)) (order-of S q) (value (numbers 32) (slot (before-order (staged 32 S) q) (order-of S q .source)))
-            (value (numbers 32) (slot (before-order (staged 32 S) q) (order-of S q .fourth))) (mask (numbers 32) (slot (before-order (staged 32 S) q) (order-of S q .source))) (refresh-mask 32 S q)),
-      )
+      → opens S v q ≡ (0, signed 32 (defined-value S q))
   -- opening any register as the order leaves it never meets 10, and gives its value on the joint walk
-  pub shares-agree : (S : Stage) (q i : ℕ) (v : World) → Finishes S q v → opened-after 32 v q i ≡ (0, signed 32 (value (numbers 32) (slot (after-order S q) i)))
-  -- "the register keeps that until an order writes it": any slot that no step of the order writes; so every register but a job's order's target
-  pub slot-kept : (S : Stage) (q i : ℕ) → q < orders-in (S .script) → Unwritten i q (S .script .steps) → slot (after-order S q) i ≡ slot (before-order S q) i
-  pub register-kept : (S : Setting) (q i : ℕ) (v : World) → Finishes (staged 32 S) q v → i < 16 → eqb i (order-of S q .target) ≡ false
-      → slot (after-order (staged 32 S) q) i ≡ slot (before-order (staged 32 S) q) i
+  pub shares-agree : (S : Stage) (q i : ℕ) (v : World) → Finishes S q v
+      → opened-after 32 v q i ≡ (0, signed 32 (value (numbers 32) (slot (after-order S q) i)))
+  -- "the register keeps that until an order writes it": any slot that no step of the order writes; so every register but a
+  -- job's order's target
+  pub slot-kept : (S : Stage) (q i : ℕ) → q < orders-in (S .script) → Unwritten i q (S .script .steps)
+      → slot (after-order S q) i ≡ slot (before-order S q) i
+  pub register-kept : (S : Setting) (q i : ℕ) (v : World) → Finishes (staged 32 S) q v → i < 16
+      → eqb i (order-of S q .target) ≡ false → slot (after-order (staged 32 S) q) i ≡ slot (before-order (staged 32 S) q) i
   -- "every spoken word is the one defined there"
-  pub host1-speaks : (S : Stage) (cs : List Call) (z : Dealer) (buf : List ℕ) (s : State) (t : List Pair) (said : List Spoken) (two : Side)
-      → Run S cs (world z buf (going s t said) two) → (p : Spoken) → Among p said → Among p (words-of-1 S)
-  pub host2-speaks : (S : Stage) (cs : List Call) (z : Dealer) (buf : List ℕ) (one : Side) (s : State) (t : List Pair) (said : List Spoken)
-      → Run S cs (world z buf one (going s t said)) → (p : Spoken) → Among p said → Among p (words-of-2 S)
+  pub host1-speaks : (S : Stage) (cs : List Call) (z : Dealer) (buf : List ℕ) (s : State) (t : List Pair) (said : List Spoken)
+      (two : Side) → Run S cs (world z buf (going s t said) two) → (p : Spoken) → Among p said → Among p (words-of-1 S)
+  pub host2-speaks : (S : Stage) (cs : List Call) (z : Dealer) (buf : List ℕ) (one : Side) (s : State) (t : List Pair)
+      (said : List Spoken) → Run S cs (world z buf one (going s t said)) → (p : Spoken) → Among p said → Among p (words-of-2 S)
   -- "preparation reports the deals it wrote, hosts 1 and 2 each the words they have spoken so far, at the end half the sum"
-  pub deals-counted : (S : Stage) (buf : List ℕ) (r : Pair) → preparation S buf r .number ≡ 0 → preparation S buf r .deals ≡ script-cost (S .script) .deals
-  pub start1-counted : (S : Stage) → Closed (S .script .steps) → (cs : List Call) (z : Dealer) (buf D : List ℕ) (s : State) (two : Side) → Run S cs (world z buf (waiting s) two)
-      → start (lent1 S D) (registers (S .script .slots) s) .number ≡ 0
-      → Counted S (start (lent1 S D) (registers (S .script .slots) s) .spoken) (start (lent1 S D) (registers (S .script .slots) s) .state) 1
-  pub hear1-counted : (S : Stage) → Closed (S .script .steps) → (cs : List Call) (z : Dealer) (buf D : List ℕ) (s s2 : State) (t t2 : List Pair) (said said2 : List Spoken) (v : ℕ)
-      → Run S cs (world z buf (going s t said) (going s2 t2 said2)) → Among (s .order, s .turn, v) said2 → hear (lent1 S D) s v .number ≡ 0
+  pub deals-counted : (S : Stage) (buf : List ℕ) (r : Pair) → preparation S buf r .number ≡ 0
+      → preparation S buf r .deals ≡ script-cost (S .script) .deals
+  pub start1-counted : (S : Stage) → Orderly (S .script) → (cs : List Call) (z : Dealer) (buf D : List ℕ) (s : State) (two : Side)
+      → Run S cs (world z buf (waiting s) two) → start (lent1 S D) (held S s) .number ≡ 0
+      → Counted S (start (lent1 S D) (held S s) .spoken) (start (lent1 S D) (held S s) .state) 1
+  pub hear1-counted : (S : Stage) → Orderly (S .script) → (cs : List Call) (z : Dealer) (buf D : List ℕ) (s s2 : State)
+      (t t2 : List Pair) (said said2 : List Spoken) (v : ℕ) → Run S cs (world z buf (going s t said) (going s2 t2 said2))
+      → Among (s .order, s .turn, v) said2 → hear (lent1 S D) s v .number ≡ 0
       → Counted S (hear (lent1 S D) s v .spoken) (hear (lent1 S D) s v .state) (suc (length said))
-  pub start2-counted : (S : Stage) → Closed (S .script .steps) → (cs : List Call) (r : Pair) (t₀ : List Pair) (buf D : List ℕ) (one : Side) (s : State) → Run S cs (world (ready r t₀) buf one (waiting s))
-      → Dealt S buf D → start (lent2 S D) (registers (S .script .slots) s) .number ≡ 0
-      → Counted S (start (lent2 S D) (registers (S .script .slots) s) .spoken) (start (lent2 S D) (registers (S .script .slots) s) .state) 1
-  pub hear2-counted : (S : Stage) → Closed (S .script .steps) → (cs : List Call) (z : Dealer) (buf D : List ℕ) (s1 s : State) (t1 t : List Pair) (said1 said : List Spoken) (v : ℕ)
-      → Run S cs (world z buf (going s1 t1 said1) (going s t said)) → Dealt S buf D → Among (s .order, s .turn, v) said1 → hear (lent2 S D) s v .number ≡ 0
+  pub start2-counted : (S : Stage) → Orderly (S .script) → (cs : List Call) (r : Pair) (t₀ : List Pair) (buf D : List ℕ) (one : Side)
+      (s : State) → Run S cs (world (ready r t₀) buf one (waiting s)) → Dealt S buf D
+      → start (lent2 S D) (held S s) .number ≡ 0
+      → Counted S (start (lent2 S D) (held S s) .spoken) (start (lent2 S D) (held S s) .state) 1
+  pub hear2-counted : (S : Stage) → Orderly (S .script) → (cs : List Call) (z : Dealer) (buf D : List ℕ) (s1 s : State)
+      (t1 t : List Pair) (said1 said : List Spoken) (v : ℕ) → Run S cs (world z buf (going s1 t1 said1) (going s t said))
+      → Dealt S buf D → Among (s .order, s .turn, v) said1 → hear (lent2 S D) s v .number ≡ 0
       → Counted S (hear (lent2 S D) s v .spoken) (hear (lent2 S D) s v .state) (suc (length said))
-  -- a job's script has as many orders as the job, and every step stands in one
+  -- a job's script has as many orders as the job, and is orderly
   pub job-orders : (job table : List ℕ) → orders-in (job-script 32 job table) ≡ length (orders job)
-  pub job-closed : (job table : List ℕ) → Closed (job-script 32 job table .steps)
+  pub job-orderly : (job table : List ℕ) → Orderly (job-script 32 job table)

@@ -1,11 +1,13 @@
 pub mod Runs
 pub mod Orders
 pub mod Demand3
+pub mod Conditions
+pub mod Numbers
 pub mod Demand1
 pub mod Demand2
 pub mod Returned
 pub mod InOrder
 pub mod Strict
-pub mod Numbers
+pub mod Buffers
 pub mod Whole
 pub mod ReturnedCurves

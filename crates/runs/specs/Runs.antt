@@ -1,4 +1,5 @@
--- Document 01, "Stepping": runs of a script, lists of preparation, starting and hearing with refused calls anywhere; and the runs of a job. Assumes nothing.
+-- Document 01, "Stepping": runs of a script, lists of preparation, starting and hearing with refused calls anywhere; and the
+-- runs of a job. Assumes nothing.
 use mathlib.Core.Path.{_≡_}
 use mathlib.Core.Logic.{_≢_, _⊎_}
 use mathlib.Core.List.{List, [], _∷_, _++_}
@@ -12,8 +13,8 @@ use Rattle.parties.specs.Lent.{Lent, party-of}
 use Rattle.parties.specs.Calls.{State, Prepared, start-walk, start, found-of, hear-walk, hear, prepare-walk, prepare}
 use lib.IntN.{ℤ}
 
--- what every call of a run is lent, the script and the lists; and the registers that the hosts are given, which open: host 0 has the masks r1 and r2,
--- host 1 rm and r1, host 2 rm and r2
+-- what every call of a run is lent, the script and the lists; and the registers that the hosts are given, which open: host 0 has
+-- the masks r1 and r2, host 1 rm and r1, host 2 rm and r2
 pub record Stage : Type 0 where
   pub script : Script
   pub A : List ℕ
@@ -71,7 +72,8 @@ pub data Dealer : Type 0 where
   idle : Pair → Dealer
   ready : Pair → List Pair → Dealer
 
--- host 1 or 2: what it holds (before its starting, registers with whatever place and kept words); once started, its trail and the words that it has spoken
+-- host 1 or 2: what it holds (before its starting, registers with whatever place and kept words); once started, its trail and the
+-- words that it has spoken, the last in front
 pub data Side : Type 0 where
   waiting : State → Side
   going : State → List Pair → List Spoken → Side
@@ -86,27 +88,36 @@ registers n s = (take n (s .m), take n (s .mask))
 
 -- "after a refused starting, with the place and kept words it held"
 abbrev pub with-registers : (n : ℕ) → State → Pair → State
-with-registers n s r = record { m = r .0 ++ drop n (s .m); mask = r .1 ++ drop n (s .mask); order = s .order; turn = s .turn }
+with-registers n s r =
+    record { m = r .0 ++ drop n (s .m); mask = r .1 ++ drop n (s .mask); order = s .order; turn = s .turn }
 
 -- ---- refused calls, lent anything: what the host holds next is built from the call's answer
 
 pub data Turned (n : ℕ) : State → State → Type 0 where
-  at-start : {s : State} (L : Lent) → start L (registers n s) .number ≢ 0 → Turned n s (with-registers n s (registers n (start L (registers n s) .state)))
+  at-start : {s : State} (L : Lent) → start L (registers n s) .number ≢ 0
+      → Turned n s (with-registers n s (registers n (start L (registers n s) .state)))
   at-hearing : {s : State} (L : Lent) (v : ℕ) → hear L s v .number ≢ 0 → Turned n s (hear L s v .state)
 
 pub data Refuses (n : ℕ) : World → World → Type 0 where
   -- a preparation, lent the run's buffer
   dealer : {r : Pair} {buf : List ℕ} {one two : Side} (σ : Script) (A B : List ℕ) → prepare σ A B buf r .number ≢ 0
-      → Refuses n (world (idle r) buf one two) (world (idle (prepare σ A B buf r .masks)) (prepare σ A B buf r .buffer) one two)
-  dealer-later : {r : Pair} {t : List Pair} {buf : List ℕ} {one two : Side} (σ : Script) (A B : List ℕ) → prepare σ A B buf r .number ≢ 0
-      → Refuses n (world (ready r t) buf one two) (world (ready (prepare σ A B buf r .masks) t) (prepare σ A B buf r .buffer) one two)
+      → Refuses n (world (idle r) buf one two)
+      (world (idle (prepare σ A B buf r .masks)) (prepare σ A B buf r .buffer) one two)
+  dealer-later : {r : Pair} {t : List Pair} {buf : List ℕ} {one two : Side} (σ : Script) (A B : List ℕ)
+      → prepare σ A B buf r .number ≢ 0
+      → Refuses n (world (ready r t) buf one two)
+      (world (ready (prepare σ A B buf r .masks) t) (prepare σ A B buf r .buffer) one two)
   -- or another buffer
-  dealer-elsewhere : {r : Pair} {buf : List ℕ} {one two : Side} (σ : Script) (A B other : List ℕ) → prepare σ A B other r .number ≢ 0
+  dealer-elsewhere : {r : Pair} {buf : List ℕ} {one two : Side} (σ : Script) (A B other : List ℕ)
+      → prepare σ A B other r .number ≢ 0
       → Refuses n (world (idle r) buf one two) (world (idle (prepare σ A B other r .masks)) buf one two)
-  dealer-later-elsewhere : {r : Pair} {t : List Pair} {buf : List ℕ} {one two : Side} (σ : Script) (A B other : List ℕ) → prepare σ A B other r .number ≢ 0
+  dealer-later-elsewhere : {r : Pair} {t : List Pair} {buf : List ℕ} {one two : Side} (σ : Script) (A B other : List ℕ)
+      → prepare σ A B other r .number ≢ 0
       → Refuses n (world (ready r t) buf one two) (world (ready (prepare σ A B other r .masks) t) buf one two)
-  one-waiting : {z : Dealer} {buf : List ℕ} {s s′ : State} {two : Side} → Turned n s s′ → Refuses n (world z buf (waiting s) two) (world z buf (waiting s′) two)
-  two-waiting : {z : Dealer} {buf : List ℕ} {s s′ : State} {one : Side} → Turned n s s′ → Refuses n (world z buf one (waiting s)) (world z buf one (waiting s′))
+  one-waiting : {z : Dealer} {buf : List ℕ} {s s′ : State} {two : Side} → Turned n s s′
+      → Refuses n (world z buf (waiting s) two) (world z buf (waiting s′) two)
+  two-waiting : {z : Dealer} {buf : List ℕ} {s s′ : State} {one : Side} → Turned n s s′
+      → Refuses n (world z buf one (waiting s)) (world z buf one (waiting s′))
   one-going : {z : Dealer} {buf : List ℕ} {s s′ : State} {t : List Pair} {said : List Spoken} {two : Side} → Turned n s s′
       → Refuses n (world z buf (going s t said) two) (world z buf (going s′ t said) two)
   two-going : {z : Dealer} {buf : List ℕ} {s s′ : State} {t : List Pair} {said : List Spoken} {one : Side} → Turned n s s′
@@ -133,35 +144,50 @@ module _ (S : Stage) where
   abbrev pub preparation : List ℕ → Pair → Prepared
   preparation buf r = prepare (S .script) (S .A) (S .B) buf r
 
+  -- the registers, or what else is given at the start
+  abbrev pub held : State → Pair
+  held s = registers (S .script .slots) s
+
   -- a host after its starting, and after a hearing
   abbrev pub started : Lent → State → Side
-  started L s = going (start L (registers (S .script .slots) s) .state) (start-walk L (registers (S .script .slots) s) .trail) (utter (start L (registers (S .script .slots) s) .state) (start L (registers (S .script .slots) s) .word) ∷ [])
+  started L s =
+      going (start L (held s) .state) (start-walk L (held s) .trail)
+      (utter (start L (held s) .state) (start L (held s) .word) ∷ [])
 
   abbrev pub stepped : Lent → State → (v : ℕ) → List Pair → List Spoken → Side
   stepped L s v t said =
-      going (hear L s v .state) (t ++ hear-walk (party-of L) s v (found-of L s) .trail) (utter (hear L s v .state) (hear L s v .word) ∷ said)
+      going (hear L s v .state) (t ++ hear-walk (party-of L) s v (found-of L s) .trail)
+      (utter (hear L s v .state) (hear L s v .word) ∷ said)
 
   pub data Completes : Call → World → World → Type 0 where
     prepares : {r : Pair} {buf : List ℕ} {one two : Side} → preparation buf r .number ≡ 0
         → Completes preparing (world (idle r) buf one two)
-        (world (ready (preparation buf r .masks) (prepare-walk (S .script) (S .A) (S .B) r .trail)) (preparation buf r .buffer) one two)
-    starts1 : {z : Dealer} {buf : List ℕ} {s : State} {two : Side} (D : List ℕ) → start (lent1 D) (registers (S .script .slots) s) .number ≡ 0
+        (world (ready (preparation buf r .masks) (prepare-walk (S .script) (S .A) (S .B) r .trail))
+        (preparation buf r .buffer) one two)
+    starts1 : {z : Dealer} {buf : List ℕ} {s : State} {two : Side} (D : List ℕ) → start (lent1 D) (held s) .number ≡ 0
         → Completes starting1 (world z buf (waiting s) two) (world z buf (started (lent1 D) s) two)
     -- "starting host 2 after the preparation"
-    starts2 : {r : Pair} {t₀ : List Pair} {buf : List ℕ} {s : State} {one : Side} (D : List ℕ) → Dealt buf D → start (lent2 D) (registers (S .script .slots) s) .number ≡ 0
+    starts2 : {r : Pair} {t₀ : List Pair} {buf : List ℕ} {s : State} {one : Side} (D : List ℕ) → Dealt buf D
+        → start (lent2 D) (held s) .number ≡ 0
         → Completes starting2 (world (ready r t₀) buf one (waiting s)) (world (ready r t₀) buf one (started (lent2 D) s))
     -- "the word the other host spoke at that same place"
     hears1 : {z : Dealer} {buf : List ℕ} {s s2 : State} {t t2 : List Pair} {said said2 : List Spoken} (D : List ℕ) (v : ℕ)
         → Among (s .order, s .turn, v) said2 → hear (lent1 D) s v .number ≡ 0
-        → Completes (hearing1 v) (world z buf (going s t said) (going s2 t2 said2)) (world z buf (stepped (lent1 D) s v t said) (going s2 t2 said2))
-    hears2 : {z : Dealer} {buf : List ℕ} {s s1 : State} {t t1 : List Pair} {said said1 : List Spoken} (D : List ℕ) → Dealt buf D → (v : ℕ)
-        → Among (s .order, s .turn, v) said1 → hear (lent2 D) s v .number ≡ 0
-        → Completes (hearing2 v) (world z buf (going s1 t1 said1) (going s t said)) (world z buf (going s1 t1 said1) (stepped (lent2 D) s v t said))
+        → Completes (hearing1 v) (world z buf (going s t said) (going s2 t2 said2))
+        (world z buf (stepped (lent1 D) s v t said) (going s2 t2 said2))
+    hears2 : {z : Dealer} {buf : List ℕ} {s s1 : State} {t t1 : List Pair} {said said1 : List Spoken} (D : List ℕ)
+        → Dealt buf D → (v : ℕ) → Among (s .order, s .turn, v) said1 → hear (lent2 D) s v .number ≡ 0
+        → Completes (hearing2 v) (world z buf (going s1 t1 said1) (going s t said))
+        (world z buf (going s1 t1 said1) (stepped (lent2 D) s v t said))
+
+  -- before the first call: host 0 has its masks, hosts 1 and 2 hold the registers given, with whatever place and kept words
+  pub data Begins : World → Type 0 where
+    given-out : {buf : List ℕ} {one two : State} → held one ≡ (S .rm, S .r1) → held two ≡ (S .rm, S .r2)
+        → Begins (world (idle (S .r1, S .r2)) buf (waiting one) (waiting two))
 
   -- a run and its calls, the last in front
   pub data Run : List Call → World → Type 0 where
-    begin : {buf : List ℕ} {one two : State} → registers (S .script .slots) one ≡ (S .rm, S .r1) → registers (S .script .slots) two ≡ (S .rm, S .r2)
-        → Run [] (world (idle (S .r1, S .r2)) buf (waiting one) (waiting two))
+    begin : {v : World} → Begins v → Run [] v
     complete : {cs : List Call} {c : Call} {v v′ : World} → Run cs v → Completes c v v′ → Run (c ∷ cs) v′
     refuse : {cs : List Call} {v v′ : World} → Run cs v → Refuses (S .script .slots) v v′ → Run (turned-down ∷ cs) v′
 
@@ -200,15 +226,24 @@ pub record Finished (v : World) (q : ℕ) : Type 0 where
 -- the six words of slot i that three hosts hold in their lanes
 abbrev pub six : (p0 p1 p2 : Pair) → ℕ → Six
 six p0 p1 p2 i =
-    record { l1-of-0 = at (p0 .0) i; l2-of-0 = at (p0 .1) i; m-of-1 = at (p1 .0) i; l1-of-1 = at (p1 .1) i; m-of-2 = at (p2 .0) i; l2-of-2 = at (p2 .1) i }
+    record {
+      l1-of-0 = at (p0 .0) i;
+      l2-of-0 = at (p0 .1) i;
+      m-of-1 = at (p1 .0) i;
+      l1-of-1 = at (p1 .1) i;
+      m-of-2 = at (p2 .0) i;
+      l2-of-2 = at (p2 .1) i;
+    }
 
 -- what opening gives on them
 abbrev pub opened-slot : (w : ℕ) (p0 p1 p2 : Pair) → ℕ → ℕ × ℤ
 opened-slot w p0 p1 p2 i = reconstruction w (six p0 p1 p2 i)
 
--- "What it opens is what opening gives on the three hosts' shares of its target as the order leaves them": slot i after order q
+-- "What it opens is what opening gives on the three hosts' shares of its target as the order leaves them": slot i after
+-- order q
 unfoldable pub opened-after : (w : ℕ) → World → (q i : ℕ) → ℕ × ℤ
-opened-after w v q i = opened-slot w (getD (trail0 v) q ([], [])) (getD (trail1 v) q ([], [])) (getD (trail2 v) q ([], [])) i
+opened-after w v q i =
+    opened-slot w (getD (trail0 v) q ([], [])) (getD (trail1 v) q ([], [])) (getD (trail2 v) q ([], [])) i
 
 -- the buffer of deals
 abbrev pub buffer-of : World → List ℕ

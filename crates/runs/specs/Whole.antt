@@ -1,15 +1,19 @@
 -- The run of a whole script that begins with its preparation and both startings. Assumes nothing.
 use mathlib.Core.Path.{_≡_}
-use mathlib.Core.List.{List}
+use mathlib.Core.Logic.{_↔_}
+use mathlib.Core.List.{List, []}
 use Prim.Native.Nat.{ℕ, _<_}
 use Rattle.gates.specs.Parties.{Pair}
 use Rattle.parties.specs.Scripts.{orders-in}
 use Rattle.parties.specs.Calls.{State}
-use Rattle.runs.specs.Runs.{Stage, Spoken, ready, going, world, Call, preparation, Finished, Accepted}
-use Rattle.runs.specs.Strict.{StrictRun}
+use Rattle.runs.specs.Runs.{Stage, Setting, staged, Spoken, idle, ready, waiting, going, World, world, Call, preparation, held, Finished, Accepted}
+use Rattle.runs.specs.Conditions.{PreparationIs}
+use Rattle.runs.specs.Demand1.{job-terms}
+use Rattle.runs.specs.Strict.{Calls}
 
--- a run after which host 0 holds the masks and the buffer that the preparation p returned, hosts 1 and 2 the states one and two, and every order is finished
-pub record WholeRun (S : Stage) (E : List ℕ) (masks : Pair) (buffer : List ℕ) (one two : State) : Type 0 where
+-- calls from the world v after which host 0 holds these masks and this buffer, hosts 1 and 2 the states one and two, and every
+-- order is finished
+pub record WholeRun (S : Stage) (E : List ℕ) (v : World) (masks : Pair) (buffer : List ℕ) (one two : State) : Type 0 where
   pub calls : List Call
   pub trail0 : List Pair
   pub trail1 : List Pair
@@ -18,13 +22,24 @@ pub record WholeRun (S : Stage) (E : List ℕ) (masks : Pair) (buffer : List ℕ
   pub said2 : List Spoken
   pub heard1 : List Spoken
   pub heard2 : List Spoken
-  pub run : StrictRun S E calls (world (ready masks trail0) buffer (going one trail1 said1) (going two trail2 said2)) heard1 heard2
-  pub finished : (q : ℕ) → q < orders-in (S .script) → Finished (world (ready masks trail0) buffer (going one trail1 said1) (going two trail2 said2)) q
+  pub run : Calls S E v [] [] calls (world (ready masks trail0) buffer (going one trail1 said1) (going two trail2 said2)) heard1 heard2
+  pub finished : (q : ℕ) → q < orders-in (S .script)
+      → Finished (world (ready masks trail0) buffer (going one trail1 said1) (going two trail2 said2)) q
+
+-- the world before the first call, the hosts holding the states one and two
+abbrev pub outset : Stage → (buffer : List ℕ) (one two : State) → World
+outset S buf one two = world (idle (S .r1, S .r2)) buf (waiting one) (waiting two)
 
 pub record Whole : Type 0 where
   -- a script is accepted with its lists and its buffer exactly where its preparation is not refused
   pub accepted : (S : Stage) (buffer : List ℕ) (r : Pair) → preparation S buffer r .number ≡ 0 → Accepted S buffer
   pub prepares : (S : Stage) (buffer : List ℕ) (r : Pair) → Accepted S buffer → preparation S buffer r .number ≡ 0
-  -- and then a run of it finishes every order, on the masks and the buffer that the preparation returned
-  pub whole-run : (S : Stage) (E buffer : List ℕ) → preparation S buffer (S .r1, S .r2) .number ≡ 0
-      → (one : State) × (two : State) × WholeRun S E (preparation S buffer (S .r1, S .r2) .masks) (preparation S buffer (S .r1, S .r2) .buffer) one two
+  -- a job exactly where none of the conditions 2 to 7 is met
+  pub accepted-job : (S : Setting) (buffer : List ℕ)
+      → PreparationIs (job-terms (S .job) (S .table)) (S .A) (S .B) buffer 0 0 ↔ Accepted (staged 32 S) buffer
+  -- and then, from any registers that open, with whatever kept words and buffer, there are calls that finish every order, on the
+  -- masks and the buffer that the preparation returns
+  pub whole-run : (S : Stage) (E buffer : List ℕ) (one two : State) → held S one ≡ (S .rm, S .r1) → held S two ≡ (S .rm, S .r2)
+      → preparation S buffer (S .r1, S .r2) .number ≡ 0
+      → (s1 : State) × (s2 : State) × WholeRun S E (outset S buffer one two)
+      (preparation S buffer (S .r1, S .r2) .masks) (preparation S buffer (S .r1, S .r2) .buffer) s1 s2
