@@ -10,14 +10,16 @@ use Rattle.parties.specs.Places.{Found, nowhere, found, seek}
 use Rattle.parties.specs.Scripts.{Script}
 use Rattle.parties.specs.Lent.{Lent, Party, party-of, lent-fault, dealer-fault}
 
--- "A host's state is sixteen registers, the words kept between gates, and a place": the lanes m and mask, registers in slots 0 to 15 and temporaries behind
+-- "A host's state is sixteen registers, the words kept between gates, and a place": the lanes m and mask, registers in
+-- slots 0 to 15 and temporaries behind
 pub record State : Type 0 where
   pub m : Lane
   pub mask : Lane
   pub order : ℕ
   pub turn : ℕ
 
--- the answer of starting and hearing: the number, 0 for none, and the order's index; the words spoken so far, the word given, and the state
+-- the answer of starting and hearing: the number, 0 for none, and the order's index; the words spoken so far, the word
+-- given, and the state
 pub record Answer : Type 0 where
   pub number : ℕ
   pub index : ℕ
@@ -46,7 +48,8 @@ word-at say (deal d f ∷ ss) c s = 0
 word-at say (exchange d e ∷ ss) c s = say e c s
 word-at say (end ∷ ss) c s = 0
 
--- the words spoken so far: one at each product and refresh passed, which is as many as words of B used, and the word just given
+-- the words spoken so far: one at each product and refresh passed, which is as many as words of B used, and the word
+-- just given
 unfoldable pub spoken-at : List Step → Cursor → ℕ
 spoken-at [] c = c .b
 spoken-at (local d m l ∷ ss) c = c .b
@@ -92,7 +95,8 @@ hear-walk P s v nowhere = walk (P .act) [] origin (s .m, s .mask) []
 hear-walk P s v (found [] c) = walk (P .act) [] c (s .m, s .mask) []
 hear-walk P s v (found (local d m l ∷ ss) c) = walk (P .act) [] c (s .m, s .mask) []
 hear-walk P s v (found (deal d f ∷ ss) c) = walk (P .act) [] c (s .m, s .mask) []
-hear-walk P s v (found (exchange d e ∷ ss) c) = walk (P .act) ss (past (exchange d e) c) (P .hear d e c (s .m, s .mask) v) []
+hear-walk P s v (found (exchange d e ∷ ss) c) = walk (P .act) ss (past (exchange d e) c)
+    (P .hear d e c (s .m, s .mask) v) []
 hear-walk P s v (found (end ∷ ss) c) = walk (P .act) [] c (s .m, s .mask) []
 
 -- "8. The state's place is neither the end nor a product or refresh of this job." "9. Hearing is called at the end."
@@ -113,7 +117,8 @@ resume P s v f = unless (place-fault f) (place-fault f, 0) s (report P (hear-wal
 unfoldable pub hear : Lent → State → (heard : ℕ) → Answer
 hear L s v = unless (lent-fault L .0) (lent-fault L) s (resume (party-of L) s v (found-of L s))
 
--- ---- preparation: "writes exactly its deals, in gate order, and gives back its masks of all registers; later words of its buffer keep their content"
+-- ---- preparation: "writes exactly its deals, in gate order, and gives back its masks of all registers; later words of
+-- its buffer keep their content"
 
 pub record Prepared : Type 0 where
   pub number : ℕ

@@ -9,7 +9,8 @@ use Rattle.gates.specs.Costs.{Cost, cost-of}
 use Rattle.jobs.specs.Job.{Fault, short-a, short-b, short-deals}
 use Rattle.parties.specs.Scripts.{Script, blank, script-cost}
 
--- starting and hearing: the host's number, what it is to run, the host's own mask list (host 1: A; host 2: B), and the deals, of which host 1 takes no notice
+-- starting and hearing: the host's number, what it is to run, the host's own mask list (host 1: A; host 2: B), and the
+-- deals, of which host 1 takes no notice
 pub record Lent : Type 0 where
   pub host : ℕ
   pub script : Script
@@ -48,11 +49,13 @@ or-else f n = cond (eqb (f .0) 0) (n, 0) f
 -- 6 and 7 of hosts 1 and 2
 unfoldable pub lists-fault : Cost → Lent → ℕ
 lists-fault k L =
-    cond (eqb (L .host) 1) (cond (short-a k (L .masks)) 6 0) (cond (short-b k (L .masks)) 6 (cond (short-deals k (L .deals)) 7 0))
+    cond (eqb (L .host) 1) (cond (short-a k (L .masks)) 6 0)
+    (cond (short-b k (L .masks)) 6 (cond (short-deals k (L .deals)) 7 0))
 
 -- 1 to 7: "1. Starting or stepping names a host other than 1 or 2."
 unfoldable pub lent-fault : Lent → Fault
-lent-fault L = cond (eqb (L .host) 1 || eqb (L .host) 2) (or-else (L .script .fault) (lists-fault (script-cost (L .script)) L)) (1, 0)
+lent-fault L = cond (eqb (L .host) 1 || eqb (L .host) 2)
+    (or-else (L .script .fault) (lists-fault (script-cost (L .script)) L)) (1, 0)
 
 -- by the number found: the counts so far, or where the call is turned down none
 unfoldable pub passed : (number : ℕ) → Cost → Cost

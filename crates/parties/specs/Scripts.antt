@@ -1,12 +1,14 @@
--- What the hosts run: the steps of its orders, and the first condition that it meets by itself, before the lists are looked at. Assumes nothing.
+-- What the hosts run: the steps of its orders, and the first condition that it meets by itself, before the lists are
+-- looked at. Assumes nothing.
 use mathlib.Core.List.{List, [], _∷_}
 use Prim.Native.Nat.{ℕ, suc, _≤_}
 use Rattle.gates.specs.Steps.{Step, local, deal, exchange, end}
 use Rattle.gates.specs.Costs.{Cost, cost}
 use Rattle.jobs.specs.Job.{Fault, job-fault, steps-of}
 
--- the number and the order's index of the first condition met among those that come before 6, number 0 for none; the slots of a lane that are given at the start,
--- and whose masks preparation gives back; and the programs of the orders, end to end
+-- the number and the order's index of the first condition met among those that come before 6, number 0 for none; the
+-- slots of a lane that are given at the start, and whose masks preparation gives back; and the programs of the orders,
+-- end to end
 pub record Script : Type 0 where
   pub fault : Fault
   pub slots : ℕ

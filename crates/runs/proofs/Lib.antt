@@ -20,6 +20,7 @@ pub mod Demand1
 pub mod Counts
 pub mod Demand2
 pub mod Written
+pub mod Unwritten
 pub mod Returned
 pub mod InOrder
 pub mod Strict

@@ -1,12 +1,13 @@
--- "Host 0's preparation writes exactly its deals, in gate order, and gives back its masks of all registers; later words of its
--- buffer keep their content." What the buffer holds, in every run. Assumes nothing.
+-- "Host 0's preparation writes exactly its deals, in gate order, and gives back its masks of all registers; later words
+-- of its buffer keep their content." What the buffer holds, in every run. Assumes nothing.
 use mathlib.Core.Path.{_≡_}
 use mathlib.Core.List.{List, [], _∷_, _++_}
 use Prim.Native.Nat.{ℕ}
 use lib.ListN.{length, drop}
 use Rattle.gates.specs.Steps.{Step, Cursor, origin, past}
 use Rattle.gates.specs.Parties.{Pair, Triple, of0, act, dealt}
-use Rattle.runs.specs.Runs.{Stage, Spoken, Dealer, idle, ready, Side, World, world, Call, preparation, Begins, Run, buffer-of}
+use Rattle.runs.specs.Runs.{Stage, Spoken, Dealer, idle, ready, Side, World, world, Call, preparation, Begins}
+use Rattle.runs.specs.Runs.{Run, buffer-of}
 use Rattle.runs.specs.Orders.{first}
 use Rattle.runs.specs.Strict.{Calls}
 
@@ -24,14 +25,18 @@ filled S buf = deals-of S ++ drop (length (deals-of S)) buf
 
 pub record Buffers : Type 0 where
   -- in every run, the preparation that completes
-  pub written : (S : Stage) (cs : List Call) (r : Pair) (buf : List ℕ) (one two : Side) → Run S cs (world (idle r) buf one two)
+  pub written : (S : Stage) (cs : List Call) (r : Pair) (buf : List ℕ) (one two : Side)
+      → Run S cs (world (idle r) buf one two)
       → preparation S buf r .number ≡ 0 → preparation S buf r .buffer ≡ filled S buf
   -- "preparation reports the deals it wrote"
-  pub reported : (S : Stage) (cs : List Call) (r : Pair) (buf : List ℕ) (one two : Side) → Run S cs (world (idle r) buf one two)
+  pub reported : (S : Stage) (cs : List Call) (r : Pair) (buf : List ℕ) (one two : Side)
+      → Run S cs (world (idle r) buf one two)
       → preparation S buf r .number ≡ 0 → preparation S buf r .deals ≡ length (deals-of S)
   -- from the first call to the last: as it was given until the preparation completes, and so filled from then on
-  pub before : (S : Stage) (E : List ℕ) (v : World) (cs : List Call) (r : Pair) (buf : List ℕ) (one two : Side) (h1 h2 : List Spoken)
+  pub before : (S : Stage) (E : List ℕ) (v : World) (cs : List Call) (r : Pair) (buf : List ℕ) (one two : Side)
+      (h1 h2 : List Spoken)
       → Begins S v → Calls S E v [] [] cs (world (idle r) buf one two) h1 h2 → buf ≡ buffer-of v
-  pub after : (S : Stage) (E : List ℕ) (v : World) (cs : List Call) (r : Pair) (t : List Pair) (buf : List ℕ) (one two : Side)
+  pub after : (S : Stage) (E : List ℕ) (v : World) (cs : List Call) (r : Pair) (t : List Pair) (buf : List ℕ)
+      (one two : Side)
       (h1 h2 : List Spoken)
       → Begins S v → Calls S E v [] [] cs (world (ready r t) buf one two) h1 h2 → buf ≡ filled S (buffer-of v)

@@ -1,5 +1,5 @@
--- Document 01, "Turned down, in checking order": conditions 1 to 9 of preparation, starting and hearing, in the document's words: what number a call
--- has, and which index. Assumes nothing.
+-- Document 01, "Turned down, in checking order": conditions 1 to 9 of preparation, starting and hearing, in the
+-- document's words: what number a call has, and which index. Assumes nothing.
 use mathlib.Core.Path.{_≡_}
 use mathlib.Core.Logic.{_≢_, _⊎_}
 use mathlib.Core.Bool.{Bool, true, false, cond}
@@ -10,7 +10,8 @@ use lib.ListN.{length}
 use Rattle.gates.specs.Steps.{Step, local, deal, exchange, end}
 use Rattle.gates.specs.Costs.{Cost}
 use Rattle.gates.specs.declared.Gate.{Gate}
-use Rattle.gates.specs.declared.Gate.the-variants.{Add, Sub, Xor, Mul, And, Refresh, Scale, Plus, Up, Bit, Const, Public, Deal, DealBits}
+use Rattle.gates.specs.declared.Gate.the-variants.{Add, Sub, Xor, Mul, And, Refresh, Scale, Plus, Up, Bit, Const}
+use Rattle.gates.specs.declared.Gate.the-variants.{Public, Deal, DealBits}
 
 -- ---- places: "(order, and which of its products and refreshes, both from 0; the end is the number of orders and 0)"
 
@@ -59,7 +60,8 @@ gate-places o (gs ∷ os) = order-places o 0 gs ++ gate-places (suc o) os
 -- ---- what the conditions speak of
 
 pub record Terms : Type 1 where
-  -- the number and the index by the conditions that come before 6, or 0 and 0 where none of them is met: for a job 2 to 5
+  -- the number and the index by the conditions that come before 6, or 0 and 0 where none of them is met: for a job 2 to
+  -- 5
   pub own : (number index : ℕ) → Type 0
   -- the words needed of A and of B, and the deals
   pub needs : Cost
@@ -93,7 +95,8 @@ pub data StartIs (T : Terms) (h : ℕ) (masks deals : List ℕ) : (number index 
   of-its-list : (h ≡ 1) ⊎ (h ≡ 2) → T .own 0 0 → length masks < list-needed T h → StartIs T h masks deals 6 0
   of-its-deals : h ≡ 2 → T .own 0 0 → list-needed T h ≤ length masks → length deals < T .needs .deals
       → StartIs T h masks deals 7 0
-  starts-well : (h ≡ 1) ⊎ (h ≡ 2) → T .own 0 0 → list-needed T h ≤ length masks → (h ≡ 2 → T .needs .deals ≤ length deals)
+  starts-well : (h ≡ 1) ⊎ (h ≡ 2) → T .own 0 0 → list-needed T h ≤ length masks
+      → (h ≡ 2 → T .needs .deals ≤ length deals)
       → StartIs T h masks deals 0 0
 
 -- ---- hearing, "1 to 9", in a state whose place is p
@@ -104,7 +107,8 @@ end-place T = (T .orders, 0)
 pub data HearingIs (T : Terms) (h : ℕ) (masks deals : List ℕ) (p : Place) : (number index : ℕ) → Type 0 where
   as-starting : {n i : ℕ} → StartIs T h masks deals (suc n) i → HearingIs T h masks deals p (suc n) i
   -- "8. The state's place is neither the end nor a product or refresh of this job."
-  misplaced : StartIs T h masks deals 0 0 → (Listed p (T .places) → ⊥) → p ≢ end-place T → HearingIs T h masks deals p 8 0
+  misplaced : StartIs T h masks deals 0 0 → (Listed p (T .places) → ⊥) → p ≢ end-place T
+      → HearingIs T h masks deals p 8 0
   -- "9. Hearing is called at the end."
   ended : StartIs T h masks deals 0 0 → p ≡ end-place T → HearingIs T h masks deals p 9 0
   hears-well : StartIs T h masks deals 0 0 → Listed p (T .places) → HearingIs T h masks deals p 0 0

@@ -1,5 +1,5 @@
--- The customer's demand 1, of preparation, starting and hearing: the number that the checking order reaches first with the order's index, for every job;
--- and that a refused call, of any script at all, changes nothing. Assumes nothing.
+-- The customer's demand 1, of preparation, starting and hearing: the number that the checking order reaches first with
+-- the order's index, for every job; and that a refused call, of any script at all, changes nothing. Assumes nothing.
 use mathlib.Core.Path.{_≡_}
 use mathlib.Core.Logic.{_≢_}
 use mathlib.Core.List.{List}
@@ -13,7 +13,8 @@ use Rattle.parties.specs.Lent.{Lent, lent}
 use Rattle.parties.specs.Calls.{State, Answer, Prepared, given, start, hear, prepare}
 use Rattle.runs.specs.Conditions.{gate-places, Terms, Single, PreparationIs, StartIs, HearingIs}
 
--- a job with its table: conditions 2 to 5 as jobs/specs/FirstFault.antt has them, its counts, the products and refreshes of its orders' gates
+-- a job with its table: conditions 2 to 5 as jobs/specs/FirstFault.antt has them, its counts, the products and
+-- refreshes of its orders' gates
 abbrev pub job-terms : (job table : List ℕ) → Terms
 job-terms job table =
     record {
@@ -33,8 +34,8 @@ abbrev pub hear-job : (h : ℕ) (job table masks deals : List ℕ) → State →
 hear-job h job table M D s v = hear (lent h (job-script 32 job table) M D) s v
 
 pub record Demand1 : Type 0 where
-  -- "A call that meets a condition of document 01's list .. gives the number its checking order reaches first", and the order's index; "every other call
-  -- completes its work": its number is 0
+  -- "A call that meets a condition of document 01's list .. gives the number its checking order reaches first", and the
+  -- order's index; "every other call completes its work": its number is 0
   pub preparing : (job table A B buffer : List ℕ) (r : Pair)
       → PreparationIs (job-terms job table) A B buffer
       (prepare-job job table A B buffer r .number) (prepare-job job table A B buffer r .index)

@@ -15,12 +15,14 @@ use Rattle.circuits.specs.Opens.{order-value}
 use Rattle.jobs.specs.Job.{orders}
 use Rattle.parties.specs.Scripts.{job-script, script-cost, orders-in, Orderly}
 use Rattle.parties.specs.Calls.{State, start, hear}
-use Rattle.runs.specs.Runs.{Stage, Setting, staged, Spoken, Among, Dealer, ready, Side, waiting, going, World, world, Call, lent1, lent2, Dealt, preparation, held, Run, opened-after}
+use Rattle.runs.specs.Runs.{Stage, Setting, staged, Spoken, Among, Dealer, ready, Side, waiting, going, World}
+use Rattle.runs.specs.Runs.{world, Call, lent1, lent2, Dealt, preparation, held, Run, opened-after}
 use Rattle.runs.specs.Orders.{first, slot, after-order, before-order, Unwritten, order-of, refresh-mask}
 use Rattle.runs.specs.Demand3.{opens, Finishes}
 
 -- the words that a host speaks on the joint walk, each at its place, and 0 at the end
-unfoldable pub defined-words : (A B : List ℕ) → (Exchange → Cursor → Triple → ℕ) → List Step → Cursor → Triple → List Spoken
+unfoldable pub defined-words : (A B : List ℕ) → (Exchange → Cursor → Triple → ℕ) → List Step → Cursor → Triple
+    → List Spoken
 defined-words A B say [] c j = (c .order, c .turn, 0) ∷ []
 defined-words A B say (local d m l ∷ ss) c j =
     defined-words A B say ss (past (local d m l) c) (act A B (local d m l) c j)
@@ -35,7 +37,8 @@ words-of-1 S = defined-words (S .A) (S .B) (joint1 (S .A) (S .B)) (S .script .st
 abbrev pub words-of-2 : Stage → List Spoken
 words-of-2 S = defined-words (S .A) (S .B) (joint2 (S .A) (S .B)) (S .script .steps) origin (first S)
 
--- k words spoken so far, of n answers given: all of them, but for the 0 given at the end, where k is half the script's sum
+-- k words spoken so far, of n answers given: all of them, but for the 0 given at the end, where k is half the script's
+-- sum
 pub record Counted (S : Stage) (k : ℕ) (s : State) (n : ℕ) : Type 0 where
   pub before-end : s .order < orders-in (S .script) → k ≡ n
   pub at-end : s .order ≡ orders-in (S .script) → (suc k ≡ n) × (k * 2 ≡ script-cost (S .script) .words)
@@ -50,7 +53,8 @@ mask-before S q i = mask (numbers 32) (slot (before-order (staged 32 S) q) i)
 -- the word that document 01 defines for order q, from what its sources open just before it, and the masks
 abbrev pub defined-value : Setting → (q : ℕ) → ℕ
 defined-value S q =
-    order-value 32 (rows (S .table)) (order-of S q) (value-before S q (order-of S q .source)) (value-before S q (order-of S q .fourth))
+    order-value 32 (rows (S .table)) (order-of S q) (value-before S q (order-of S q .source))
+    (value-before S q (order-of S q .fourth))
     (mask-before S q (order-of S q .source)) (refresh-mask 32 S q)
 
 pub record Demand2 : Type 0 where
@@ -60,33 +64,41 @@ pub record Demand2 : Type 0 where
   -- opening any register as the order leaves it never meets 10, and gives its value on the joint walk
   pub shares-agree : (S : Stage) (q i : ℕ) (v : World) → Finishes S q v
       → opened-after 32 v q i ≡ (0, signed 32 (value (numbers 32) (slot (after-order S q) i)))
-  -- "the register keeps that until an order writes it": any slot that no step of the order writes; so every register but a
-  -- job's order's target
+  -- "the register keeps that until an order writes it": any slot that no step of the order writes; so every register
+  -- but a job's order's target
   pub slot-kept : (S : Stage) (q i : ℕ) → q < orders-in (S .script) → Unwritten i q (S .script .steps)
       → slot (after-order S q) i ≡ slot (before-order S q) i
   pub register-kept : (S : Setting) (q i : ℕ) (v : World) → Finishes (staged 32 S) q v → i < 16
-      → eqb i (order-of S q .target) ≡ false → slot (after-order (staged 32 S) q) i ≡ slot (before-order (staged 32 S) q) i
+      → eqb i (order-of S q .target) ≡ false
+      → slot (after-order (staged 32 S) q) i ≡ slot (before-order (staged 32 S) q) i
   -- "every spoken word is the one defined there"
-  pub host1-speaks : (S : Stage) (cs : List Call) (z : Dealer) (buf : List ℕ) (s : State) (t : List Pair) (said : List Spoken)
+  pub host1-speaks : (S : Stage) (cs : List Call) (z : Dealer) (buf : List ℕ) (s : State) (t : List Pair)
+      (said : List Spoken)
       (two : Side) → Run S cs (world z buf (going s t said) two) → (p : Spoken) → Among p said → Among p (words-of-1 S)
   pub host2-speaks : (S : Stage) (cs : List Call) (z : Dealer) (buf : List ℕ) (one : Side) (s : State) (t : List Pair)
-      (said : List Spoken) → Run S cs (world z buf one (going s t said)) → (p : Spoken) → Among p said → Among p (words-of-2 S)
-  -- "preparation reports the deals it wrote, hosts 1 and 2 each the words they have spoken so far, at the end half the sum"
+      (said : List Spoken) → Run S cs (world z buf one (going s t said)) → (p : Spoken) → Among p said
+      → Among p (words-of-2 S)
+  -- "preparation reports the deals it wrote, hosts 1 and 2 each the words they have spoken so far, at the end half the
+  -- sum"
   pub deals-counted : (S : Stage) (buf : List ℕ) (r : Pair) → preparation S buf r .number ≡ 0
       → preparation S buf r .deals ≡ script-cost (S .script) .deals
-  pub start1-counted : (S : Stage) → Orderly (S .script) → (cs : List Call) (z : Dealer) (buf D : List ℕ) (s : State) (two : Side)
+  pub start1-counted : (S : Stage) → Orderly (S .script)
+      → (cs : List Call) (z : Dealer) (buf D : List ℕ) (s : State) (two : Side)
       → Run S cs (world z buf (waiting s) two) → start (lent1 S D) (held S s) .number ≡ 0
       → Counted S (start (lent1 S D) (held S s) .spoken) (start (lent1 S D) (held S s) .state) 1
   pub hear1-counted : (S : Stage) → Orderly (S .script) → (cs : List Call) (z : Dealer) (buf D : List ℕ) (s s2 : State)
-      (t t2 : List Pair) (said said2 : List Spoken) (v : ℕ) → Run S cs (world z buf (going s t said) (going s2 t2 said2))
+      (t t2 : List Pair) (said said2 : List Spoken) (v : ℕ)
+      → Run S cs (world z buf (going s t said) (going s2 t2 said2))
       → Among (s .order, s .turn, v) said2 → hear (lent1 S D) s v .number ≡ 0
       → Counted S (hear (lent1 S D) s v .spoken) (hear (lent1 S D) s v .state) (suc (length said))
-  pub start2-counted : (S : Stage) → Orderly (S .script) → (cs : List Call) (r : Pair) (t₀ : List Pair) (buf D : List ℕ) (one : Side)
+  pub start2-counted : (S : Stage) → Orderly (S .script)
+      → (cs : List Call) (r : Pair) (t₀ : List Pair) (buf D : List ℕ) (one : Side)
       (s : State) → Run S cs (world (ready r t₀) buf one (waiting s)) → Dealt S buf D
       → start (lent2 S D) (held S s) .number ≡ 0
       → Counted S (start (lent2 S D) (held S s) .spoken) (start (lent2 S D) (held S s) .state) 1
   pub hear2-counted : (S : Stage) → Orderly (S .script) → (cs : List Call) (z : Dealer) (buf D : List ℕ) (s1 s : State)
-      (t1 t : List Pair) (said1 said : List Spoken) (v : ℕ) → Run S cs (world z buf (going s1 t1 said1) (going s t said))
+      (t1 t : List Pair) (said1 said : List Spoken) (v : ℕ)
+      → Run S cs (world z buf (going s1 t1 said1) (going s t said))
       → Dealt S buf D → Among (s .order, s .turn, v) said1 → hear (lent2 S D) s v .number ≡ 0
       → Counted S (hear (lent2 S D) s v .spoken) (hear (lent2 S D) s v .state) (suc (length said))
   -- a job's script has as many orders as the job, and is orderly

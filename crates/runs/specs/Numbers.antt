@@ -1,4 +1,5 @@
--- Document 01, "Turned down": the number and the index of preparation, starting and hearing, of any script. Assumes nothing.
+-- Document 01, "Turned down": the number and the index of preparation, starting and hearing, of any script. Assumes
+-- nothing.
 use mathlib.Core.Path.{_≡_}
 use mathlib.Core.List.{List}
 use Prim.Native.Nat.{ℕ, suc}

@@ -1,4 +1,5 @@
--- What an order of a run finds and leaves: the three hosts' shares on the joint walk before it and after it, and the mask of a curve's refresh. Assumes nothing.
+-- What an order of a run finds and leaves: the three hosts' shares on the joint walk before it and after it, and the
+-- mask of a curve's refresh. Assumes nothing.
 use mathlib.Core.Path.{_≡_}
 use mathlib.Core.Bool.{false}
 use mathlib.Core.List.{List, [], _∷_}
@@ -80,6 +81,8 @@ first-counts w (suc q) (g ∷ gs) = plus (program-cost w g) (first-counts w q gs
 unfoldable pub used-before : ℕ → Setting → ℕ → Cost
 used-before w S q = first-counts w q (job-gates w (S .job) (S .table))
 
--- "L is the sum of the two mask words of the curve's refresh": the words of A and of B that come after all that the orders before it and its own sum use
+-- "L is the sum of the two mask words of the curve's refresh": the words of A and of B that come after all that the
+-- orders before it and its own sum use
 unfoldable pub refresh-mask : ℕ → Setting → ℕ → ℕ
-refresh-mask w S q = mask-behind w (S .A) (S .B) (used-before w S q) (sum-program w (order-of S q .source) (rows (S .table)))
+refresh-mask w S q =
+    mask-behind w (S .A) (S .B) (used-before w S q) (sum-program w (order-of S q .source) (rows (S .table)))

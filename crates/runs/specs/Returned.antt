@@ -1,5 +1,5 @@
--- What the three hosts hold after a run: the masks that the preparation returned, and the registers in the states that starting and hearing returned.
--- What opening gives on them. Assumes nothing.
+-- What the three hosts hold after a run: the masks that the preparation returned, and the registers in the states that
+-- starting and hearing returned. What opening gives on them. Assumes nothing.
 use mathlib.Core.Path.{_≡_}
 use mathlib.Core.Bool.{false}
 use mathlib.Core.List.{List}
@@ -9,8 +9,9 @@ use lib.IntN.{ℤ}
 use lib.ListN.{length}
 use Rattle.gates.specs.Parties.{Pair}
 use Rattle.jobs.specs.Job.{orders}
-use Rattle.parties.specs.Scripts.{orders-in, Closed}
-use Rattle.runs.specs.Runs.{Stage, Setting, staged, Dealer, idle, ready, Side, waiting, going, World, world, registers, Call, Run, Finished, opened-slot, opened-after}
+use Rattle.parties.specs.Scripts.{orders-in, Orderly}
+use Rattle.runs.specs.Runs.{Stage, Setting, staged, Dealer, idle, ready, Side, waiting, going, World, world}
+use Rattle.runs.specs.Runs.{registers, Call, Run, Finished, opened-slot, opened-after}
 use Rattle.runs.specs.Orders.{Words, Unwritten, order-of}
 use Rattle.runs.specs.Demand3.{opens, Finishes}
 
@@ -24,7 +25,8 @@ abbrev pub side-holds : (n : ℕ) → Side → Pair
 side-holds n (waiting s) = registers n s
 side-holds n (going s t said) = registers n s
 
--- what opening gives on slot i of the three hosts as they stand, each with n slots: of the masks and states that the calls returned, and of nothing else
+-- what opening gives on slot i of the three hosts as they stand, each with n slots: of the masks and states that the
+-- calls returned, and of nothing else
 unfoldable pub opened-now : (w n : ℕ) → World → (i : ℕ) → ℕ × ℤ
 opened-now w n (world z buf one two) i = opened-slot w (dealer-holds z) (side-holds n one) (side-holds n two) i
 
@@ -36,7 +38,8 @@ opened-given w S i = opened-slot w (S .r1, S .r2) (S .rm, S .r1) (S .rm, S .r2) 
 abbrev pub UnwrittenFrom : Stage → (q i : ℕ) → Type 0
 UnwrittenFrom S q i = (p : ℕ) → q ≤ p → Unwritten i p (S .script .steps)
 
--- what slot i opens after the whole script: what the last order that writes it opened, or where none does what was given
+-- what slot i opens after the whole script: what the last order that writes it opened, or where none does what was
+-- given
 pub data Holds (S : Stage) (v : World) (i : ℕ) : Type 0 where
   by-order : (q : ℕ) → q < orders-in (S .script) → (Unwritten i q (S .script .steps) → ⊥) → UnwrittenFrom S (suc q) i
       → opened-now 32 (S .script .slots) v i ≡ opened-after 32 v q i → Holds S v i
@@ -48,29 +51,40 @@ pub data Holds (S : Stage) (v : World) (i : ℕ) : Type 0 where
 abbrev pub UntargetedFrom : Setting → (q i : ℕ) → Type 0
 UntargetedFrom S q i = (p : ℕ) → q ≤ p → p < length (orders (S .job)) → eqb i (order-of S p .target) ≡ false
 
--- what register i opens after the whole job: what the last order that writes it opened, or where none does what was given
+-- what register i opens after the whole job: what the last order that writes it opened, or where none does what was
+-- given
 pub data JobHolds (S : Setting) (v : World) (i : ℕ) : Type 0 where
-  of-order : (q : ℕ) → q < length (orders (S .job)) → order-of S q .target ≡ i → UntargetedFrom S (suc q) i → opened-now 32 16 v i ≡ opens S v q → JobHolds S v i
+  of-order : (q : ℕ) → q < length (orders (S .job)) → order-of S q .target ≡ i → UntargetedFrom S (suc q) i
+      → opened-now 32 16 v i ≡ opens S v q → JobHolds S v i
   of-given : UntargetedFrom S 0 i → opened-now 32 16 v i ≡ opened-given 32 (staged 32 S) i → JobHolds S v i
 
 pub record Returned : Type 0 where
-  -- "What it opens is what opening gives on the three hosts' shares ..; the register keeps that until an order writes it"
-  pub written : (S : Stage) (q : ℕ) (v : World) → Finishes S q v → (i : ℕ) → i < S .script .slots → UnwrittenFrom S (suc q) i
+  -- "What it opens is what opening gives on the three hosts' shares ..; the register keeps that until an order writes
+  -- it": of any script, a slot that no order behind order q writes
+  pub written : (S : Stage) (q : ℕ) (v : World) → Finishes S q v → (i : ℕ) → i < S .script .slots
+      → UnwrittenFrom S (suc q) i
       → opened-now 32 (S .script .slots) v i ≡ opened-after 32 v q i
   -- a slot that no step writes opens, after every run, what it was given
-  pub untouched : (S : Stage) (cs : List Call) (v : World) → Run S cs v → (i : ℕ) → i < S .script .slots → UnwrittenFrom S 0 i
+  pub untouched : (S : Stage) (cs : List Call) (v : World) → Run S cs v → (i : ℕ) → i < S .script .slots
+      → UnwrittenFrom S 0 i
       → opened-now 32 (S .script .slots) v i ≡ opened-given 32 S i
   -- after the last order: all slots that were given
-  pub all-done : (S : Stage) → Closed (S .script .steps) → (q : ℕ) (v : World) → Finishes S q v → suc q ≡ orders-in (S .script) → (i : ℕ) → i < S .script .slots
-      → opened-now 32 (S .script .slots) v i ≡ opened-after 32 v q i
+  pub all-done : (S : Stage) → Orderly (S .script) → (q : ℕ) (v : World) → Finishes S q v
+      → suc q ≡ orders-in (S .script)
+      → (i : ℕ) → i < S .script .slots → opened-now 32 (S .script .slots) v i ≡ opened-after 32 v q i
   -- a run that has finished every order: each slot that was given, by its last writer
-  pub every-slot : (S : Stage) → Closed (S .script .steps) → (cs : List Call) (v : World) → Words 32 S → Run S cs v → ((q : ℕ) → q < orders-in (S .script) → Finished v q)
-      → (i : ℕ) → i < S .script .slots → Holds S v i
-  -- where no order of a job has the register as its target, no step writes it
-  pub untargeted : (S : Setting) (q i : ℕ) → i < 16 → UntargetedFrom S q i → UnwrittenFrom (staged 32 S) q i
-  -- an order of a job that is the last to write its target: its target now opens what the order opened
-  pub last-writer : (S : Setting) (q : ℕ) (v : World) → Finishes (staged 32 S) q v → UntargetedFrom S (suc q) (order-of S q .target)
-      → opened-now 32 16 v (order-of S q .target) ≡ opens S v q
-  -- a run that has finished every order of a job: each of the sixteen registers, by its last writer
+  pub every-slot : (S : Stage) → Orderly (S .script) → (cs : List Call) (v : World) → Words 32 S → Run S cs v
+      → ((q : ℕ) → q < orders-in (S .script) → Finished v q) → (i : ℕ) → i < S .script .slots → Holds S v i
+  -- ---- of a job
+  -- a register that no order behind order q has as its target now opens what order q opened in it
+  pub job-written : (S : Setting) (q : ℕ) (v : World) → Finishes (staged 32 S) q v → (i : ℕ) → i < 16
+      → UntargetedFrom S (suc q) i → opened-now 32 16 v i ≡ opened-after 32 v q i
+  -- and one that no order has as its target opens, after every run, what was given
+  pub job-untouched : (S : Setting) (cs : List Call) (v : World) → Run (staged 32 S) cs v → (i : ℕ) → i < 16
+      → UntargetedFrom S 0 i → opened-now 32 16 v i ≡ opened-given 32 (staged 32 S) i
+  -- an order that is the last to write its target: its target now opens what the order opened
+  pub last-writer : (S : Setting) (q : ℕ) (v : World) → Finishes (staged 32 S) q v
+      → UntargetedFrom S (suc q) (order-of S q .target) → opened-now 32 16 v (order-of S q .target) ≡ opens S v q
+  -- a run that has finished every order: each of the sixteen registers, by its last writer
   pub every-register : (S : Setting) (cs : List Call) (v : World) → Words 32 (staged 32 S) → Run (staged 32 S) cs v
       → ((q : ℕ) → q < length (orders (S .job)) → Finished v q) → (i : ℕ) → i < 16 → JobHolds S v i

@@ -1,4 +1,5 @@
--- Demand 3 of what the calls returned: a finished curve order that is the last to write its target; and the runs that its count speaks of. Assumes nothing.
+-- Demand 3 of what the calls returned: a finished curve order that is the last to write its target; and the runs that
+-- its count speaks of. Assumes nothing.
 use mathlib.Core.Path.{_≡_}
 use mathlib.Core.List.{List}
 use Prim.Native.Nat.{ℕ, suc, _*_, _^_, _<_}
@@ -27,15 +28,23 @@ abbrev pub target-opens : Setting → World → ℕ → ℕ × ℤ
 target-opens S v q = opened-now 32 16 v (order-of S q .target)
 
 pub record ReturnedCurves : Type 0 where
-  pub exact : (S : Setting) (q : ℕ) (v : World) → Stays S q v → Exact S q → T (in-range 32 (reading S q)) → target-opens S v q ≡ (0, floor (Y-of S q) 4096)
+  pub exact : (S : Setting) (q : ℕ) (v : World) → Stays S q v → Exact S q → T (in-range 32 (reading S q))
+      → target-opens S v q ≡ (0, floor (Y-of S q) 4096)
   pub one-bit : (S : Setting) (q : ℕ) (v : World) → Stays S q v → OneBit S q → T (in-range 32 (reading S q))
       → target-opens S v q ≡ (0, floor (Y-of S q) 4096 +ℤ pos (slip 12 (wrap 12 (Y-of S q)) (refresh-mask 32 S q)))
-  pub slips : (S : Setting) (q : ℕ) (v : ℕ → World) → Words 32 (staged 32 S) → ((a : ℕ) → a < 2 ^ 32 → Stays (with-word S q a) q (v a)) → OneBit S q → T (in-range 32 (reading S q))
-      → count (2 ^ 32) (λ a. eqZ (target-opens S (v a) q .1) (floor (Y-of S q) 4096 +ℤ pos 1)) ≡ wrap 12 (Y-of S q) * 2 ^ 20
-  pub near-exact : (S : Setting) (q : ℕ) (v : World) → Stays S q v → Exact S q → T (in-range 32 (reading S q)) → Near (line (rows (S .table)) (reading S q)) (target-opens S v q .1)
-  pub near-one-bit : (S : Setting) (q : ℕ) (v : World) → Stays S q v → OneBit S q → T (in-range 32 (reading S q)) → Near (line (rows (S .table)) (reading S q)) (target-opens S v q .1)
-  pub saturated : (S S′ : Setting) (q : ℕ) (v v′ : World) → Alike S S′ → Stays S q v → Stays S′ q v′ → order-of S q .kind ≡ 10
-      → reading S q ≡ pos (last-count (rows (S .table))) → pos (last-count (rows (S .table))) ≤ℤ reading S′ q → target-opens S v q ≡ target-opens S′ v′ q
+  pub slips : (S : Setting) (q : ℕ) (v : ℕ → World) → Words 32 (staged 32 S)
+      → ((a : ℕ) → a < 2 ^ 32 → Stays (with-word S q a) q (v a)) → OneBit S q → T (in-range 32 (reading S q))
+      → count (2 ^ 32) (λ a. eqZ (target-opens S (v a) q .1) (floor (Y-of S q) 4096 +ℤ pos 1)) ≡ wrap 12
+      (Y-of S q) * 2 ^ 20
+  pub near-exact : (S : Setting) (q : ℕ) (v : World) → Stays S q v → Exact S q → T (in-range 32 (reading S q))
+      → Near (line (rows (S .table)) (reading S q)) (target-opens S v q .1)
+  pub near-one-bit : (S : Setting) (q : ℕ) (v : World) → Stays S q v → OneBit S q → T (in-range 32 (reading S q))
+      → Near (line (rows (S .table)) (reading S q)) (target-opens S v q .1)
+  pub saturated : (S S′ : Setting) (q : ℕ) (v v′ : World) → Alike S S′ → Stays S q v → Stays S′ q v′
+      → order-of S q .kind ≡ 10
+      → reading S q ≡ pos (last-count (rows (S .table))) → pos (last-count (rows (S .table))) ≤ℤ reading S′ q
+      → target-opens S v q ≡ target-opens S′ v′ q
   -- the 2^32 runs of `slips` exist, whatever the buffer, for every order of an accepted job on words
-  pub family : (S : Setting) (q : ℕ) (buffer : List ℕ) → Words 32 (staged 32 S) → Accepted (staged 32 S) buffer → q < length (orders (S .job))
+  pub family : (S : Setting) (q : ℕ) (buffer : List ℕ) → Words 32 (staged 32 S) → Accepted (staged 32 S) buffer
+      → q < length (orders (S .job))
       → (v : ℕ → World) × ((a : ℕ) → a < 2 ^ 32 → Finishes (staged 32 (with-word S q a)) q (v a))

@@ -1,5 +1,5 @@
--- Document 01, "Stepping": runs of a script, lists of preparation, starting and hearing with refused calls anywhere; and the
--- runs of a job. Assumes nothing.
+-- Document 01, "Stepping": runs of a script, lists of preparation, starting and hearing with refused calls anywhere;
+-- and the runs of a job. Assumes nothing.
 use mathlib.Core.Path.{_≡_}
 use mathlib.Core.Logic.{_≢_, _⊎_}
 use mathlib.Core.List.{List, [], _∷_, _++_}
@@ -13,8 +13,8 @@ use Rattle.parties.specs.Lent.{Lent, party-of}
 use Rattle.parties.specs.Calls.{State, Prepared, start-walk, start, found-of, hear-walk, hear, prepare-walk, prepare}
 use lib.IntN.{ℤ}
 
--- what every call of a run is lent, the script and the lists; and the registers that the hosts are given, which open: host 0 has
--- the masks r1 and r2, host 1 rm and r1, host 2 rm and r2
+-- what every call of a run is lent, the script and the lists; and the registers that the hosts are given, which open:
+-- host 0 has the masks r1 and r2, host 1 rm and r1, host 2 rm and r2
 pub record Stage : Type 0 where
   pub script : Script
   pub A : List ℕ
@@ -72,8 +72,8 @@ pub data Dealer : Type 0 where
   idle : Pair → Dealer
   ready : Pair → List Pair → Dealer
 
--- host 1 or 2: what it holds (before its starting, registers with whatever place and kept words); once started, its trail and the
--- words that it has spoken, the last in front
+-- host 1 or 2: what it holds (before its starting, registers with whatever place and kept words); once started, its
+-- trail and the words that it has spoken, the last in front
 pub data Side : Type 0 where
   waiting : State → Side
   going : State → List Pair → List Spoken → Side
@@ -118,9 +118,11 @@ pub data Refuses (n : ℕ) : World → World → Type 0 where
       → Refuses n (world z buf (waiting s) two) (world z buf (waiting s′) two)
   two-waiting : {z : Dealer} {buf : List ℕ} {s s′ : State} {one : Side} → Turned n s s′
       → Refuses n (world z buf one (waiting s)) (world z buf one (waiting s′))
-  one-going : {z : Dealer} {buf : List ℕ} {s s′ : State} {t : List Pair} {said : List Spoken} {two : Side} → Turned n s s′
+  one-going : {z : Dealer} {buf : List ℕ} {s s′ : State} {t : List Pair} {said : List Spoken} {two : Side}
+      → Turned n s s′
       → Refuses n (world z buf (going s t said) two) (world z buf (going s′ t said) two)
-  two-going : {z : Dealer} {buf : List ℕ} {s s′ : State} {t : List Pair} {said : List Spoken} {one : Side} → Turned n s s′
+  two-going : {z : Dealer} {buf : List ℕ} {s s′ : State} {t : List Pair} {said : List Spoken} {one : Side}
+      → Turned n s s′
       → Refuses n (world z buf one (going s t said)) (world z buf one (going s′ t said))
 
 -- ---- calls that complete, of the run's own script
@@ -169,9 +171,11 @@ module _ (S : Stage) where
     -- "starting host 2 after the preparation"
     starts2 : {r : Pair} {t₀ : List Pair} {buf : List ℕ} {s : State} {one : Side} (D : List ℕ) → Dealt buf D
         → start (lent2 D) (held s) .number ≡ 0
-        → Completes starting2 (world (ready r t₀) buf one (waiting s)) (world (ready r t₀) buf one (started (lent2 D) s))
+        → Completes starting2 (world (ready r t₀) buf one (waiting s))
+        (world (ready r t₀) buf one (started (lent2 D) s))
     -- "the word the other host spoke at that same place"
-    hears1 : {z : Dealer} {buf : List ℕ} {s s2 : State} {t t2 : List Pair} {said said2 : List Spoken} (D : List ℕ) (v : ℕ)
+    hears1 : {z : Dealer} {buf : List ℕ} {s s2 : State} {t t2 : List Pair} {said said2 : List Spoken} (D : List ℕ)
+        (v : ℕ)
         → Among (s .order, s .turn, v) said2 → hear (lent1 D) s v .number ≡ 0
         → Completes (hearing1 v) (world z buf (going s t said) (going s2 t2 said2))
         (world z buf (stepped (lent1 D) s v t said) (going s2 t2 said2))
@@ -180,7 +184,8 @@ module _ (S : Stage) where
         → Completes (hearing2 v) (world z buf (going s1 t1 said1) (going s t said))
         (world z buf (going s1 t1 said1) (stepped (lent2 D) s v t said))
 
-  -- before the first call: host 0 has its masks, hosts 1 and 2 hold the registers given, with whatever place and kept words
+  -- before the first call: host 0 has its masks, hosts 1 and 2 hold the registers given, with whatever place and kept
+  -- words
   pub data Begins : World → Type 0 where
     given-out : {buf : List ℕ} {one two : State} → held one ≡ (S .rm, S .r1) → held two ≡ (S .rm, S .r2)
         → Begins (world (idle (S .r1, S .r2)) buf (waiting one) (waiting two))

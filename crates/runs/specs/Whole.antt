@@ -6,14 +6,16 @@ use Prim.Native.Nat.{ℕ, _<_}
 use Rattle.gates.specs.Parties.{Pair}
 use Rattle.parties.specs.Scripts.{orders-in}
 use Rattle.parties.specs.Calls.{State}
-use Rattle.runs.specs.Runs.{Stage, Setting, staged, Spoken, idle, ready, waiting, going, World, world, Call, preparation, held, Finished, Accepted}
+use Rattle.runs.specs.Runs.{Stage, Setting, staged, Spoken, idle, ready, waiting, going, World, world, Call}
+use Rattle.runs.specs.Runs.{preparation, held, Finished, Accepted}
 use Rattle.runs.specs.Conditions.{PreparationIs}
 use Rattle.runs.specs.Demand1.{job-terms}
 use Rattle.runs.specs.Strict.{Calls}
 
--- calls from the world v after which host 0 holds these masks and this buffer, hosts 1 and 2 the states one and two, and every
--- order is finished
-pub record WholeRun (S : Stage) (E : List ℕ) (v : World) (masks : Pair) (buffer : List ℕ) (one two : State) : Type 0 where
+-- calls from the world v after which host 0 holds these masks and this buffer, hosts 1 and 2 the states one and two,
+-- and every order is finished
+pub record WholeRun (S : Stage) (E : List ℕ) (v : World) (masks : Pair) (buffer : List ℕ)
+    (one two : State) : Type 0 where
   pub calls : List Call
   pub trail0 : List Pair
   pub trail1 : List Pair
@@ -22,7 +24,8 @@ pub record WholeRun (S : Stage) (E : List ℕ) (v : World) (masks : Pair) (buffe
   pub said2 : List Spoken
   pub heard1 : List Spoken
   pub heard2 : List Spoken
-  pub run : Calls S E v [] [] calls (world (ready masks trail0) buffer (going one trail1 said1) (going two trail2 said2)) heard1 heard2
+  pub run : Calls S E v [] [] calls
+      (world (ready masks trail0) buffer (going one trail1 said1) (going two trail2 said2)) heard1 heard2
   pub finished : (q : ℕ) → q < orders-in (S .script)
       → Finished (world (ready masks trail0) buffer (going one trail1 said1) (going two trail2 said2)) q
 
@@ -37,9 +40,10 @@ pub record Whole : Type 0 where
   -- a job exactly where none of the conditions 2 to 7 is met
   pub accepted-job : (S : Setting) (buffer : List ℕ)
       → PreparationIs (job-terms (S .job) (S .table)) (S .A) (S .B) buffer 0 0 ↔ Accepted (staged 32 S) buffer
-  -- and then, from any registers that open, with whatever kept words and buffer, there are calls that finish every order, on the
-  -- masks and the buffer that the preparation returns
-  pub whole-run : (S : Stage) (E buffer : List ℕ) (one two : State) → held S one ≡ (S .rm, S .r1) → held S two ≡ (S .rm, S .r2)
+  -- and then, from any registers that open, with whatever kept words and buffer, there are calls that finish every
+  -- order, on the masks and the buffer that the preparation returns
+  pub whole-run : (S : Stage) (E buffer : List ℕ) (one two : State) → held S one ≡ (S .rm, S .r1)
+      → held S two ≡ (S .rm, S .r2)
       → preparation S buffer (S .r1, S .r2) .number ≡ 0
       → (s1 : State) × (s2 : State) × WholeRun S E (outset S buffer one two)
       (preparation S buffer (S .r1, S .r2) .masks) (preparation S buffer (S .r1, S .r2) .buffer) s1 s2

@@ -1,4 +1,5 @@
--- Document 01, "Stepping": a script that the three hosts run in one place, each word carried to the other host at once. Assumes nothing.
+-- Document 01, "Stepping": a script that the three hosts run in one place, each word carried to the other host at once.
+-- Assumes nothing.
 use mathlib.Core.Path.{_≡_}
 use mathlib.Core.List.{List, []}
 use Prim.Native.Nat.{ℕ}
@@ -66,7 +67,8 @@ module _ (L : Lending) where
   unfoldable pub preparation : Triple → (buffer : List ℕ) → Prepared
   preparation r buf = prepare (L .script) (L .A) (L .B) buf (of0 r)
 
-  -- the three hosts after the preparation, with these answers of hosts 1 and 2; neither starts where the preparation is refused
+  -- the three hosts after the preparation, with these answers of hosts 1 and 2; neither starts where the preparation is
+  -- refused
   unfoldable pub prepared : Triple → Prepared → (one two : Answer) → Trio
   prepared r p a b =
       record {
@@ -82,7 +84,8 @@ module _ (L : Lending) where
   -- preparation, then both startings
   unfoldable pub begun : Triple → (buffer : List ℕ) → Trio
   begun r buf =
-      prepared r (preparation r buf) (start (to1 L (preparation r buf .buffer)) (of1 r)) (start (to2 L (preparation r buf .buffer)) (of2 r))
+      prepared r (preparation r buf) (start (to1 L (preparation r buf .buffer)) (of1 r))
+      (start (to2 L (preparation r buf .buffer)) (of2 r))
 
   -- each hears "the word the other host spoke"
   unfoldable pub heard : Trio → Trio
@@ -101,7 +104,8 @@ module _ (L : Lending) where
   unfoldable pub left : Triple → Triple
   left r = whole (act (L .A) (L .B)) (L .script .steps) origin (fresh (r .0), fresh (r .1), fresh (r .2)) [] .state
 
-  -- a host at the end: "the end is the number of orders and 0", "the word given is 0", and each host has spoken a word for each word of B, half the script's words
+  -- a host at the end: "the end is the number of orders and 0", "the word given is 0", and each host has spoken a word
+  -- for each word of B, half the script's words
   unfoldable pub ended : Pair → Answer
   ended s =
       record {

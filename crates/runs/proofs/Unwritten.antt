@@ -1,0 +1,141 @@
+-- Steps and gates that do not write a slot, from an order on. Assumes nothing.
+use mathlib.Core.Path.{_≡_, refl, sym, subst}
+use mathlib.Core.Bool.{false}
+use mathlib.Core.List.{List, [], _∷_}
+use Prim.Native.Nat.{ℕ, zero, suc, _≤_, _<_}
+use native.Mathlib.Omega.{arith}
+use lib.Dec.{eqb}
+use lib.ListN.{getD, length}
+use Rattle.gates.specs.declared.Gate.{Gate}
+use Rattle.gates.specs.declared.Gate.the-variants.{Add, Sub, Xor, Mul, And, Refresh, Scale, Plus, Up, Bit, Const, Public, Deal, DealBits}
+use Rattle.gates.specs.Steps.{Step, local, deal, exchange, end, Cursor}
+use Rattle.gates.specs.Meaning.{meaning, order-steps, job-steps}
+use Rattle.gates.specs.Parties.{Triple, act}
+use Rattle.circuits.proofs.Points.{target}
+use Rattle.parties.specs.Scripts.{ends, Closed}
+use Rattle.runs.specs.Runs.{Stage}
+use Rattle.runs.specs.Orders.{slot, Unwritten}
+use Rattle.runs.specs.Returned.{UnwrittenFrom}
+use Rattle.runs.proofs.Spared.{other-slot}
+use Rattle.runs.proofs.Kept.{all}
+use Rattle.runs.proofs.Written.{Spares, none, also}
+
+-- ---- steps that do not write slot i
+
+abbrev pub Misses : ℕ → Step → Type 0
+Misses i (local d m l) = eqb i d ≡ false
+Misses i (deal d f) = eqb i d ≡ false
+Misses i (exchange d e) = eqb i d ≡ false
+Misses i end = Unit
+
+pub act-misses : (A B : List ℕ) (x : Step) (c : Cursor) (j : Triple) (i : ℕ) → Misses i x → slot (act A B x c j) i ≡ slot j i
+unfolding act
+act-misses A B (local d m l) c j i h = other-slot A B j d i _ _ _ h
+act-misses A B (deal d f) c j i h = other-slot A B j d i _ _ _ h
+act-misses A B (exchange d e) c j i h = other-slot A B j d i _ _ _ h
+act-misses A B end c j i h = refl
+
+-- ---- a list of steps in which, once k orders have ended, no step writes slot i
+
+abbrev pub Spared : (i k : ℕ) → List Step → Type 0
+Spared i k [] = Unit
+Spared i zero (x ∷ ss) = Misses i x × Spared i zero ss
+Spared i (suc k) (local d m l ∷ ss) = Spared i (suc k) ss
+Spared i (suc k) (deal d f ∷ ss) = Spared i (suc k) ss
+Spared i (suc k) (exchange d e ∷ ss) = Spared i (suc k) ss
+Spared i (suc k) (end ∷ ss) = Spared i k ss
+
+-- behind the first step of order 0, and behind a step of an earlier order
+within : (i : ℕ) (ss ss′ : List Step) → Unwritten i 0 ss → ((p : ℕ) → 0 ≤ p → Unwritten i (suc p) ss′ → Unwritten i (suc p) ss)
+    → ((p : ℕ) → 0 ≤ p → Unwritten i p ss′) → (p : ℕ) → 0 ≤ p → Unwritten i p ss
+within i ss ss′ u g f zero l = u
+within i ss ss′ u g f (suc p) l = g p (omega arith) (f (suc p) (omega arith))
+
+before-it : (i k : ℕ) (ss ss′ : List Step) → ((p : ℕ) → Unwritten i (suc p) ss′ → Unwritten i (suc p) ss)
+    → ((p : ℕ) → suc k ≤ p → Unwritten i p ss′) → (p : ℕ) → suc k ≤ p → Unwritten i p ss
+before-it i k ss ss′ g f zero l = absurd (omega arith)
+before-it i k ss ss′ g f (suc p) l = g p (f (suc p) l)
+
+spared-from : (i k : ℕ) (ss : List Step) → ((p : ℕ) → k ≤ p → Unwritten i p ss) → Spared i k ss
+spared-from i k [] f = tt
+spared-from i zero (local d m l ∷ ss) f = (f 0 (omega arith) .0, spared-from i 0 ss (within i ss (local d m l ∷ ss) (f 0 (omega arith) .1) (λ p h u. u) f))
+spared-from i zero (deal d e ∷ ss) f = (f 0 (omega arith) .0, spared-from i 0 ss (within i ss (deal d e ∷ ss) (f 0 (omega arith) .1) (λ p h u. u) f))
+spared-from i zero (exchange d e ∷ ss) f = (f 0 (omega arith) .0, spared-from i 0 ss (within i ss (exchange d e ∷ ss) (f 0 (omega arith) .1) (λ p h u. u) f))
+spared-from i zero (end ∷ ss) f = (tt, spared-from i 0 ss (λ p l. f (suc p) (omega arith)))
+spared-from i (suc k) (local d m l ∷ ss) f = spared-from i (suc k) ss (before-it i k ss (local d m l ∷ ss) (λ p u. u) f)
+spared-from i (suc k) (deal d e ∷ ss) f = spared-from i (suc k) ss (before-it i k ss (deal d e ∷ ss) (λ p u. u) f)
+spared-from i (suc k) (exchange d e ∷ ss) f = spared-from i (suc k) ss (before-it i k ss (exchange d e ∷ ss) (λ p u. u) f)
+spared-from i (suc k) (end ∷ ss) f = spared-from i k ss (λ p l. f (suc p) (omega arith))
+
+pub spared-all : (S : Stage) (q i : ℕ) → UnwrittenFrom S q i → Spared i q (all S)
+spared-all S q i u = spared-from i q (all S) u
+
+-- where every step stands in an order, none comes behind the last
+pub closed-from : (i : ℕ) (ss : List Step) → Closed ss → (p : ℕ) → ends ss ≤ p → Unwritten i p ss
+unfolding ends
+closed-from i [] c p h = tt
+closed-from i (local d m l ∷ ss) c zero h = absurd (omega (arith, c .0))
+closed-from i (local d m l ∷ ss) c (suc p) h = closed-from i ss (c .1) (suc p) h
+closed-from i (deal d f ∷ ss) c zero h = absurd (omega (arith, c .0))
+closed-from i (deal d f ∷ ss) c (suc p) h = closed-from i ss (c .1) (suc p) h
+closed-from i (exchange d e ∷ ss) c zero h = absurd (omega (arith, c .0))
+closed-from i (exchange d e ∷ ss) c (suc p) h = closed-from i ss (c .1) (suc p) h
+closed-from i (end ∷ ss) c zero h = tt
+closed-from i (end ∷ ss) c (suc p) h = closed-from i ss (c .1) p (omega arith)
+
+-- ---- lists of gates
+
+unwritten-gate : (w i : ℕ) (g : Gate) (ss : List Step) → eqb i (target g) ≡ false → Unwritten i 0 ss → Unwritten i 0 (meaning w g ∷ ss)
+unfolding meaning target
+unwritten-gate w i (Add d a b) ss h u = (h, u)
+unwritten-gate w i (Sub d a b) ss h u = (h, u)
+unwritten-gate w i (Xor d a b) ss h u = (h, u)
+unwritten-gate w i (Mul d a b) ss h u = (h, u)
+unwritten-gate w i (And d a b) ss h u = (h, u)
+unwritten-gate w i (Refresh d a) ss h u = (h, u)
+unwritten-gate w i (Scale d a n) ss h u = (h, u)
+unwritten-gate w i (Plus d a n) ss h u = (h, u)
+unwritten-gate w i (Up d a n) ss h u = (h, u)
+unwritten-gate w i (Bit d a n) ss h u = (h, u)
+unwritten-gate w i (Const d n) ss h u = (h, u)
+unwritten-gate w i (Public d a f) ss h u = (h, u)
+unwritten-gate w i (Deal d a f) ss h u = (h, u)
+unwritten-gate w i (DealBits d a) ss h u = (h, u)
+
+skip-gate : (w i k : ℕ) (g : Gate) (ss : List Step) → Unwritten i (suc k) ss → Unwritten i (suc k) (meaning w g ∷ ss)
+unfolding meaning
+skip-gate w i k (Add d a b) ss h = h
+skip-gate w i k (Sub d a b) ss h = h
+skip-gate w i k (Xor d a b) ss h = h
+skip-gate w i k (Mul d a b) ss h = h
+skip-gate w i k (And d a b) ss h = h
+skip-gate w i k (Refresh d a) ss h = h
+skip-gate w i k (Scale d a n) ss h = h
+skip-gate w i k (Plus d a n) ss h = h
+skip-gate w i k (Up d a n) ss h = h
+skip-gate w i k (Bit d a n) ss h = h
+skip-gate w i k (Const d n) ss h = h
+skip-gate w i k (Public d a f) ss h = h
+skip-gate w i k (Deal d a f) ss h = h
+skip-gate w i k (DealBits d a) ss h = h
+
+unwritten-order : (w i : ℕ) (gs : List Gate) (ss : List Step) → Spares i gs → Unwritten i 0 (order-steps w gs ss)
+unfolding order-steps
+unwritten-order w i [] ss none = tt
+unwritten-order w i (g ∷ gs) ss (also e p) = unwritten-gate w i g (order-steps w gs ss) e (unwritten-order w i gs ss p)
+
+skip-order : (w i k : ℕ) (gs : List Gate) (ss : List Step) → Unwritten i k ss → Unwritten i (suc k) (order-steps w gs ss)
+unfolding order-steps
+skip-order w i k [] ss h = h
+skip-order w i k (g ∷ gs) ss h = skip-gate w i k g (order-steps w gs ss) (skip-order w i k gs ss h)
+
+unwritten-gates : (w i p : ℕ) (os : List (List Gate)) → (p < length os → Spares i (getD os p [])) → Unwritten i p (job-steps w os)
+unfolding job-steps
+unwritten-gates w i p [] f = tt
+unwritten-gates w i zero (o ∷ os) f = unwritten-order w i o (job-steps w os) (f (omega arith))
+unwritten-gates w i (suc p) (o ∷ os) f = skip-order w i p o (job-steps w os) (unwritten-gates w i p os (λ h. f (omega arith)))
+
+-- a stage whose steps are those of lists of gates: where no list from list q on writes slot i
+pub gated-from : (w : ℕ) (S : Stage) (os : List (List Gate)) → S .script .steps ≡ job-steps w os → (q i : ℕ)
+    → ((p : ℕ) → q ≤ p → p < length os → Spares i (getD os p [])) → UnwrittenFrom S q i
+gated-from w S os made q i f p l = subst (λ (ss : List Step). Unwritten i p ss) (sym made) (unwritten-gates w i p os (f p l))
