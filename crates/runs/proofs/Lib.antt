@@ -24,4 +24,6 @@ pub mod Strict
 pub mod Numbers
 pub mod Whole
 pub mod ReturnedCurves
+pub mod Readings
+pub mod ByKind
 pub mod Same

@@ -9,3 +9,5 @@ pub mod Strict
 pub mod Numbers
 pub mod Whole
 pub mod ReturnedCurves
+pub mod Readings
+pub mod ByKind
