@@ -21,8 +21,8 @@ use Rattle.jobs.proofs.Accepted.{or-false}
 use Rattle.runs.specs.Runs.{Setting, staged, World}
 use Rattle.runs.specs.Orders.{slot, before-order, order-of, refresh-mask}
 use Rattle.runs.specs.Demand3.{reading, Exact, OneBit, opens, Finishes}
-use Rattle.runs.specs.Readings.{reading-of}
-use Rattle.runs.specs.ByKind.{reduced, second-reading, shift, source-mask, source-sum, W-of, ByKind}
+use Rattle.runs.specs.Readings.{reading-of, mask-of}
+use Rattle.runs.specs.ByKind.{reduced, second-reading, shift, L-of, m-of, W-of, ByKind}
 use Rattle.runs.proofs.Opened.{order-good}
 use Rattle.runs.proofs.Curves.{in-job, checked, source-word, curve-opens}
 use Rattle.runs.proofs.Demand2.{demand2}
@@ -82,8 +82,8 @@ module _ (S : Setting) (q : ℕ) (v : World) (F : Finishes (staged 32 S) q v) wh
   refresh e = of-kind 5 e
 
   large-slack : order-of S q .kind ≡ 6
-      → opens S v q ≡ (0, reduced (floor (reduced (negℤ (pos (source-mask S q)))) (2 ^ shift S q) +ℤ floor (signed 32 (source-sum S q)) (2 ^ shift S q)))
-  unfolding values reduced reading source-mask source-sum
+      → opens S v q ≡ (0, reduced (floor (reduced (negℤ (pos (L-of S q)))) (2 ^ shift S q) +ℤ floor (signed 32 (m-of S q)) (2 ^ shift S q)))
+  unfolding values reduced reading L-of mask-of m-of
   large-slack e = of-kind 6 e ∙ ap opened (slack-reads 32 (order-of S q .fourth) x L hx hL)
 
   -- "k 1 to 30"
@@ -94,12 +94,12 @@ module _ (S : Setting) (q : ℕ) (v : World) (F : Finishes (staged 32 S) q v) wh
       (or-false (eqb (shift S q) 0) (ltb 30 (shift S q)) (rw e at (order-good 32 S (F .words) (lit≤ tt) (lit< tt) (checked S q v F .script) q (in-job S q v F) .fourth)) .1)
 
   one-bit-range : order-of S q .kind ≡ 7 → T (in-range 32 (reading S q))
-      → opens S v q ≡ (0, floor (reading S q) (2 ^ shift S q) +ℤ pos (slip (shift S q) (wrap (shift S q) (reading S q)) (source-mask S q)))
-  unfolding values reading source-mask
+      → opens S v q ≡ (0, floor (reading S q) (2 ^ shift S q) +ℤ pos (slip (shift S q) (wrap (shift S q) (reading S q)) (L-of S q)))
+  unfolding values reading L-of mask-of
   one-bit-range e h = of-kind 7 e ∙ ap {B = ℕ × ℤ} (λ (z : ℤ). (0, z)) (one-bit-reads 32 (shift S q) x L (lit≤ tt) (shift-low e) hx hL h)
 
-  one-bit-steps : order-of S q .kind ≡ 7 → opens S v q ≡ (0, signed 32 (one-bit 32 (shift S q) (source-sum S q) (source-mask S q)))
-  unfolding values reading source-mask source-sum
+  one-bit-steps : order-of S q .kind ≡ 7 → opens S v q ≡ (0, signed 32 (one-bit 32 (shift S q) (m-of S q) (L-of S q)))
+  unfolding values reading L-of mask-of m-of
   one-bit-steps e = of-kind 7 e ∙ ap (λ (m : ℕ). opened (one-bit 32 (shift S q) m L)) (plus-reads 32 x hx L)
 
   exact-floor : order-of S q .kind ≡ 8 → opens S v q ≡ (0, floor (reading S q) (2 ^ shift S q))

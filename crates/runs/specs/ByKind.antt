@@ -5,16 +5,15 @@ use mathlib.Core.List.{List}
 use Prim.Native.Nat.{ℕ, _^_}
 use lib.Dec.{T}
 use lib.IntN.{ℤ, pos, negℤ, _+ℤ_, _-ℤ_, _*ℤ_}
-use Rattle.words.specs.Words.{add, numbers}
+use Rattle.words.specs.Words.{add}
 use Rattle.words.specs.Signed.{floor, signed, wrap, in-range}
 use Rattle.truncations.specs.Truncation.{one-bit, slip}
-use Rattle.shares.specs.Gates.{mask}
 use Rattle.tables.specs.Table.{Row, rows}
 use Rattle.curves.specs.Curve.{relu, word-curve, word-scaled}
 use Rattle.runs.specs.Runs.{Setting, staged, World}
-use Rattle.runs.specs.Orders.{slot, before-order, order-of, refresh-mask}
+use Rattle.runs.specs.Orders.{order-of, refresh-mask}
 use Rattle.runs.specs.Demand3.{reading, Exact, OneBit, opens, Finishes}
-use Rattle.runs.specs.Readings.{reading-of}
+use Rattle.runs.specs.Readings.{reading-of, mask-of}
 
 -- "arithmetic on them is modulo 2^32": the signed reading of the word that is z modulo 2^32
 unfoldable pub reduced : ℤ → ℤ
@@ -28,13 +27,12 @@ second-reading S q = reading-of (staged 32 S) q (order-of S q .fourth)
 abbrev pub shift : Setting → ℕ → ℕ
 shift S q = order-of S q .fourth
 
--- the mask of the first source just before order q: "L = L1 + L2"
-unfoldable pub source-mask : Setting → ℕ → ℕ
-source-mask S q = mask (numbers 32) (slot (before-order (staged 32 S) q) (order-of S q .source))
+-- the first source just before order q: its mask "L = L1 + L2", and "m = x + L"
+unfoldable pub L-of : Setting → ℕ → ℕ
+L-of S q = mask-of (staged 32 S) q (order-of S q .source)
 
--- "m = x + L"
-unfoldable pub source-sum : Setting → ℕ → ℕ
-source-sum S q = wrap 32 (reading S q +ℤ pos (source-mask S q))
+unfoldable pub m-of : Setting → ℕ → ℕ
+m-of S q = wrap 32 (reading S q +ℤ pos (L-of S q))
 
 -- W: "4096 × first c + sum over segments of S × (ReLU(x - r) - ReLU(x - next r))" on words, modulo 2^32 throughout
 unfoldable pub W-of : Setting → ℕ → ℕ
@@ -58,20 +56,15 @@ pub record ByKind : Type 0 where
   pub refresh : KindOpens 5 (λ S q. reading S q)
   -- "6 large slack ..: deal floor(signed(-L) / 2^k), plus known floor(signed(m) / 2^k)."
   pub large-slack : KindOpens 6 (λ S q.
-      reduced (floor (reduced (negℤ (pos (source-mask S q)))) (2 ^ shift S q)
-      +ℤ floor (signed 32 (source-sum S q)) (2 ^ shift S q)))
+      reduced (floor (reduced (negℤ (pos (L-of S q)))) (2 ^ shift S q) +ℤ floor (signed 32 (m-of S q)) (2 ^ shift S q)))
   -- "7 one-bit ..: For x from -2^30 to 2^30 - 1 it opens floor(x / 2^k), plus 1 exactly when (x mod 2^k) + (L mod 2^k)
   -- is at least 2^k."
   pub one-bit-range : (S : Setting) (q : ℕ) (v : World) → Finishes (staged 32 S) q v → order-of S q .kind ≡ 7
       → T (in-range 32 (reading S q))
       → opens S v q
-      ≡ (
-        0,
-        floor (reading S q) (2 ^ shift S q)
-            +ℤ pos (slip (shift S q) (wrap (shift S q) (reading S q)) (source-mask S q)),
-      )
+      ≡ (0, floor (reading S q) (2 ^ shift S q) +ℤ pos (slip (shift S q) (wrap (shift S q) (reading S q)) (L-of S q)))
   -- "kinds 7 and 10 for x outside -2^30 to 2^30 - 1, open what their steps give for x and the masks": every x
-  pub one-bit-steps : KindOpens 7 (λ S q. signed 32 (one-bit 32 (shift S q) (source-sum S q) (source-mask S q)))
+  pub one-bit-steps : KindOpens 7 (λ S q. signed 32 (one-bit 32 (shift S q) (m-of S q) (L-of S q)))
   -- "8 exact ..; opens floor(x / 2^k) for every x."
   pub exact-floor : KindOpens 8 (λ S q. floor (reading S q) (2 ^ shift S q))
   -- "9 ReLU: ..; opens the larger of x and 0."
