@@ -4,28 +4,27 @@ use Prim.Native.Nat.{ℕ, _^_, _≤_, _<_}
 use borrow.Author.Tests.{ltb-false}
 use lib.Dec.{T, eqb, ltb, lit≤, lit<}
 use lib.IntN.{ℤ, pos, negℤ, _+ℤ_, _-ℤ_, _*ℤ_}
-use lib.ListN.{getD}
 use Rattle.words.specs.Words.{add, numbers}
 use Rattle.words.specs.Signed.{floor, signed, wrap, in-range}
 use Rattle.words.proofs.Words.{add-lt, sub-lt}
 use Rattle.words.proofs.Signed.{signed-shr, wrap-signed}
 use Rattle.truncations.specs.Truncation.{one-bit, slip}
 use Rattle.shares.specs.Gates.{value, mask}
-use Rattle.tables.specs.Table.{rows, keeps-rules}
+use Rattle.tables.specs.Table.{rows}
 use Rattle.curves.specs.Curve.{relu, word-curve, word-scaled}
+use Rattle.curves.proofs.WordCurve.{in-range-reads}
 use Rattle.curves.proofs.Segments.{same-sum, scaled-lt}
-use Rattle.circuits.specs.Opens.{curve-value, values, order-value}
+use Rattle.circuits.specs.Opens.{curve-value, values}
 use Rattle.circuits.proofs.Readings.{sum-reads, difference-reads, product-reads, plus-reads, times-reads, slack-reads, relu-reads, one-bit-reads}
 use Rattle.jobs.specs.Job.{ill-fourth, ill-fourths}
 use Rattle.jobs.proofs.Accepted.{or-false}
 use Rattle.runs.specs.Runs.{Setting, staged, World}
 use Rattle.runs.specs.Orders.{slot, before-order, order-of, refresh-mask}
-use Rattle.runs.specs.Demand3.{reading, Exact, OneBit, opens, Finishes}
+use Rattle.runs.specs.Demand3.{reading, Y-of, Exact, OneBit, opens, Finishes}
 use Rattle.runs.specs.Readings.{reading-of, mask-of}
 use Rattle.runs.specs.ByKind.{reduced, second-reading, shift, L-of, m-of, W-of, ByKind}
 use Rattle.runs.proofs.Opened.{order-good}
-use Rattle.runs.proofs.Curves.{in-job, checked, source-word, curve-opens}
-use Rattle.runs.proofs.Demand2.{demand2}
+use Rattle.runs.proofs.Curves.{in-job, checked, source-word, of-kind, rules-kept, curve-opens}
 
 -- a word opened
 abbrev opened : ℕ → ℕ × ℤ
@@ -50,41 +49,34 @@ module _ (S : Setting) (q : ℕ) (v : World) (F : Finishes (staged 32 S) q v) wh
   hL : L < 2 ^ 32
   hL = add-lt 32 _ _
 
-  -- the value of its kind
-  of-kind : (n : ℕ) → order-of S q .kind ≡ n → opens S v q ≡ opened (getD (values 32 (rows (S .table)) (order-of S q .fourth) x y L (refresh-mask 32 S q)) n 0)
-  unfolding order-value
-  of-kind n e =
-      demand2 .order-opens S q v F
-      ∙ ap (λ (k : ℕ). opened (getD (values 32 (rows (S .table)) (order-of S q .fourth) x y L (refresh-mask 32 S q)) k 0)) e
-
   sum : order-of S q .kind ≡ 0 → opens S v q ≡ (0, reduced (reading S q +ℤ second-reading S q))
   unfolding values reduced reading second-reading reading-of
-  sum e = of-kind 0 e ∙ ap opened (sum-reads 32 x hx y hy)
+  sum e = of-kind S q v F 0 e ∙ ap opened (sum-reads 32 x hx y hy)
 
   difference : order-of S q .kind ≡ 1 → opens S v q ≡ (0, reduced (reading S q -ℤ second-reading S q))
   unfolding values reduced reading second-reading reading-of
-  difference e = of-kind 1 e ∙ ap opened (difference-reads 32 x hx y hy)
+  difference e = of-kind S q v F 1 e ∙ ap opened (difference-reads 32 x hx y hy)
 
   plus-constant : order-of S q .kind ≡ 2 → opens S v q ≡ (0, reduced (reading S q +ℤ pos (order-of S q .fourth)))
   unfolding values reduced reading
-  plus-constant e = of-kind 2 e ∙ ap opened (plus-reads 32 x hx (order-of S q .fourth))
+  plus-constant e = of-kind S q v F 2 e ∙ ap opened (plus-reads 32 x hx (order-of S q .fourth))
 
   times-constant : order-of S q .kind ≡ 3 → opens S v q ≡ (0, reduced (reading S q *ℤ pos (order-of S q .fourth)))
   unfolding values reduced reading
-  times-constant e = of-kind 3 e ∙ ap opened (times-reads 32 x hx (order-of S q .fourth))
+  times-constant e = of-kind S q v F 3 e ∙ ap opened (times-reads 32 x hx (order-of S q .fourth))
 
   product : order-of S q .kind ≡ 4 → opens S v q ≡ (0, reduced (reading S q *ℤ second-reading S q))
   unfolding values reduced reading second-reading reading-of
-  product e = of-kind 4 e ∙ ap opened (product-reads 32 x hx y hy)
+  product e = of-kind S q v F 4 e ∙ ap opened (product-reads 32 x hx y hy)
 
   refresh : order-of S q .kind ≡ 5 → opens S v q ≡ (0, reading S q)
   unfolding values reading
-  refresh e = of-kind 5 e
+  refresh e = of-kind S q v F 5 e
 
   large-slack : order-of S q .kind ≡ 6
       → opens S v q ≡ (0, reduced (floor (reduced (negℤ (pos (L-of S q)))) (2 ^ shift S q) +ℤ floor (signed 32 (m-of S q)) (2 ^ shift S q)))
   unfolding values reduced reading L-of mask-of m-of
-  large-slack e = of-kind 6 e ∙ ap opened (slack-reads 32 (order-of S q .fourth) x L hx hL)
+  large-slack e = of-kind S q v F 6 e ∙ ap opened (slack-reads 32 (order-of S q .fourth) x L hx hL)
 
   -- "k 1 to 30"
   shift-low : order-of S q .kind ≡ 7 → shift S q ≤ 30
@@ -96,19 +88,19 @@ module _ (S : Setting) (q : ℕ) (v : World) (F : Finishes (staged 32 S) q v) wh
   one-bit-range : order-of S q .kind ≡ 7 → T (in-range 32 (reading S q))
       → opens S v q ≡ (0, floor (reading S q) (2 ^ shift S q) +ℤ pos (slip (shift S q) (wrap (shift S q) (reading S q)) (L-of S q)))
   unfolding values reading L-of mask-of
-  one-bit-range e h = of-kind 7 e ∙ ap {B = ℕ × ℤ} (λ (z : ℤ). (0, z)) (one-bit-reads 32 (shift S q) x L (lit≤ tt) (shift-low e) hx hL h)
+  one-bit-range e h = of-kind S q v F 7 e ∙ ap {B = ℕ × ℤ} (λ (z : ℤ). (0, z)) (one-bit-reads 32 (shift S q) x L (lit≤ tt) (shift-low e) hx hL h)
 
   one-bit-steps : order-of S q .kind ≡ 7 → opens S v q ≡ (0, signed 32 (one-bit 32 (shift S q) (m-of S q) (L-of S q)))
   unfolding values reading L-of mask-of m-of
-  one-bit-steps e = of-kind 7 e ∙ ap (λ (m : ℕ). opened (one-bit 32 (shift S q) m L)) (plus-reads 32 x hx L)
+  one-bit-steps e = of-kind S q v F 7 e ∙ ap (λ (m : ℕ). opened (one-bit 32 (shift S q) m L)) (plus-reads 32 x hx L)
 
   exact-floor : order-of S q .kind ≡ 8 → opens S v q ≡ (0, floor (reading S q) (2 ^ shift S q))
   unfolding values reading
-  exact-floor e = of-kind 8 e ∙ ap {B = ℕ × ℤ} (λ (z : ℤ). (0, z)) (signed-shr 32 (shift S q) x (lit≤ tt) hx)
+  exact-floor e = of-kind S q v F 8 e ∙ ap {B = ℕ × ℤ} (λ (z : ℤ). (0, z)) (signed-shr 32 (shift S q) x (lit≤ tt) hx)
 
   larger : order-of S q .kind ≡ 9 → opens S v q ≡ (0, relu (reading S q))
   unfolding values reading
-  larger e = of-kind 9 e ∙ ap {B = ℕ × ℤ} (λ (z : ℤ). (0, z)) (relu-reads 32 x (lit≤ tt) hx)
+  larger e = of-kind S q v F 9 e ∙ ap {B = ℕ × ℤ} (λ (z : ℤ). (0, z)) (relu-reads 32 x (lit≤ tt) hx)
 
   -- ---- the curve, for every x
 
@@ -119,6 +111,10 @@ module _ (S : Setting) (q : ℕ) (v : World) (F : Finishes (staged 32 S) q v) wh
   W-lt : W-of S q < 2 ^ 32
   unfolding W-of
   W-lt = scaled-lt 32 (rows (S .table)) _
+
+  W-reads : order-of S q .kind ≡ 10 → T (in-range 32 (reading S q)) → signed 32 (W-of S q) ≡ Y-of S q
+  unfolding Y-of reading
+  W-reads k h = ap (signed 32) (sym W-is) ∙ in-range-reads 32 (lit≤ tt) (S .table) (rules-kept S q v F k) x hx h
 
   in-mode : (c : ℕ) → order-of S q .kind ≡ 10 → order-of S q .fourth ≡ c → opens S v q ≡ opened (curve-value 32 (rows (S .table)) c x (refresh-mask 32 S q))
   in-mode c k m = curve-opens S q v F k ∙ ap (λ (n : ℕ). opened (curve-value 32 (rows (S .table)) n x (refresh-mask 32 S q))) m
@@ -152,4 +148,5 @@ by-kind =
       curve-exact = curve-exact;
       curve-one-bit = curve-one-bit;
       curve-sum = same-sum;
+      curve-range = W-reads;
     }

@@ -12,7 +12,7 @@ use Rattle.tables.specs.Table.{Row, rows}
 use Rattle.curves.specs.Curve.{relu, word-curve, word-scaled}
 use Rattle.runs.specs.Runs.{Setting, staged, World}
 use Rattle.runs.specs.Orders.{order-of, refresh-mask}
-use Rattle.runs.specs.Demand3.{reading, Exact, OneBit, opens, Finishes}
+use Rattle.runs.specs.Demand3.{reading, Y-of, Exact, OneBit, opens, Finishes}
 use Rattle.runs.specs.Readings.{reading-of, mask-of}
 
 -- "arithmetic on them is modulo 2^32": the signed reading of the word that is z modulo 2^32
@@ -77,3 +77,6 @@ pub record ByKind : Type 0 where
       → opens S v q ≡ (0, signed 32 (one-bit 32 12 (add 32 (W-of S q) (refresh-mask 32 S q)) (refresh-mask 32 S q)))
   -- W is the sum that the hosts form of words, row by row: at every width, for every x and whatever the rows
   pub curve-sum : (w : ℕ) (ps : List Row) (x : ℕ) → word-curve w ps x ≡ word-scaled w ps x
+  -- "and nothing wraps": for a reading in range W reads Y
+  pub curve-range : (S : Setting) (q : ℕ) (v : World) → Finishes (staged 32 S) q v → order-of S q .kind ≡ 10
+      → T (in-range 32 (reading S q)) → signed 32 (W-of S q) ≡ Y-of S q
