@@ -6,6 +6,7 @@ pub mod Truncations
 pub mod Curve
 pub mod Opens
 pub mod Costs
+pub mod Readings
 pub mod Calibration
 pub mod Worked
 pub mod CurveGates

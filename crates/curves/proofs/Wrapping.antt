@@ -41,11 +41,11 @@ module _ (w : ℕ) where
       apart : (z : ℤ) → wrap w z ≡ sub w (up z % 2 ^ w) (down z % 2 ^ w)
       apart z = ap (wrap w) (up-down z) ∙ wrap-sub w (up z) (down z)
 
-  nothing : wrap w (pos 0) ≡ 0
+  pub nothing : wrap w (pos 0) ≡ 0
   unfolding wrap
   nothing = mod-eq-of-lt (pow-pos w)
 
-  wrap-neg : (a : ℤ) → wrap w (negℤ a) ≡ neg w (wrap w a)
+  pub wrap-neg : (a : ℤ) → wrap w (negℤ a) ≡ neg w (wrap w a)
   unfolding word
   wrap-neg a =
       ap (λ (x : Word w). x .0)

@@ -87,3 +87,18 @@ word-sum w s (p ∷ ps) x sum = word-sum w (slope-after p ps) ps x (add w sum (m
 unfoldable pub word-curve : ℕ → List Row → ℕ → ℕ
 word-curve w [] x = 0
 word-curve w (p ∷ ps) x = word-sum w (pos 0) (p ∷ ps) x (4096 * p .c)
+
+-- ---- document 01's own sum of words, segment by segment: for every x, in range or not, and any rows
+
+-- "sum over segments of S × (ReLU(x - r) - ReLU(x - next r))", each operation modulo 2^w
+unfoldable pub word-segments : (w : ℕ) → List Row → (x : ℕ) → ℕ
+word-segments w [] x = 0
+word-segments w (p ∷ []) x = 0
+word-segments w (p ∷ q ∷ ps) x =
+    add w (mul w (wrap w (slope p q)) (sub w (relu-word w (sub w x (p .r))) (relu-word w (sub w x (q .r)))))
+    (word-segments w (q ∷ ps) x)
+
+-- "4096 × first c + sum over segments"
+unfoldable pub word-scaled : (w : ℕ) → List Row → (x : ℕ) → ℕ
+word-scaled w [] x = 0
+word-scaled w (p ∷ ps) x = add w (mul w 4096 (p .c)) (word-segments w (p ∷ ps) x)

@@ -32,6 +32,7 @@ pub record Good (w : ℕ) (ruled : Bool) (o : Order) : Type 0 where
   pub kind : o .kind ≤ 10
   pub target : o .target < 16
   pub source : o .source < 16
+  pub second : two-sources (o .kind) ≡ true → o .fourth < 16
   pub fourth : ill-fourth w ruled o ≡ false
 
 pub good : (w : ℕ) (ruled : Bool) (o : Order) → order-fault w ruled o ≡ 0 → Good w ruled o
@@ -46,6 +47,7 @@ good w ruled o e =
       kind = ltb-false 10 (o .kind) (a .0);
       target = omega (arith, ltb-false 15 (o .target) (d .0));
       source = omega (arith, ltb-false 15 (o .source) (d .1));
+      second = λ t. let e : ltb 15 (o .fourth) ≡ false = rw t at (c .1) in omega (arith, ltb-false 15 (o .fourth) e);
       fourth = f .0;
     }
 

@@ -1,4 +1,4 @@
--- What a finished curve order opens after a run: the curve's value of its reading. Assumes nothing.
+-- What a finished order opens after a run: its kind's value; of a curve, the curve's value of its reading. Assumes nothing.
 use mathlib.Core.Path.{_≡_, ap, _∙_}
 use Prim.Native.Nat.{ℕ, suc, _^_, _<_}
 use lib.Dec.{T, lit≤, lit<}
@@ -39,17 +39,28 @@ module _ (S : Setting) (q : ℕ) (v : World) (F : Finishes (staged 32 S) q v) wh
   unfolding refresh-mask
   mask-lt = add-lt 32 _ _
 
+  -- an order of kind n opens that kind's value
+  pub of-kind : (n : ℕ) → order-of S q .kind ≡ n
+      → opens S v q
+      ≡ (
+        0,
+        signed 32
+            (getD (values 32 (rows (S .table)) (order-of S q .fourth) source-word (value (numbers 32) (slot (before-order (staged 32 S) q) (order-of S q .fourth))) (mask (numbers 32) (slot (before-order (staged 32 S) q) (order-of S q .source))) (refresh-mask 32 S q)) n 0),
+      )
+  unfolding order-value
+  of-kind n e =
+      finished-opens (staged 32 S) 32 v (F .run) q (order-of S q .target) (F .finished)
+      ∙ ap {B = ℕ × ℤ} (λ (x : ℕ). (0, signed 32 x)) (order-leaves 32 S (F .words) (lit≤ tt) (lit< tt) (checked .script) q in-job
+      ∙ ap (λ (k : ℕ). getD (values 32 (rows (S .table)) (order-of S q .fourth) source-word (value (numbers 32) (slot (before-order (staged 32 S) q) (order-of S q .fourth))) (mask (numbers 32) (slot (before-order (staged 32 S) q) (order-of S q .source))) (refresh-mask 32 S q)) k 0) e)
+
   -- a curve order opens its curve's value
   module _ (k : order-of S q .kind ≡ 10) where
     pub rules-kept : T (keeps-rules (S .table))
     rules-kept = rw (curve-ruled 32 (keeps-rules (S .table)) (order-of S q) (order-good 32 S (F .words) (lit≤ tt) (lit< tt) (checked .script) q in-job) k .1) tt
 
     pub curve-opens : opens S v q ≡ (0, signed 32 (curve-value 32 (rows (S .table)) (order-of S q .fourth) source-word (refresh-mask 32 S q)))
-    unfolding order-value values
-    curve-opens =
-        finished-opens (staged 32 S) 32 v (F .run) q (order-of S q .target) (F .finished)
-        ∙ ap {B = ℕ × ℤ} (λ (x : ℕ). (0, signed 32 x)) (order-leaves 32 S (F .words) (lit≤ tt) (lit< tt) (checked .script) q in-job
-        ∙ ap (λ (n : ℕ). getD (values 32 (rows (S .table)) (order-of S q .fourth) source-word (value (numbers 32) (slot (before-order (staged 32 S) q) (order-of S q .fourth))) (mask (numbers 32) (slot (before-order (staged 32 S) q) (order-of S q .source))) (refresh-mask 32 S q)) n 0) k)
+    unfolding values
+    curve-opens = of-kind 10 k
 
     -- for a reading that the curve is promised for
     module _ (p : Promised (S .table) source-word) where

@@ -4,17 +4,16 @@ use mathlib.Core.List.{List}
 use Prim.Native.Nat.{ℕ, zero, suc, _*_}
 use native.Mathlib.Omega.{arith}
 use lib.Dec.{lit≤, lit<}
-use lib.IntN.{ℤ}
-use Rattle.words.specs.Signed.{signed}
 use Rattle.gates.specs.Steps.{Exchange, Step, Cursor, origin}
 use Rattle.gates.specs.Parties.{Pair, Triple, of1, of2, joint1, joint2, Supplied}
 use Rattle.gates.proofs.Seen.{Always}
 use Rattle.gates.proofs.Needs.{deals-length}
+use Rattle.circuits.specs.Opens.{order-value}
 use Rattle.jobs.specs.Job.{Fault}
 use Rattle.parties.specs.Scripts.{script-cost, Closed}
 use Rattle.parties.specs.Lent.{Party, party1, party2, dealer-fault}
 use Rattle.parties.specs.Calls.{State, Answer, fresh2, script-deals, prepared, prepare}
-use Rattle.runs.specs.Runs.{Stage, staged, Spoken, Among, Dealer, ready, Side, waiting, going, world, registers, Dealt}
+use Rattle.runs.specs.Runs.{Stage, Spoken, Among, Dealer, ready, Side, waiting, going, world, registers, Dealt}
 use Rattle.runs.specs.Orders.{order-of}
 use Rattle.runs.specs.Demand2.{words-of-1, words-of-2, Counted, Demand2}
 use Rattle.runs.proofs.Ties.{Shadow, shadow1, shadow2, Tied, Answered}
@@ -22,9 +21,9 @@ use Rattle.runs.proofs.Kept.{all, j₀, supplied, not-yet, dealt-all, w
 use Rattle.runs.proofs.Answers.{Answered1, start1-answered, hear1-answered, Answered2, start2-answered, hear2-answered}
 use Rattle.runs.proofs.Chain.{job-orders, job-orderly}
 use Rattle.runs.proofs.Spared.{slot-kept}
-use Rattle.runs.proofs.Opened.{order-leaves, order-keeps}
+use Rattle.runs.proofs.Opened.{order-keeps}
 use Rattle.runs.proofs.Opening.{finished-opens}
-use Rattle.runs.proofs.Curves.{in-job, checked}
+use Rattle.runs.proofs.Curves.{in-job, checked, of-kind}
 use Rattle.runs.proofs.Counts.{stands, among-defined}
 
 prepared-count : (n : ℕ) (f : Fault) (S : Stage) (buf : List ℕ) (r : Pair) → f .0 ≡ n → prepared n f (S .script) (S .A) (S .B) buf r .number ≡ 0
@@ -79,12 +78,10 @@ module _ (S : Stage) where
       let f = Y .heard .only p m in rw (f .2) (among-defined (S .A) (S .B) (all S) (j₀ S) (joint2 (S .A) (S .B)) (f .0) (f .1))
 
 pub demand2 : Demand2
-unfolding prepare
+unfolding prepare order-value
 demand2 =
     record {
-      order-opens = λ S q v F.
-          finished-opens (staged 32 S) 32 v (F .run) q (order-of S q .target) (F .finished)
-          ∙ ap {B = ℕ × ℤ} (λ (x : ℕ). (0, signed 32 x)) (order-leaves 32 S (F .words) (lit≤ tt) (lit< tt) (checked S q v F .script) q (in-job S q v F));
+      order-opens = λ S q v F. of-kind S q v F (order-of S q .kind) refl;
       shares-agree = λ S q i v F. finished-opens S 32 v (F .run) q i (F .finished);
       slot-kept = slot-kept;
       register-kept = λ S q i v F hi e. order-keeps 32 S (F .words) (lit≤ tt) (lit< tt) (checked S q v F .script) q (in-job S q v F) i hi e;

@@ -27,4 +27,6 @@ pub mod Strict
 pub mod Buffers
 pub mod Whole
 pub mod ReturnedCurves
+pub mod Readings
+pub mod ByKind
 pub mod Same

@@ -186,10 +186,10 @@ module _ (w : ℕ) (S : Stage) (i : ℕ) (hi : i < S .script .slots) where
   given-at l n = List·getD-append l (replicate 8 0) 0 i (omega arith)
 
   -- what was given, as a share
-  abbrev start : Share ℕ
+  abbrev pub start : Share ℕ
   start = record { m = at (S .rm) i; l1 = at (S .r1) i; l2 = at (S .r2) i }
 
-  start-is : slot (j₀ S) i ≡ start
+  pub start-is : slot (j₀ S) i ≡ start
   start-is = rw (given-at (S .rm) (S .rm-full), given-at (S .r1) (S .r1-full), given-at (S .r2) (S .r2-full))
 
   pub now-given : {cs : List Call} (v : World) → Run S cs v → UnwrittenFrom S 0 i → opened-now w (S .script .slots) v i ≡ opened-given w S i
@@ -235,7 +235,7 @@ both-or (yes p) (yes q) = yes (p, q)
 both-or (yes p) (no q) = no (λ r. q (r .1))
 both-or (no p) q = no (λ r. p (r .0))
 
-unequal : (b : Bool) → Dec (b ≡ false)
+pub unequal : (b : Bool) → Dec (b ≡ false)
 unequal true = no (λ e. true≢false e)
 unequal false = yes refl
 
@@ -251,11 +251,11 @@ writes i (suc q) (exchange d e ∷ ss) = writes i (suc q) ss
 writes i (suc q) (end ∷ ss) = writes i q ss
 
 -- of the first n: the last for which K does not hold
-data Last (K : ℕ → Type 0) (n : ℕ) : Type 0 where
+pub data Last (K : ℕ → Type 0) (n : ℕ) : Type 0 where
   writer : (q : ℕ) → q < n → (K q → ⊥) → ((p : ℕ) → suc q ≤ p → p < n → K p) → Last K n
   nobody : ((p : ℕ) → p < n → K p) → Last K n
 
-last-of : (K : ℕ → Type 0) → ((p : ℕ) → Dec (K p)) → (n : ℕ) → Last K n
+pub last-of : (K : ℕ → Type 0) → ((p : ℕ) → Dec (K p)) → (n : ℕ) → Last K n
 last-of K dec zero = nobody (λ p h. absurd (omega arith))
 last-of K dec (suc n) = go (dec n) (last-of K dec n)
   where
@@ -307,7 +307,7 @@ target-low S q v F = order-good 32 S (F .words) (lit≤ tt) (lit< tt) (checked S
 job-written : (S : Setting) (q : ℕ) (v : World) → Finishes (staged 32 S) q v → (i : ℕ) → i < 16 → UntargetedFrom S (suc q) i → opened-now 32 16 v i ≡ opened-after 32 v q i
 job-written S q v F i hi u = written (staged 32 S) q v F i hi (untargeted S (suc q) i hi u)
 
-target-is : (i t : ℕ) → (eqb i t ≡ false → ⊥) → t ≡ i
+pub target-is : (i t : ℕ) → (eqb i t ≡ false → ⊥) → t ≡ i
 target-is i t n = go (eqb i t) refl
   where
     go : (b : Bool) → eqb i t ≡ b → t ≡ i

@@ -129,7 +129,7 @@ unfolding order-steps
 skip-order w i k [] ss h = h
 skip-order w i k (g ∷ gs) ss h = skip-gate w i k g (order-steps w gs ss) (skip-order w i k gs ss h)
 
-unwritten-gates : (w i p : ℕ) (os : List (List Gate)) → (p < length os → Spares i (getD os p [])) → Unwritten i p (job-steps w os)
+pub unwritten-gates : (w i p : ℕ) (os : List (List Gate)) → (p < length os → Spares i (getD os p [])) → Unwritten i p (job-steps w os)
 unfolding job-steps
 unwritten-gates w i p [] f = tt
 unwritten-gates w i zero (o ∷ os) f = unwritten-order w i o (job-steps w os) (f (omega arith))

@@ -7,7 +7,7 @@ use lib.Dec.{eqb}
 use lib.ListN.{length}
 use Rattle.words.specs.Words.{numbers}
 use Rattle.words.specs.Signed.{signed}
-use Rattle.shares.specs.Gates.{value, mask}
+use Rattle.shares.specs.Gates.{value}
 use Rattle.tables.specs.Table.{rows}
 use Rattle.gates.specs.Steps.{Exchange, Step, local, deal, exchange, end, Cursor, origin, past}
 use Rattle.gates.specs.Parties.{Pair, Triple, act, joint1, joint2}
@@ -17,7 +17,8 @@ use Rattle.parties.specs.Scripts.{job-script, script-cost, orders-in, Orderly}
 use Rattle.parties.specs.Calls.{State, start, hear}
 use Rattle.runs.specs.Runs.{Stage, Setting, staged, Spoken, Among, Dealer, ready, Side, waiting, going, World}
 use Rattle.runs.specs.Runs.{world, Call, lent1, lent2, Dealt, preparation, held, Run, opened-after}
-use Rattle.runs.specs.Orders.{first, slot, after-order, before-order, Unwritten, order-of, refresh-mask}
+use Rattle.runs.specs.Orders.{first, slot, after-order, before-order, value-before, mask-before, Unwritten}
+use Rattle.runs.specs.Orders.{order-of, refresh-mask}
 use Rattle.runs.specs.Demand3.{opens, Finishes}
 
 -- the words that a host speaks on the joint walk, each at its place, and 0 at the end
@@ -43,19 +44,12 @@ pub record Counted (S : Stage) (k : ℕ) (s : State) (n : ℕ) : Type 0 where
   pub before-end : s .order < orders-in (S .script) → k ≡ n
   pub at-end : s .order ≡ orders-in (S .script) → (suc k ≡ n) × (k * 2 ≡ script-cost (S .script) .words)
 
--- what register i opens just before order q, and its mask L = L1 + L2 there
-abbrev pub value-before : Setting → (q i : ℕ) → ℕ
-value-before S q i = value (numbers 32) (slot (before-order (staged 32 S) q) i)
-
-abbrev pub mask-before : Setting → (q i : ℕ) → ℕ
-mask-before S q i = mask (numbers 32) (slot (before-order (staged 32 S) q) i)
-
 -- the word that document 01 defines for order q, from what its sources open just before it, and the masks
 abbrev pub defined-value : Setting → (q : ℕ) → ℕ
 defined-value S q =
-    order-value 32 (rows (S .table)) (order-of S q) (value-before S q (order-of S q .source))
-    (value-before S q (order-of S q .fourth))
-    (mask-before S q (order-of S q .source)) (refresh-mask 32 S q)
+    order-value 32 (rows (S .table)) (order-of S q) (value-before (staged 32 S) q (order-of S q .source))
+    (value-before (staged 32 S) q (order-of S q .fourth)) (mask-before (staged 32 S) q (order-of S q .source))
+    (refresh-mask 32 S q)
 
 pub record Demand2 : Type 0 where
   -- "each order opens to the value that document 01 defines for it"

@@ -8,10 +8,8 @@ use lib.Dec.{T}
 use lib.IntN.{ℤ, pos, _+ℤ_}
 use lib.ListN.{set}
 use lib.Signed.{leZ, _≤ℤ_}
-use Rattle.words.specs.Words.{numbers}
 use Rattle.words.specs.Signed.{floor, signed, wrap, in-range}
 use Rattle.truncations.specs.Truncation.{slip}
-use Rattle.shares.specs.Gates.{value}
 use Rattle.tables.specs.Table.{rows}
 use Rattle.curves.specs.Curve.{scaled, line, last-count, Near}
 use Rattle.curves.specs.Count.{count}
@@ -20,11 +18,11 @@ use Rattle.circuits.specs.Costs.{program-cost}
 use Rattle.parties.specs.Scripts.{orders-in}
 use Rattle.runs.specs.Runs.{Stage, Setting, staged, World, Call, Completes, Run, Finished, opened-after}
 use Rattle.runs.specs.Runs.{buffer-of, Accepted}
-use Rattle.runs.specs.Orders.{Words, slot, before-order, order-of, used-before, refresh-mask}
+use Rattle.runs.specs.Orders.{Words, value-before, order-of, used-before, refresh-mask}
 
 -- "x is the signed reading of what the order's source opens just before it"
 unfoldable pub reading : Setting → ℕ → ℤ
-reading S q = signed 32 (value (numbers 32) (slot (before-order (staged 32 S) q) (order-of S q .source)))
+reading S q = signed 32 (value-before (staged 32 S) q (order-of S q .source))
 
 -- Y of that reading
 unfoldable pub Y-of : Setting → ℕ → ℤ

@@ -11,3 +11,5 @@ pub mod Strict
 pub mod Buffers
 pub mod Whole
 pub mod ReturnedCurves
+pub mod Readings
+pub mod ByKind

@@ -6,8 +6,8 @@ use mathlib.Core.List.{List, [], _∷_}
 use Prim.Native.Nat.{ℕ, zero, suc, _+_, _^_, _<_}
 use lib.Dec.{eqb}
 use lib.ListN.{getD}
-use Rattle.words.specs.Words.{add}
-use Rattle.shares.specs.Gates.{Share}
+use Rattle.words.specs.Words.{add, numbers}
+use Rattle.shares.specs.Gates.{Share, value, mask}
 use Rattle.tables.specs.Table.{rows}
 use Rattle.gates.specs.Steps.{at, Step, local, deal, exchange, end, origin}
 use Rattle.gates.specs.Walk.{whole}
@@ -48,6 +48,13 @@ before-order S (suc q) = after-order S q
 -- the share in slot i
 abbrev pub slot : Triple → ℕ → Share ℕ
 slot j i = record { m = at (j .0) i; l1 = at (j .1) i; l2 = at (j .2) i }
+
+-- what slot i opens just before order q, and its mask there, "L = L1 + L2"
+abbrev pub value-before : Stage → (q i : ℕ) → ℕ
+value-before S q i = value (numbers 32) (slot (before-order S q) i)
+
+abbrev pub mask-before : Stage → (q i : ℕ) → ℕ
+mask-before S q i = mask (numbers 32) (slot (before-order S q) i)
 
 -- no step of order q has slot i as its target
 abbrev pub Unwritten : (i q : ℕ) → List Step → Type 0
