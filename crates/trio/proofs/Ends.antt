@@ -104,7 +104,7 @@ module _ (S : Stage) (shut : Closed (S .script .steps)) (buf : List ℕ) (done :
 
   -- ---- at the end
 
-  no-step : (n : ℕ) → Halted (walk-at n .rest) → orders-in (S .script) ≤ walk-at n .cur .order → walk-at n .rest ≡ []
+  pub no-step : (n : ℕ) → Halted (walk-at n .rest) → orders-in (S .script) ≤ walk-at n .cur .order → walk-at n .rest ≡ []
   no-step n h l = go (exchange-or-end (act (S .A) (S .B)) (all S) (j₀ S) _ h)
     where
       go : Exchanging (walk-at n .rest) ⊎ (walk-at n .rest ≡ []) → walk-at n .rest ≡ []
@@ -115,7 +115,7 @@ module _ (S : Stage) (shut : Closed (S .script .steps)) (buf : List ℕ) (done :
       go (inr e) = e
 
   module _ (n : ℕ) (e : walk-at n .rest ≡ []) where
-    cur-is : walk-at n .cur ≡ far (all S) origin
+    pub cur-is : walk-at n .cur ≡ far (all S) origin
     cur-is = sym (far-rest _ _ e) ∙ far-at (S .A) (S .B) (all S) (j₀ S) shut n
 
     state-is : walk-at n .state ≡ left (lent-of S) (given-of S)

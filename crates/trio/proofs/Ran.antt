@@ -1,50 +1,125 @@
 -- The whole job in one place is a run carried to its end. Assumes nothing.
-use mathlib.Core.Path.{_≡_, refl, ap, _∙_, subst}
-use mathlib.Core.List.{List}
+use mathlib.Core.Path.{_≡_, refl, sym, ap, _∙_}
+use mathlib.Core.List.{List, []}
 use Prim.Native.Nat.{ℕ, zero, suc, _≤_, _<_}
+use native.Mathlib.Nat.{zero-add}
 use native.Mathlib.Omega.{arith}
-use Rattle.gates.specs.Parties.{Pair}
-use Rattle.parties.specs.Scripts.{orders-in, Closed}
-use Rattle.parties.specs.Calls.{State}
-use Rattle.runs.specs.Runs.{Stage, staged, Spoken, Dealer, going, world, Finished}
-use Rattle.runs.specs.Whole.{WholeRun}
-use Rattle.runs.proofs.Chain.{job-closed}
+use lib.ListN.{length}
+use Rattle.gates.specs.Steps.{Cursor, origin}
+use Rattle.gates.specs.Parties.{Pair, of1, of2}
+use Rattle.gates.proofs.Needs.{far-used}
+use Rattle.parties.specs.Scripts.{script-cost, orders-in, Orderly}
+use Rattle.parties.specs.Calls.{State, Answer, unless, given}
+use Rattle.runs.specs.Runs.{Stage, staged, Spoken, Dealer, going, world, held, Begins, given-out, begin, Finished}
+use Rattle.runs.specs.Whole.{WholeRun, outset}
+use Rattle.runs.proofs.Chain.{job-orderly}
 use Rattle.runs.proofs.Kept.{Ok, ok, go1, go2, kept}
-use Rattle.runs.proofs.Strict.{wide}
+use Rattle.runs.proofs.Progress.{unless-zero}
+use Rattle.runs.proofs.Strict.{wide-on}
+use Rattle.runs.proofs.Buffers.{buffers}
+use Rattle.runs.proofs.InOrder.{in-order}
 use Rattle.runs.proofs.Whole.{whole}
-use Rattle.trio.specs.Together.{Trio, prepared, preparation as trio-preparation, together}
-use Rattle.trio.specs.Ran.{ran, Ran}
-use Rattle.trio.proofs.Positions.{P, D, standing}
-use Rattle.trio.proofs.Ends.{finish}
+use Rattle.trio.specs.Together.{Trio, prepared, preparation as trio-preparation, left, ended, together}
+use Rattle.trio.specs.Ran.{ran, RunTo, Ran}
+use Rattle.trio.proofs.Positions.{lent-of, given-of, P, D, at-n, standing}
+use Rattle.trio.proofs.Ends.{no-step, cur-is, finish}
 
-module _ (S : Stage) (shut : Closed (S .script .steps)) (buf : List ℕ) (done : P S buf .number ≡ 0) where
+module _ (S : Stage) (tidy : Orderly (S .script)) (buf : List ℕ) (done : P S buf .number ≡ 0) where
   -- every order is behind a place that is past all of them
   at-least : (n o : ℕ) → ((q : ℕ) → q < n → q < o) → n ≤ o
   at-least zero o f = omega arith
   at-least (suc n) o f = f n (omega arith)
 
-  states : (z : Dealer) (b : List ℕ) (s1 s2 : State) (t1 t2 : List Pair) (said1 said2 : List Spoken) → Ok S (world z b (going s1 t1 said1) (going s2 t2 said2))
-      → ((q : ℕ) → q < orders-in (S .script) → Finished (world z b (going s1 t1 said1) (going s2 t2 said2)) q)
-      → (s1 ≡ ran S buf .one .state) × (s2 ≡ ran S buf .two .state)
-  states _ _ s1 s2 t1 t2 said1 said2 (ok z (go1 X) (go2 Y) a) f =
+  -- as many words of B are used there as the script needs
+  all-used : (n : ℕ) → at-n S buf n .rest ≡ [] → at-n S buf n .cur .b ≡ script-cost (S .script) .b
+  all-used n e = ap (λ (c : Cursor). c .b) (cur-is S (tidy .closed) buf done n e) ∙ far-used (S .script .steps) origin .b ∙ zero-add _
+
+  -- hosts whose states these are, with so many words spoken
+  record Ends (s1 s2 : State) (said1 said2 : List Spoken) : Type 0 where
+    pub one : s1 ≡ ran S buf .one .state
+    pub two : s2 ≡ ran S buf .two .state
+    pub words1 : length said1 ≡ suc (script-cost (S .script) .b)
+    pub words2 : length said2 ≡ suc (script-cost (S .script) .b)
+
+  ends-in : (z : Dealer) (b : List ℕ) (s1 s2 : State) (t1 t2 : List Pair) (said1 said2 : List Spoken) → Ok S (world z b (going s1 t1 said1) (going s2 t2 said2))
+      → ((q : ℕ) → q < orders-in (S .script) → Finished (world z b (going s1 t1 said1) (going s2 t2 said2)) q) → Ends s1 s2 said1 said2
+  ends-in _ _ s1 s2 t1 t2 said1 said2 (ok z (go1 X) (go2 Y) a) f =
       let l1 : orders-in (S .script) ≤ s1 .order = at-least _ _ (λ q h. f q h .one) in
       let l2 : orders-in (S .script) ≤ s2 .order = at-least _ _ (λ q h. f q h .two) in
-      let e1 = finish S shut buf done (standing S buf (X .n)) (record { n = X .n; halts = X .halts; is = refl }) (rw (X .is) at l1) in
-      let e2 = finish S shut buf done (standing S buf (Y .n)) (record { n = Y .n; halts = Y .halts; is = refl }) (rw (Y .is) at l2) in
-      (X .is ∙ ap (λ (t : Trio). t .one .state) e1, Y .is ∙ ap (λ (t : Trio). t .two .state) e2)
+      let k1 = rw (X .is) at l1 in
+      let k2 = rw (Y .is) at l2 in
+      let e1 = finish S (tidy .closed) buf done (standing S buf (X .n)) (record { n = X .n; halts = X .halts; is = refl }) k1 in
+      let e2 = finish S (tidy .closed) buf done (standing S buf (Y .n)) (record { n = Y .n; halts = Y .halts; is = refl }) k2 in
+      record {
+        one = X .is ∙ ap (λ (t : Trio). t .one .state) e1;
+        two = Y .is ∙ ap (λ (t : Trio). t .two .state) e2;
+        words1 = X .count ∙ ap suc (all-used (X .n) (no-step S (tidy .closed) buf done (X .n) (X .halts) k1));
+        words2 = Y .count ∙ ap suc (all-used (Y .n) (no-step S (tidy .closed) buf done (Y .n) (Y .halts) k2));
+      }
 
-  found-run : (E : List ℕ) → WholeRun S E (P S buf .masks) (D S buf) (ran S buf .one .state) (ran S buf .two .state)
-  found-run E =
-      let r = whole .whole-run S E buf done in
-      let e = states _ _ (r .0) (r .1) _ _ _ _ (kept S (wide S (r .2 .run))) (r .2 .finished) in
-      subst (λ (x : State). WholeRun S E (P S buf .masks) (D S buf) (ran S buf .one .state) x) (e .1)
-      (subst (λ (x : State). WholeRun S E (P S buf .masks) (D S buf) x (r .1)) (e .0) (r .2))
+  -- the last answers
+  one-is : ran S buf .one ≡ ended (lent-of S) (of1 (left (lent-of S) (given-of S)))
+  unfolding together prepared trio-preparation
+  one-is = unless-zero (P S buf .number) (P S buf .number, P S buf .index) (given (S .rm, S .r1)) _ done
+
+  two-is : ran S buf .two ≡ ended (lent-of S) (of2 (left (lent-of S) (given-of S)))
+  unfolding together prepared trio-preparation
+  two-is = unless-zero (P S buf .number) (P S buf .number, P S buf .index) (given (S .rm, S .r2)) _ done
+
+  -- a host at the end
+  record Last (a : Answer) : Type 0 where
+    pub number : a .number ≡ 0
+    pub spoken : a .spoken ≡ script-cost (S .script) .b
+    pub word : a .word ≡ 0
+    pub order : a .state .order ≡ orders-in (S .script)
+
+  last-of : (a : Answer) (l : Pair) → a ≡ ended (lent-of S) l → Last a
+  unfolding ended
+  last-of a l e = rw e (record { number = refl; spoken = refl; word = refl; order = refl })
+
+  module _ (E : List ℕ) (one two : State) (p1 : held S one ≡ (S .rm, S .r1)) (p2 : held S two ≡ (S .rm, S .r2)) where
+    begins : Begins S (outset S buf one two)
+    begins = given-out p1 p2
+
+    abbrev Whole : State → State → Type 0
+    Whole s1 s2 = WholeRun S E (outset S buf one two) (P S buf .masks) (D S buf) s1 s2
+
+    module _ (s1 s2 : State) (W : Whole s1 s2) where
+      ends : Ends s1 s2 (W .said1) (W .said2)
+      ends = ends-in _ _ s1 s2 _ _ _ _ (kept S (wide-on S (begin begins) (W .run))) (W .finished)
+
+    moved : (s1 s2 t1 t2 : State) → s1 ≡ t1 → s2 ≡ t2 → Whole s1 s2 → Whole t1 t2
+    moved s1 s2 t1 t2 e f W = rw (← e, ← f) W
+
+    found-run : RunTo S E (outset S buf one two) (ran S buf)
+    unfolding together prepared trio-preparation
+    found-run =
+        let r = whole .whole-run S E buf one two p1 p2 done in
+        let e = ends (r .0) (r .1) (r .2) in
+        let W : Whole (ran S buf .one .state) (ran S buf .two .state) = moved (r .0) (r .1) _ _ (e .one) (e .two) (r .2) in
+        let k = ends (ran S buf .one .state) (ran S buf .two .state) W in
+        let a = last-of (ran S buf .one) _ one-is in
+        let b = last-of (ran S buf .two) _ two-is in
+        let R = wide-on S (begin begins) (W .run) in
+        record {
+          whole = W;
+          accepted = (done, a .number, b .number);
+          deals = buffers .reported S _ _ buf _ _ (begin begins) done;
+          buffer = buffers .written S _ _ buf _ _ (begin begins) done;
+          said1 = in-order .all-said-1 S tidy _ _ _ _ _ _ _ R (a .order);
+          said2 = in-order .all-said-2 S tidy _ _ _ _ _ _ _ R (b .order);
+          last-words = (a .word, b .word);
+          spoken1 = ap suc (a .spoken) ∙ sym (k .words1);
+          spoken2 = ap suc (b .spoken) ∙ sym (k .words2);
+        }
 
 pub trio-ran : Ran
 unfolding together prepared trio-preparation
 trio-ran =
     record {
-      is-run = λ S shut E buf e. found-run S shut buf e E;
-      accepted-run = λ S shut E buf acc. found-run S shut buf (whole .prepares S buf (S .r1, S .r2) acc) E;
-      job-run = λ S E buf e. found-run (staged 32 S) (job-closed 32 (S .job) (S .table)) buf e E;
+      is-run = λ S tidy E buf one two p1 p2 e. found-run S tidy buf e E one two p1 p2;
+      accepted-run = λ S tidy E buf one two p1 p2 acc. found-run S tidy buf (whole .prepares S buf (S .r1, S .r2) acc) E one two p1 p2;
+      job-run = λ S E buf one two p1 p2 i.
+          found-run (staged 32 S) (job-orderly 32 (S .job) (S .table)) buf (whole .prepares (staged 32 S) buf (S .r1, S .r2) (whole .accepted-job S buf .0 i)) E
+          one two p1 p2;
     }

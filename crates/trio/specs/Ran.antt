@@ -1,25 +1,49 @@
--- What `together` gives is what the three hosts hold at the end of a run. Assumes nothing.
+-- What `together` gives is what the three hosts hold at the end of a run, with its counts and its words. Assumes nothing.
 use mathlib.Core.Path.{_≡_}
-use mathlib.Core.List.{List}
-use Prim.Native.Nat.{ℕ}
-use Rattle.parties.specs.Scripts.{Closed}
-use Rattle.runs.specs.Runs.{Stage, Setting, staged, Accepted}
-use Rattle.runs.specs.Whole.{WholeRun}
+use mathlib.Core.List.{List, reverse}
+use Prim.Native.Nat.{ℕ, suc}
+use lib.ListN.{length}
+use Rattle.parties.specs.Scripts.{Orderly}
+use Rattle.parties.specs.Calls.{State}
+use Rattle.runs.specs.Runs.{Stage, Setting, staged, World, held, buffer-of, Accepted}
+use Rattle.runs.specs.Conditions.{PreparationIs}
+use Rattle.runs.specs.Demand1.{job-terms}
+use Rattle.runs.specs.Demand2.{words-of-1, words-of-2}
+use Rattle.runs.specs.Buffers.{deals-of, filled}
+use Rattle.runs.specs.Whole.{WholeRun, outset}
 use Rattle.trio.specs.Together.{lending, Trio, together}
 
 -- the whole script of a stage, in one place
 abbrev pub ran : Stage → (buffer : List ℕ) → Trio
 ran S buf = together (lending (S .script) (S .A) (S .B)) (S .rm, S .r1, S .r2) buf
 
--- where it is not refused, there is a run of document 01 after which host 0 holds its masks and its buffer and hosts 1
--- and 2 its states, and every order is finished
+-- the three hosts' last answers t are those of a run of document 01 from the world v
+pub record RunTo (S : Stage) (E : List ℕ) (v : World) (t : Trio) : Type 0 where
+  -- the run: host 0 then holds these masks and this buffer, hosts 1 and 2 these states, and every order is finished
+  pub whole : WholeRun S E v (t .masks) (t .buffer) (t .one .state) (t .two .state)
+  -- no call of it was refused
+  pub accepted : (t .number ≡ 0) × (t .one .number ≡ 0) × (t .two .number ≡ 0)
+  -- "preparation reports the deals it wrote", which stand in front of the buffer
+  pub deals : t .deals ≡ length (deals-of S)
+  pub buffer : t .buffer ≡ filled S (buffer-of v)
+  -- each host has spoken every word defined for it, in order, with the 0 of its last answer behind them
+  pub said1 : reverse (whole .said1) ≡ words-of-1 S
+  pub said2 : reverse (whole .said2) ≡ words-of-2 S
+  pub last-words : (t .one .word ≡ 0) × (t .two .word ≡ 0)
+  -- and reports as many as come before that 0
+  pub spoken1 : suc (t .one .spoken) ≡ length (whole .said1)
+  pub spoken2 : suc (t .two .spoken) ≡ length (whole .said2)
+
 pub record Ran : Type 0 where
-  pub is-run : (S : Stage) → Closed (S .script .steps) → (E buffer : List ℕ) → ran S buffer .number ≡ 0
-      → WholeRun S E (ran S buffer .masks) (ran S buffer .buffer) (ran S buffer .one .state) (ran S buffer .two .state)
+  -- where it is not refused, from any registers that open, whatever the hosts keep beside them
+  pub is-run : (S : Stage) → Orderly (S .script) → (E buffer : List ℕ) (one two : State) → held S one ≡ (S .rm, S .r1)
+      → held S two ≡ (S .rm, S .r2) → ran S buffer .number ≡ 0 → RunTo S E (outset S buffer one two) (ran S buffer)
   -- and so where its script is accepted with its lists and its buffer
-  pub accepted-run : (S : Stage) → Closed (S .script .steps) → (E buffer : List ℕ) → Accepted S buffer
-      → WholeRun S E (ran S buffer .masks) (ran S buffer .buffer) (ran S buffer .one .state) (ran S buffer .two .state)
-  -- a job's script is closed
-  pub job-run : (S : Setting) (E buffer : List ℕ) → ran (staged 32 S) buffer .number ≡ 0
-      → WholeRun (staged 32 S) E (ran (staged 32 S) buffer .masks) (ran (staged 32 S) buffer .buffer)
-      (ran (staged 32 S) buffer .one .state) (ran (staged 32 S) buffer .two .state)
+  pub accepted-run : (S : Stage) → Orderly (S .script) → (E buffer : List ℕ) (one two : State)
+      → held S one ≡ (S .rm, S .r1) → held S two ≡ (S .rm, S .r2) → Accepted S buffer
+      → RunTo S E (outset S buffer one two) (ran S buffer)
+  -- a job: where it meets none of the conditions 2 to 7
+  pub job-run : (S : Setting) (E buffer : List ℕ) (one two : State) → held (staged 32 S) one ≡ (S .rm, S .r1)
+      → held (staged 32 S) two ≡ (S .rm, S .r2)
+      → PreparationIs (job-terms (S .job) (S .table)) (S .A) (S .B) buffer 0 0
+      → RunTo (staged 32 S) E (outset (staged 32 S) buffer one two) (ran (staged 32 S) buffer)
