@@ -25,3 +25,4 @@ pub mod Numbers
 pub mod Whole
 pub mod ReturnedCurves
 pub mod Same
+pub mod ByHand

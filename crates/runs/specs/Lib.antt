@@ -9,3 +9,4 @@ pub mod Strict
 pub mod Numbers
 pub mod Whole
 pub mod ReturnedCurves
+pub mod ByHand
