@@ -7,5 +7,4 @@ pub mod Curve
 pub mod Opens
 pub mod Costs
 pub mod Calibration
-pub mod Worked
 pub mod CurveGates

@@ -4,4 +4,3 @@ pub mod Curve
 pub mod Counting
 pub mod Wrapping
 pub mod WordCurve
-pub mod Figures
