@@ -8,5 +8,4 @@ pub mod Opens
 pub mod Costs
 pub mod Readings
 pub mod Calibration
-pub mod Worked
 pub mod CurveGates

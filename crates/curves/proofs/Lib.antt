@@ -5,4 +5,3 @@ pub mod Counting
 pub mod Wrapping
 pub mod WordCurve
 pub mod Segments
-pub mod Figures

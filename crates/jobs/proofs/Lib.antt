@@ -2,6 +2,7 @@ pub mod Accepted
 pub mod Conditions
 pub mod Orders
 pub mod Sums
+pub mod CostTable
 pub mod Turns
 pub mod Marks
 pub mod Unused

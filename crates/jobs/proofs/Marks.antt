@@ -7,30 +7,29 @@ use native.Mathlib.Omega.{arith}
 use lib.ListN.{length, take, drop}
 use lib.Seq.{take-all}
 use Rattle.words.proofs.Integers.{le-or-lt}
-use Rattle.tables.specs.Table.{Row, rows}
+use Rattle.tables.specs.Table.{rows}
 use Rattle.gates.specs.Costs.{Cost, cost-of, plus}
 use Rattle.gates.proofs.Needs.{cost-path}
-use Rattle.circuits.specs.declared.Order.{Order}
 use Rattle.jobs.specs.declared.Counts.{Counts}
 use Rattle.jobs.specs.Job.{orders, job-cost}
 use Rattle.jobs.specs.Walk.{counted}
-use Rattle.jobs.proofs.Sums.{orders-cost, whole-job, no-orders, one-more}
+use Rattle.jobs.specs.CostTable.{table-counts}
+use Rattle.jobs.proofs.Sums.{job-counts}
 use Rattle.jobs.proofs.Turns.{Going}
 
 -- ---- the orders before an index and those from it on have the job's counts
 
-split : (ps : List Row) (ws : List ℕ) (i : ℕ) → i * 4 ≤ length ws → plus (orders-cost ps (orders (take (i * 4) ws))) (orders-cost ps (orders (drop (i * 4) ws))) ≡ orders-cost ps (orders ws)
-unfolding orders plus
-split ps ws zero h = rw (no-orders ps) (cost-path (omega arith) (omega arith) (omega arith) (omega arith))
-split ps [] (suc i) h = absurd (omega arith)
-split ps (k ∷ []) (suc i) h = absurd (omega arith)
-split ps (k ∷ d ∷ []) (suc i) h = absurd (omega arith)
-split ps (k ∷ d ∷ a ∷ []) (suc i) h = absurd (omega arith)
-split ps (k ∷ d ∷ a ∷ c ∷ ws) (suc i) h =
+split : (n : ℕ) (ws : List ℕ) (i : ℕ) → i * 4 ≤ length ws
+    → plus (table-counts n (orders (take (i * 4) ws))) (table-counts n (orders (drop (i * 4) ws))) ≡ table-counts n (orders ws)
+unfolding orders plus table-counts
+split n ws zero h = cost-path (omega arith) (omega arith) (omega arith) (omega arith)
+split n [] (suc i) h = absurd (omega arith)
+split n (k ∷ []) (suc i) h = absurd (omega arith)
+split n (k ∷ d ∷ []) (suc i) h = absurd (omega arith)
+split n (k ∷ d ∷ a ∷ []) (suc i) h = absurd (omega arith)
+split n (k ∷ d ∷ a ∷ c ∷ ws) (suc i) h =
     let e : suc i * 4 ≡ suc (suc (suc (suc (i * 4)))) = omega arith in
-    let o : Order = record { kind = k; target = d; source = a; fourth = c } in
-    rw (e, one-more ps o (orders (take (i * 4) ws)), one-more ps o (orders ws), ← split ps ws i (omega arith))
-    (cost-path (omega arith) (omega arith) (omega arith) (omega arith))
+    rw (e, ← split n ws i (omega arith)) (cost-path (omega arith) (omega arith) (omega arith) (omega arith))
 
 cancel : (x y r : Cost) → plus x r ≡ plus y r → x ≡ y
 unfolding plus
@@ -51,13 +50,14 @@ pub record Marked (job table : List ℕ) (place i : ℕ) (before : Counts) : Typ
 module _ (job table : List ℕ) where
   so-far : {i : ℕ} {sum : Counts} → Going job table i sum → i * 4 ≤ length job → counted sum ≡ job-cost 32 (take (i * 4) job) table
   so-far {i} {sum} g h =
-      cancel (counted sum) (orders-cost (rows table) (orders (take (i * 4) job))) (orders-cost (rows table) (orders (drop (i * 4) job)))
-      (g .costs ∙ sym (whole-job job table) ∙ sym (split (rows table) job i h))
-      ∙ whole-job (take (i * 4) job) table
+      let n = length (rows table) in
+      cancel (counted sum) (table-counts n (orders (take (i * 4) job))) (table-counts n (orders (drop (i * 4) job)))
+      (g .costs ∙ job-counts job table ∙ sym (split n job i h))
+      ∙ sym (job-counts (take (i * 4) job) table)
 
   none-yet : {sum : Counts} → counted sum ≡ cost-of 0 0 0 0 → counted sum ≡ job-cost 32 (take 0 job) table
-  unfolding orders
-  none-yet e = e ∙ sym (no-orders (rows table)) ∙ whole-job [] table
+  unfolding orders table-counts
+  none-yet e = e ∙ sym (job-counts [] table)
 
   module _ (place : ℕ) where
     pub unmarked : (before : Counts) → counted before ≡ cost-of 0 0 0 0 → Marked job table place 0 before

@@ -1,5 +1,5 @@
 -- A job's counts are the sums of its orders' entries in document 01's table of costs, and stay small. Assumes nothing.
-use mathlib.Core.Path.{_≡_, refl, sym, _∙_, subst}
+use mathlib.Core.Path.{_≡_, refl, sym, ap₂, _∙_, subst}
 use mathlib.Core.Bool.{Bool, true, false, cond}
 use mathlib.Core.List.{List, [], _∷_, map}
 use Prim.Native.Nat.{ℕ, zero, suc, _+_, _*_, _/_, _≤_}
@@ -19,6 +19,7 @@ use Rattle.circuits.specs.Costs.{program-cost}
 use Rattle.circuits.proofs.Costs.{cost-0, cost-1, cost-2, cost-3, cost-4, cost-5, cost-6, cost-7, cost-8, cost-9, curve-exact-cost, curve-one-bit-cost}
 use Rattle.jobs.specs.Job.{orders, job-gates, steps-of, job-cost, order-fault}
 use Rattle.jobs.specs.Walk.{curve-cost, kind-costs, kind-cost}
+use Rattle.jobs.specs.CostTable.{table-counts}
 use Rattle.jobs.proofs.Accepted.{good, curve-ruled}
 
 -- ---- kind by kind
@@ -64,21 +65,15 @@ unfolding program-cost order-steps cost step-cost plus
 program-then w [] ss = cost-path (omega arith) (omega arith) (omega arith) (omega arith)
 program-then w (g ∷ gs) ss = rw (program-then w gs ss) (cost-path (omega arith) (omega arith) (omega arith) (omega arith))
 
--- the counts of a list of orders
-unfoldable pub orders-cost : List Row → List Order → Cost
-orders-cost ps os = cost (job-steps 32 (map (program 32 ps) os))
+orders-counts : (ps : List Row) (os : List Order) → cost (job-steps 32 (map (program 32 ps) os)) ≡ table-counts (length ps) os
+unfolding job-steps cost table-counts
+orders-counts ps [] = refl
+orders-counts ps (o ∷ os) =
+    program-then 32 (program 32 ps o) (job-steps 32 (map (program 32 ps) os)) ∙ ap₂ plus (of-order ps o) (orders-counts ps os)
 
-pub whole-job : (job table : List ℕ) → orders-cost (rows table) (orders job) ≡ job-cost 32 job table
-unfolding orders-cost job-cost steps-of job-gates
-whole-job job table = refl
-
-pub no-orders : (ps : List Row) → orders-cost ps [] ≡ cost-of 0 0 0 0
-unfolding orders-cost job-steps cost
-no-orders ps = refl
-
-pub one-more : (ps : List Row) (o : Order) (os : List Order) → orders-cost ps (o ∷ os) ≡ plus (kind-cost (o .kind) (o .fourth) (length ps)) (orders-cost ps os)
-unfolding orders-cost job-steps
-one-more ps o os = rw (← of-order ps o) (program-then 32 (program 32 ps o) (job-steps 32 (map (program 32 ps) os)))
+pub job-counts : (job table : List ℕ) → job-cost 32 job table ≡ table-counts (length (rows table)) (orders job)
+unfolding job-cost steps-of job-gates
+job-counts job table = orders-counts (rows table) (orders job)
 
 -- ---- entries of the table
 

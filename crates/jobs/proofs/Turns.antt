@@ -1,7 +1,7 @@
 -- `survey`'s walk over the orders of a job, on plain values: what holds at its head, a turn, and its ends. Assumes nothing.
 use mathlib.Core.Path.{_≡_, refl, sym, ap, _∙_}
 use mathlib.Core.Bool.{Bool, true, false, cond}
-use mathlib.Core.List.{List}
+use mathlib.Core.List.{List, _∷_}
 use Prim.Native.Nat.{ℕ, zero, suc, _+_, _*_, _/_, _%_, _≤_}
 use native.Mathlib.Numerals.{add-one}
 use native.Mathlib.Omega.{arith}
@@ -15,9 +15,10 @@ use Rattle.circuits.specs.declared.Order.{Order}
 use Rattle.jobs.specs.declared.Counts.{Counts}
 use Rattle.jobs.specs.Job.{Fault, orders, ill-sized, order-fault, fault-at, orders-fault, job-fault, job-cost}
 use Rattle.jobs.specs.Walk.{order-at, counted, Small, kind-cost}
+use Rattle.jobs.specs.CostTable.{table-counts}
 use Rattle.jobs.specs.Answers.{Verdict, refusal, judged, check-job, numbered, counts-before}
 use Rattle.jobs.proofs.Orders.{orders-from, no-more}
-use Rattle.jobs.proofs.Sums.{orders-cost, whole-job, no-orders, one-more, rows-right, Below, few, rows-few}
+use Rattle.jobs.proofs.Sums.{job-counts, rows-right, Below, few, rows-few}
 use Rattle.jobs.proofs.Conditions.{sized}
 
 -- ---- from a fault to the answer
@@ -103,7 +104,7 @@ given job table {ruled} e r en = record {
 -- at the head, with i orders behind it: the faults still to be found are the job's, and the counts so far, with those of the orders to come, are the job's
 pub record Going (job table : List ℕ) (i : ℕ) (sum : Counts) : Type 0 where
   pub faults : orders-fault 32 (keeps-rules table) (orders (drop (i * 4) job)) i ≡ orders-fault 32 (keeps-rules table) (orders job) 0
-  pub costs : plus (counted sum) (orders-cost (rows table) (orders (drop (i * 4) job))) ≡ job-cost 32 job table
+  pub costs : plus (counted sum) (table-counts (length (rows table)) (orders (drop (i * 4) job))) ≡ job-cost 32 job table
   pub below : Below (counted sum) i
 
 module _ (job table : List ℕ) where
@@ -111,17 +112,17 @@ module _ (job table : List ℕ) where
   unfolding plus
   starts sum e = record {
     faults = refl;
-    costs = rw (e, ← whole-job job table) (cost-path (omega arith) (omega arith) (omega arith) (omega arith));
+    costs = rw (e, job-counts job table) (cost-path (omega arith) (omega arith) (omega arith) (omega arith));
     below = rw e (omega arith);
   }
 
   module _ {i : ℕ} {sum : Counts} (g : Going job table i sum) {ruled : Bool} {n : ℕ} (t : Given job table ruled n) where
     pub done : length job / 4 ≤ i → (job-fault 32 job table ≡ (0, 0)) × (job-cost 32 job table ≡ counted sum)
-    unfolding orders-fault plus
+    unfolding orders-fault plus table-counts
     done h =
         let left = no-more job i h in
         let fine : orders-fault 32 (keeps-rules table) (orders job) 0 ≡ (0, 0) = sym (g .faults) ∙ rw left in
-        (sized-fault 32 job table (t .size) ∙ fine, sym (g .costs) ∙ rw (left, no-orders (rows table)) (cost-path (omega arith) (omega arith) (omega arith) (omega arith)))
+        (sized-fault 32 job table (t .size) ∙ fine, sym (g .costs) ∙ rw left (cost-path (omega arith) (omega arith) (omega arith) (omega arith)))
 
     module _ (h : i * 4 + 4 ≤ length job) {o : Order} (eo : o ≡ order-at job i) {f : ℕ} (ef : f ≡ order-fault 32 ruled o) where
       fault-here : orders-fault 32 (keeps-rules table) (orders (drop (i * 4) job)) i ≡ fault-at f i (orders-fault 32 (keeps-rules table) (orders (drop ((i + 1) * 4) job)) (suc i))
@@ -144,13 +145,13 @@ module _ (job table : List ℕ) where
         small = let b = g .below in let d = one in let m = t .most in omega arith
 
         abbrev rest : Cost
-        rest = orders-cost (rows table) (orders (drop ((i + 1) * 4) job))
+        rest = table-counts (length (rows table)) (orders (drop ((i + 1) * 4) job))
 
         total : plus (counted sum) (plus (counted k) rest) ≡ job-cost 32 job table
+        unfolding table-counts
         total =
-            ap (plus (counted sum))
-            (ap (λ (x : Cost). plus x rest) cost-here ∙ sym (one-more (rows table) o (orders (drop ((i + 1) * 4) job)))
-            ∙ ap (orders-cost (rows table)) (rw eo (sym (orders-from job i h))))
+            let e : o ∷ orders (drop ((i + 1) * 4) job) ≡ orders (drop (i * 4) job) = rw eo (sym (orders-from job i h)) in
+            ap (plus (counted sum)) (ap (λ (x : Cost). plus x rest) cost-here ∙ ap (table-counts (length (rows table))) e)
             ∙ g .costs
 
         pub turn : {s : Counts} → counted s ≡ plus (counted sum) (counted k) → Going job table (i + 1) s

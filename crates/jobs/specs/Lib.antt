@@ -1,4 +1,5 @@
 pub mod Job
 pub mod Walk
+pub mod CostTable
 pub mod Answers
 pub mod FirstFault

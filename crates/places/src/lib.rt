@@ -7,7 +7,7 @@ ghost use Rattle.gates.specs.declared.Gate.the-variants.{Mul, Refresh};
 ghost use Rattle.tables.specs.Table.{rows};
 ghost use Rattle.circuits.specs.Programs.{relu-program, one-bit-program, exact-program};
 ghost use Rattle.circuits.specs.Orders.{curve-program, program};
-ghost use Rattle.places.specs.Seek.{sought};
+ghost use Rattle.places.specs.Seek.{sought, Seeks};
 ghost use Rattle.places.specs.Packed.{moved, place-of};
 use circuits::Order;
 
@@ -138,7 +138,7 @@ fn at_once(n: usize) -> Sought
 
 // A turn is a u32, so that a curve's place fits its type whatever the table's length.
 pub fn seek(o: Order, table: &[u32], turn: u32) -> Sought
-    ensures { λ s. ⌜ s ≡ sought 32 (program 32 (rows (now (table .entry))) o) turn 0 0 0 ⌝ }
+    ensures { λ s. ⌜ Seeks 32 (program 32 (rows (now (table .entry))) o) turn s ⌝ }
 {
     let kind = o.kind;
     let c = o.fourth;

@@ -7,6 +7,7 @@ use Rattle.gates.specs.Parties.{Pair}
 use Rattle.jobs.specs.Job.{Fault, job-fault, job-gates, job-cost}
 use Rattle.jobs.specs.FirstFault.{Numbered, faultless}
 use Rattle.jobs.proofs.FirstFault.{job-number, number-0}
+use Rattle.jobs.proofs.CostTable.{cost-table}
 use Rattle.parties.specs.Scripts.{Script, job-script}
 use Rattle.parties.proofs.Scripts.{job-made}
 use Rattle.parties.specs.Lent.{Lent, lent, party-of, lent-fault, dealer-fault}
@@ -28,7 +29,7 @@ module _ (job table : List ℕ) where
       record {
         none = λ e. let p = number-0 32 job table .0 e in faultless (p .0) (p .1);
         some = λ k e. subst (λ (n : ℕ). Numbered 32 job table n (job-fault 32 job table .1)) e (job-number 32 job table _ _ .0 refl);
-        needs = refl;
+        needs = cost-table .job-counts job table;
         places = ap (places-from 0 0) (job-made 32 job table) ∙ gates-placed 32 0 (job-gates 32 job table);
         orders = job-orders 32 job table;
       }

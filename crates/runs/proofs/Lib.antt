@@ -30,3 +30,4 @@ pub mod ReturnedCurves
 pub mod Readings
 pub mod ByKind
 pub mod Same
+pub mod ByHand

@@ -6,20 +6,22 @@ use mathlib.Core.List.{List}
 use Prim.Native.Nat.{ℕ}
 use lib.ListN.{length}
 use Rattle.gates.specs.Parties.{Pair}
-use Rattle.jobs.specs.Job.{orders, job-gates, job-cost}
+use Rattle.tables.specs.Table.{rows}
+use Rattle.jobs.specs.Job.{orders, job-gates}
+use Rattle.jobs.specs.CostTable.{table-counts}
 use Rattle.jobs.specs.FirstFault.{Numbered}
 use Rattle.parties.specs.Scripts.{Script, job-script}
 use Rattle.parties.specs.Lent.{Lent, lent}
 use Rattle.parties.specs.Calls.{State, Answer, Prepared, given, start, hear, prepare}
 use Rattle.runs.specs.Conditions.{gate-places, Terms, Single, PreparationIs, StartIs, HearingIs}
 
--- a job with its table: conditions 2 to 5 as jobs/specs/FirstFault.antt has them, its counts, the products and
--- refreshes of its orders' gates
+-- a job with its table: conditions 2 to 5 as jobs/specs/FirstFault.antt has them; the sum over its orders of document
+-- 01's table of costs; the products and refreshes of its orders' gates
 abbrev pub job-terms : (job table : List ℕ) → Terms
 job-terms job table =
     record {
       own = Numbered 32 job table;
-      needs = job-cost 32 job table;
+      needs = table-counts (length (rows table)) (orders job);
       places = gate-places 0 (job-gates 32 job table);
       orders = length (orders job);
     }

@@ -13,3 +13,4 @@ pub mod Whole
 pub mod ReturnedCurves
 pub mod Readings
 pub mod ByKind
+pub mod ByHand

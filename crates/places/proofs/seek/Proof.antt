@@ -1,5 +1,6 @@
 use borrow.Author.Needs.{needs}
 use Rattle.places.proofs.ByKind.{no-exchange}
+use Rattle.places.proofs.Placing.{told}
 use Rattle.circuits.specs.Orders.{program, kinds}
 use Rattle.places.proofs.seek.Statement.{statement}
 use Rattle.places.proofs.seek.Tie as tie
@@ -24,30 +25,30 @@ curve-place-requires c κs = search needs
 
 returns : tie.Need-returns
 unfolding program kinds
-returns c = simp (c .before .match .keys1) (c .at-once .ensures .0 _ _ _)
+returns c = told _ _ _ _ (simp (c .before .match .keys1) (c .at-once .ensures .0 _ _ _))
 
 returns-2 : tie.Need-returns-2
 unfolding program kinds
-returns-2 c = simp (c .before .match .keys2) (c .at-once2 .ensures .1 _ _)
+returns-2 c = told _ _ _ _ (simp (c .before .match .keys2) (c .at-once2 .ensures .1 _ _))
 
 returns-3 : tie.Need-returns-3
 unfolding program kinds
-returns-3 c = simp (c .before .match .keys3) (c .one-bit-place .ensures _ _ _)
+returns-3 c = told _ _ _ _ (simp (c .before .match .keys3) (c .one-bit-place .ensures _ _ _))
 
 returns-4 : tie.Need-returns-4
 unfolding program kinds
-returns-4 c = simp (c .before .match .keys4) (c .exact-place .ensures _ _ _)
+returns-4 c = told _ _ _ _ (simp (c .before .match .keys4) (c .exact-place .ensures _ _ _))
 
 returns-5 : tie.Need-returns-5
 unfolding program kinds
-returns-5 c = simp (c .before .match .keys5) (c .relu-place .ensures _ _)
+returns-5 c = told _ _ _ _ (simp (c .before .match .keys5) (c .relu-place .ensures _ _))
 
 returns-6 : tie.Need-returns-6
 unfolding program kinds
-returns-6 c = simp (c .before .match .keys6) (c .curve-place .ensures _ _)
+returns-6 c = told _ _ _ _ (simp (c .before .match .keys6) (c .curve-place .ensures _ _))
 
 returns-7 : tie.Need-returns-7
-returns-7 c = let s = c .before .before in no-exchange _ (s .args .o) (s .args .turn) (c .match .rest)
+returns-7 c = let s = c .before .before in told _ _ _ _ (no-exchange _ (s .args .o) (s .args .turn) (c .match .rest))
 
 pub seek-spec : {M : Type 1} → statement M
 seek-spec =

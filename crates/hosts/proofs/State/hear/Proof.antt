@@ -27,7 +27,7 @@ there c =
     let a = k .before .before .before .before .before .before .before .before .args in
     let u = k .before .before .check-lent in
     found-there (a .host) (now (a .job)) (now (a .table)) (now (a .masks)) (now (a .deals)) _ _ (k .before .before .check-lent .ensures .0) (k .if1 .left) (a .self .order) (a .self .turn)
-    (q .before .before .if2 .left) _ (q .before .order-at .ensures) _ (q .seek .ensures) _ _ _ (c .before .before .gate .given .1) (counted (u .result .counts)) (u .ensures .1)
+    (q .before .before .if2 .left) _ (q .before .order-at .ensures) _ (q .seek .ensures .is) _ _ _ (c .before .before .gate .given .1) (counted (u .result .counts)) (u .ensures .1)
 
 cast-order : tie.Need-cast-order
 cast-order c = search needs
@@ -113,7 +113,7 @@ returns-3 c =
     let a = k .before .before .before .before .before .before .before .before .args in
     c .refused3 .ensures
     ∙ at-nowhere (a .host) (job-script 32 (now (a .job)) (now (a .table))) (now (a .masks)) (now (a .deals)) (state-of (a .self)) (a .heard) _ _ (k .before .before .check-lent .ensures .0) (k .if1 .left)
-    (none-there (a .host) (now (a .job)) (now (a .table)) (now (a .masks)) (now (a .deals)) _ _ (k .before .before .check-lent .ensures .0) (k .if1 .left) (a .self .order) (a .self .turn) (q .before .before .if2 .left) _ (q .before .order-at .ensures) _ (q .seek .ensures) (c .before .enum-told .given .1))
+    (none-there (a .host) (now (a .job)) (now (a .table)) (now (a .masks)) (now (a .deals)) _ _ (k .before .before .check-lent .ensures .0) (k .if1 .left) (a .self .order) (a .self .turn) (q .before .before .if2 .left) _ (q .before .order-at .ensures) _ (q .seek .ensures .is) (c .before .enum-told .given .1))
 
 returns-4 : tie.Need-returns-4
 unfolding steps-of

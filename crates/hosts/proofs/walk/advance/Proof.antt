@@ -77,7 +77,10 @@ add-answered c =
     omega (arith, p .4)
 
 cast-answered-2 : tie.Need-cast-answered-2 Inv-loop μ-loop
-cast-answered-2 c = omega arith
+cast-answered-2 c =
+    let t = c .before .before .before .before .before .before .before .before .before .before .before .before in
+    let p = t .before .before .before .before .before .before .before .before .pre in
+    omega (arith, t .loop .inv .0, p .0 .few-words)
 
 answered-requires : tie.Need-answered-requires Inv-loop μ-loop
 answered-requires c κs = search needs

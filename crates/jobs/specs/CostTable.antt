@@ -1,0 +1,24 @@
+-- Document 01's table of costs, and a job's counts as the sum of its orders' entries. Assumes nothing.
+use mathlib.Core.Path.{_≡_}
+use mathlib.Core.List.{List, [], _∷_}
+use Prim.Native.Nat.{ℕ, suc}
+use lib.ListN.{length}
+use Rattle.tables.specs.Table.{rows}
+use Rattle.gates.specs.Costs.{Cost, cost-of, plus}
+use Rattle.circuits.specs.declared.Order.{Order}
+use Rattle.jobs.specs.Job.{orders, job-cost}
+use Rattle.jobs.specs.Walk.{kind-cost}
+
+-- the sum of the orders' entries, where the table has n rows
+unfoldable pub table-counts : (n : ℕ) → List Order → Cost
+table-counts n [] = cost-of 0 0 0 0
+table-counts n (o ∷ os) = plus (kind-cost (o .kind) (o .fourth) n) (table-counts n os)
+
+pub record CostTable : Type 0 where
+  -- "A job's counts .. equal .. these sums": for every job and table, turned down or not
+  pub job-counts : (job table : List ℕ) → job-cost 32 job table ≡ table-counts (length (rows table)) (orders job)
+  -- "Kind 10 is shown for 8 table rows", exact and one-bit
+  pub eight-exact : kind-cost 10 0 8 ≡ cost-of 128 216 236 108
+  pub eight-one-bit : kind-cost 10 1 8 ≡ cost-of 115 196 213 98
+  -- "a row more or fewer is one kind 9 more or fewer"
+  pub row-more : (mode n : ℕ) → kind-cost 10 mode (suc n) ≡ plus (kind-cost 9 mode n) (kind-cost 10 mode n)
