@@ -1,27 +1,19 @@
 -- What the buffer holds: the joint walk's deals in gate order, then the words that stood behind them. Assumes nothing.
 use mathlib.Core.Path.{_≡_, refl, sym, ap, _∙_}
 use mathlib.Core.List.{List, [], _∷_, _++_}
-use Prim.Native.Nat.{ℕ, zero, suc}
-use native.Mathlib.Omega.{arith}
+use Prim.Native.Nat.{ℕ}
 use lib.ListN.{length, drop}
-use Rattle.gates.specs.Steps.{Step, local, deal, exchange, end, Cursor, origin, past}
-use Rattle.gates.specs.Parties.{Pair, Triple, of0, act, act0, dealt, deals}
+use Rattle.gates.specs.Steps.{Step, Cursor, origin, past}
+use Rattle.gates.specs.Parties.{Pair, Triple, of0, act, dealt, deals}
+use Rattle.gates.proofs.Lanes.{of0-act}
 use Rattle.jobs.specs.Job.{Fault}
 use Rattle.parties.specs.Lent.{dealer-fault}
-use Rattle.parties.specs.Calls.{fresh2, script-deals, prepared, prepare}
+use Rattle.parties.specs.Calls.{script-deals, prepare}
 use Rattle.runs.specs.Runs.{Stage, Spoken, Dealer, idle, ready, Side, World, world, Refuses, Call, preparation, Completes, prepares, starts1, starts2, hears1, hears2, Begins, given-out, Run, begin, buffer-of}
 use Rattle.runs.specs.Strict.{Calls, none, completes, refuses}
 use Rattle.runs.specs.Buffers.{defined-deals, deals-of, filled, Buffers}
-use Rattle.runs.proofs.Kept.{Ok, ok, not-yet, refuses-nothing, kept}
+use Rattle.runs.proofs.Kept.{Ok, ok, not-yet, prepared-none, refuses-nothing, kept}
 use Rattle.runs.proofs.Strict.{wide-on}
-
--- host 0 walks its lanes of the joint walk
-of0-act : (A B : List ℕ) (x : Step) (c : Cursor) (j : Triple) → act0 A B x c (of0 j) ≡ of0 (act A B x c j)
-unfolding act0 act
-of0-act A B (local d m l) c j = refl
-of0-act A B (deal d f) c j = refl
-of0-act A B (exchange d e) c j = refl
-of0-act A B end c j = refl
 
 deals-defined : (A B : List ℕ) (ss : List Step) (c : Cursor) (j : Triple) → deals A B ss c (of0 j) ≡ defined-deals A B ss c j
 unfolding deals defined-deals
@@ -36,14 +28,6 @@ module _ (S : Stage) where
   unfolding script-deals
   own-deals = deals-defined (S .A) (S .B) (S .script .steps) origin _
 
-  prepared-none : (k : ℕ) (f : Fault) (buf : List ℕ) (r : Pair) → f .0 ≡ k → prepared k f (S .script) (S .A) (S .B) buf r .number ≡ 0
-      → (prepared k f (S .script) (S .A) (S .B) buf r .deals ≡ length (script-deals (S .script) (S .A) (S .B) r))
-      × (prepared k f (S .script) (S .A) (S .B) buf r .buffer
-      ≡ script-deals (S .script) (S .A) (S .B) r ++ drop (length (script-deals (S .script) (S .A) (S .B) r)) buf)
-  unfolding prepared
-  prepared-none zero f buf r e h = (refl, refl)
-  prepared-none (suc k) f buf r e h = absurd (omega arith)
-
   -- a preparation of a run is from these masks
   masks-given : {r : Pair} {buf : List ℕ} {one two : Side} → Ok S (world (idle r) buf one two) → r ≡ (S .r1, S .r2)
   masks-given (ok (not-yet h) one two a) = h
@@ -53,9 +37,9 @@ module _ (S : Stage) where
   unfolding prepare
   from-given r buf h e =
       let f : Fault = dealer-fault (S .script) (S .A) (S .B) buf in
-      let p = prepared-none (f .0) f buf r refl e in
+      let p = prepared-none S (f .0) f buf r refl e in
       let d : script-deals (S .script) (S .A) (S .B) r ≡ deals-of S = ap {B = List ℕ} (λ (x : Pair). script-deals (S .script) (S .A) (S .B) x) h ∙ own-deals in
-      (p .0 ∙ ap length d, p .1 ∙ ap (λ (l : List ℕ). l ++ drop (length l) buf) d)
+      (p .2 ∙ ap length d, p .1 ∙ ap (λ (l : List ℕ). l ++ drop (length l) buf) d)
 
   pub prepares-filled : {cs : List Call} {r : Pair} {buf : List ℕ} {one two : Side} → Run S cs (world (idle r) buf one two) → preparation S buf r .number ≡ 0
       → (preparation S buf r .deals ≡ length (deals-of S)) × (preparation S buf r .buffer ≡ filled S buf)

@@ -125,12 +125,13 @@ module _ (S : Stage) where
   pub deals-fit : (buf post : List ℕ) → buf ≡ deals A B all origin (of0 j₀) ++ post → script-cost (S .script) .deals ≤ length buf
   deals-fit buf post e = omega (arith, ap length e, length-append (deals A B all origin (of0 j₀)) post, deals-length A B all origin (of0 j₀))
 
-  prepared-none : (k : ℕ) (f : Fault) (buf : List ℕ) (r : Pair) → f .0 ≡ k → prepared k f (S .script) A B buf r .number ≡ 0
+  pub prepared-none : (k : ℕ) (f : Fault) (buf : List ℕ) (r : Pair) → f .0 ≡ k → prepared k f (S .script) A B buf r .number ≡ 0
       → (prepared k f (S .script) A B buf r .masks ≡ (take n (prepare-walk (S .script) A B r .state .0), take n (prepare-walk (S .script) A B r .state .1)))
       × (prepared k f (S .script) A B buf r .buffer
       ≡ script-deals (S .script) A B r ++ drop (length (script-deals (S .script) A B r)) buf)
+      × (prepared k f (S .script) A B buf r .deals ≡ length (script-deals (S .script) A B r))
   unfolding prepared
-  prepared-none zero f buf r e h = (refl, refl)
+  prepared-none zero f buf r e h = (refl, refl, refl)
   prepared-none (suc k) f buf r e h = absurd (omega arith)
 
   pub prepares-ok : (r : Pair) (buf : List ℕ) → r ≡ (S .r1, S .r2) → preparation S buf r .number ≡ 0
