@@ -30,14 +30,14 @@ sought w (g ∷ gs) n i a k = sought-at (shape (meaning w g)) n i a k (sought w 
 
 -- ---- the answer
 
-pub record Place : Type 0 where
+pub record Position : Type 0 where
   pub number : ℕ
   pub gate : ℕ
   pub a : ℕ
   pub deals : ℕ
 
 -- the paper's number and values for each answer: 8 is "neither the end nor a product or refresh of this job"
-abbrev pub placing : Sought → Place
+abbrev pub placing : Sought → Position
 placing (Found i a k) = record { number = 0; gate = i; a = a; deals = k }
 placing Nowhere = record { number = 8; gate = 0; a = 0; deals = 0 }
 
