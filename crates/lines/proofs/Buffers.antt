@@ -5,8 +5,8 @@ use Prim.Native.Nat.{ℕ, suc, _+_, _-_, _≤_, _<_}
 use native.Mathlib.Numerals.{add-one}
 use native.Mathlib.Omega.{arith}
 use borrow.Author.Tests.{lt-ltb}
-use lib.ListN.{length, getD, take, set, replicate, length-append}
-use lib.Seq.{take-suc, append-snoc, set-append-seam}
+use lib.ListN.{length, getD, take, set, replicate, length-append, length-replicate}
+use lib.Seq.{take-append-seam, take-suc, append-snoc, set-append-seam}
 use Rattle.lines.specs.Buffers.{Buffer, buffer, filled, with-byte, with-bytes}
 
 module _ (size : ℕ) where
@@ -19,6 +19,19 @@ module _ (size : ℕ) where
   pub behind : {a c : Buffer} (t : Buffer) (x y : List ℕ) → a ≡ with-bytes size t x → c ≡ with-bytes size a y
       → c ≡ with-bytes size t (x ++ y)
   behind t x y p q = q ∙ ap (λ (a : Buffer). with-bytes size a y) p ∙ after t x y
+
+  -- the bytes that count are the line
+  pub counted : (t : Buffer) (line : List ℕ) → t ≡ filled size line → take (t .len) (t .bytes) ≡ line
+  unfolding filled
+  counted t line e = rw e (take-append-seam line (replicate (size - length line) 0))
+
+  -- an array of that size has room for the line that it holds
+  pub has-room : (t : Buffer) (line : List ℕ) → length (t .bytes) ≡ size → t ≡ filled size line → length line ≤ size
+  unfolding filled
+  has-room t line l e =
+      let z : List ℕ = replicate (size - length line) 0 in
+      let k : length (line ++ z) ≡ size = sym (ap (λ (t : Buffer). length (t .bytes)) e) ∙ l in
+      omega (arith, length-append line z, length-replicate {A = ℕ} (size - length line) 0)
 
   -- the next byte of a list
   pub next-behind : {a c : Buffer} (t : Buffer) (s : List ℕ) (i : ℕ) → i < length s → a ≡ with-bytes size t (take i s)

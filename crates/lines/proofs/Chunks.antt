@@ -2,7 +2,7 @@
 use mathlib.Core.Path.{_≡_, refl, sym, ap, _∙_}
 use mathlib.Core.Logic.{_⊎_, inl, inr, ⊎-elim}
 use mathlib.Core.Bool.{Bool, true, false, cond}
-use mathlib.Core.List.{List, [], _∷_, _++_}
+use mathlib.Core.List.{List, [], _∷_, _++_, map-append}
 use Prim.Native.Nat.{ℕ, zero, suc, _+_, _-_, _≤_, _<_}
 use native.Mathlib.Decide.{decLt}
 use native.Mathlib.Numerals.{add-one}
@@ -13,11 +13,11 @@ use lib.ListN.{length, getD, take, drop, drop-of-length-le, length-append}
 use lib.Seq.{take-all, take-append-le, length-take-le, drop-cons, drop-drop}
 use Rattle.lines.specs.Lines.{parsed}
 use Rattle.lines.specs.Buffers.{Buffer, filled, with-byte}
-use Rattle.lines.specs.Input.{Cut, cut-is, cut-from, cut-then, cuts, Split, split-is, line-then, lines-in, kept, all-kept}
+use Rattle.lines.specs.Input.{Cut, cut-is, cut-from, cut-then, cuts, cut-chunk, Split, split-is, line-then, lines-in, kept, all-kept}
 use Rattle.lines.proofs.Reading.{long}
 use Rattle.lines.proofs.Buffers.{byte-fills}
 
-less-or-not : (n m : ℕ) → (n < m) ⊎ (m ≤ n)
+pub less-or-not : (n m : ℕ) → (n < m) ⊎ (m ≤ n)
 less-or-not n m = elim (decLt n m) [ yes h ↦ inl h | no f ↦ inr (omega arith) ]
 
 -- ---- what is not kept of a line changes nothing
@@ -67,6 +67,12 @@ chunks before (b ∷ xs) ys =
         ≡ joined (cond e (line-then before p) q) (lines-in (cond e (line-then before p) q .open-line) ys)
     go true p q p′ q′ h k = ap (line-then before) h
     go false p q p′ q′ h k = k
+
+-- "a last line may lack its newline": where it has one, it is the line that is left open without it
+pub last-newline : (before xs : List ℕ) → lines-in before (xs ++ (10 ∷ []))
+    ≡ split-is (lines-in before xs .ended ++ (lines-in before xs .open-line ∷ [])) []
+unfolding lines-in
+last-newline before xs = chunks before xs (10 ∷ [])
 
 -- ---- one cut
 
@@ -153,7 +159,7 @@ module _ (chunk : List ℕ) (at : ℕ) (before : List ℕ) where
   then-all c true r t f h = rw (f .is-first, t, f .is-kept, h refl)
   then-all c false r t f h = rw (f .is-first, t, f .is-kept)
 
--- the lines that are cut off a chunk are its lines
+-- the lines that are cut off a chunk, from a place on, are its lines from there on
 pub all-cut : (times : ℕ) (chunk : List ℕ) (at : ℕ) (before : List ℕ) → length chunk - at < times
     → cuts times chunk at (kept before) ≡ all-kept (lines-in before (drop at chunk))
 unfolding cuts
@@ -163,3 +169,14 @@ all-cut (suc n) chunk at before h =
     then-all chunk at before c (c .ended) (cuts n chunk (c .next) (kept [])) refl (first-of chunk (drop at chunk) at before refl)
     (λ (t : c .ended ≡ true). all-cut n chunk (c .next) []
     (omega (arith, inside chunk at (kept before) t, further (drop at chunk) at (kept before) t)))
+
+-- wherever the input is cut into chunks, the lines that are cut off one chunk and then the other are the input's lines
+pub chunks-cut : (before xs ys : List ℕ) (p q : List Buffer × Buffer) → p ≡ cut-chunk xs (kept before) → q ≡ cut-chunk ys (p .1)
+    → (p .0 ++ q .0, q .1) ≡ all-kept (lines-in before (xs ++ ys))
+chunks-cut before xs ys p q e f =
+    let a : Split = lines-in before xs in
+    let b : Split = lines-in (a .open-line) ys in
+    let h : p ≡ all-kept a = e ∙ all-cut (suc (length xs)) xs 0 before (omega arith) in
+    let k : q ≡ all-kept b =
+    f ∙ ap (λ (r : List Buffer × Buffer). cut-chunk ys (r .1)) h ∙ all-cut (suc (length ys)) ys 0 (a .open-line) (omega arith) in
+    rw (h, k, chunks before xs ys, map-append)

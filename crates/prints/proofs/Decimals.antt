@@ -1,19 +1,16 @@
 -- The decimal digits of a number: the last behind those of a tenth, and how many there are. Assumes nothing.
 use mathlib.Core.Path.{_≡_, sym, ap, _∙_}
-use mathlib.Core.Logic.{_⊎_, inl, inr, ⊎-elim}
+use mathlib.Core.Logic.{⊎-elim}
 use mathlib.Core.List.{List, [], _∷_, _++_}
 use Prim.Native.Nat.{ℕ, zero, suc, _+_, _/_, _%_, _^_, _*_, _≤_, _<_}
 use native.Mathlib.Nat.{pow-suc, div-lt-iff-lt-mul}
-use native.Mathlib.Decide.{decLt}
 use native.Mathlib.Omega.{arith}
 use borrow.Author.Tests.{lt-ltb, le-ltb}
 use lib.ListN.{length, length-append}
 use Rattle.lines.specs.Buffers.{Buffer, with-bytes}
 use Rattle.lines.proofs.Buffers.{behind}
+use Rattle.lines.proofs.Chunks.{less-or-not}
 use Rattle.prints.specs.Printed.{decimal, shown}
-
-less-or-not : (n m : ℕ) → (n < m) ⊎ (m ≤ n)
-less-or-not n m = elim (decLt n m) [ yes h ↦ inl h | no f ↦ inr (omega arith) ]
 
 one : (k n : ℕ) → n < 10 → decimal (suc k) n ≡ (48 + n) ∷ []
 unfolding decimal

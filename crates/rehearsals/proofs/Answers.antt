@@ -5,7 +5,7 @@ use mathlib.Core.List.{List}
 use Prim.Native.Nat.{ℕ, zero, suc, _+_, _^_, _<_}
 use native.Mathlib.Omega.{arith}
 use lib.Dec.{T, lit≤, lit<}
-use lib.IntN.{ℤ, pos}
+use lib.IntN.{ℤ}
 use lib.ListN.{take}
 use Rattle.words.specs.Words.{numbers}
 use Rattle.words.specs.Signed.{signed, wrap, in-range}
@@ -29,7 +29,7 @@ use Rattle.lines.specs.declared.Asked.the-variants.{Reading, Malformed}
 use Rattle.lines.proofs.Chunks.{kept-reads}
 use Rattle.prints.specs.Printed.{answered, refused}
 use Rattle.trio.specs.declared.Trio.{Trio as Trio′}
-use Rattle.trio.specs.Together.{Trio, trio-of}
+use Rattle.trio.specs.Together.{Trio}
 use Rattle.rehearsals.specs.Rehearsal as Spec
 use Rattle.rehearsals.specs.Rehearsal.{first-a, first-b, answer-of, answer}
 use Rattle.rehearsals.specs.Trial.{trial, Ran}
