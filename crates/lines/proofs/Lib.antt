@@ -1,3 +1,5 @@
 pub mod Reading
 pub mod Signs
 pub mod Worked
+pub mod Buffers
+pub mod Chunks

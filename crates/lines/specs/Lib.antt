@@ -1,2 +1,4 @@
 pub mod Lines
+pub mod Buffers
+pub mod Input
 pub mod Answers

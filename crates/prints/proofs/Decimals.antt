@@ -1,18 +1,16 @@
 -- The decimal digits of a number: the last behind those of a tenth, and how many there are. Assumes nothing.
 use mathlib.Core.Path.{_≡_, sym, ap, _∙_}
-use mathlib.Core.Logic.{_⊎_, inl, inr, ⊎-elim}
+use mathlib.Core.Logic.{⊎-elim}
 use mathlib.Core.List.{List, [], _∷_, _++_}
 use Prim.Native.Nat.{ℕ, zero, suc, _+_, _/_, _%_, _^_, _*_, _≤_, _<_}
 use native.Mathlib.Nat.{pow-suc, div-lt-iff-lt-mul}
-use native.Mathlib.Decide.{decLt}
 use native.Mathlib.Omega.{arith}
 use borrow.Author.Tests.{lt-ltb, le-ltb}
-use lib.ListN.{length, take, length-append}
+use lib.ListN.{length, length-append}
+use Rattle.lines.specs.Buffers.{Buffer, with-bytes}
+use Rattle.lines.proofs.Buffers.{behind}
+use Rattle.lines.proofs.Chunks.{less-or-not}
 use Rattle.prints.specs.Printed.{decimal, shown}
-use Rattle.prints.proofs.Texts.{behind}
-
-less-or-not : (n m : ℕ) → (n < m) ⊎ (m ≤ n)
-less-or-not n m = elim (decLt n m) [ yes h ↦ inl h | no f ↦ inr (omega arith) ]
 
 one : (k n : ℕ) → n < 10 → decimal (suc k) n ≡ (48 + n) ∷ []
 unfolding decimal
@@ -48,9 +46,10 @@ unfolding shown
 shown-more n h f =
     many 19 n h ∙ ap (λ (s : List ℕ). s ++ ((48 + n % 10) ∷ [])) (enough 18 (n / 10) (tenth 19 n (omega arith)))
 
--- the last digit behind the others, in a text of 80 bytes
-pub last-digit : {a b : List ℕ} (t : List ℕ) (n : ℕ) → 10 ≤ n → n < 2 ^ 64 → a ≡ take 80 (t ++ shown (n / 10)) → b ≡ take 80 (a ++ ((48 + n % 10) ∷ [])) → b ≡ take 80 (t ++ shown n)
-last-digit t n h f p q = rw (shown-more n h f) (behind t (shown (n / 10)) ((48 + n % 10) ∷ []) p q)
+-- the last digit behind the others, in a text
+pub last-digit : {a b : Buffer} (t : Buffer) (n : ℕ) → 10 ≤ n → n < 2 ^ 64 → a ≡ with-bytes 80 t (shown (n / 10))
+    → b ≡ with-bytes 80 a ((48 + n % 10) ∷ []) → b ≡ with-bytes 80 t (shown n)
+last-digit t n h f p q = rw (shown-more n h f) (behind 80 t (shown (n / 10)) ((48 + n % 10) ∷ []) p q)
 
 few : (k m n : ℕ) → n < 10 ^ suc m → length (decimal k n) ≤ suc m
 unfolding decimal

@@ -1,4 +1,3 @@
-pub mod Texts
 pub mod Decimals
 pub mod Signs
 pub mod Rows

@@ -1,9 +1,7 @@
--- The code's type as the document's: the bytes of a text. Assumes nothing.
-use mathlib.Core.List.{List}
-use Prim.Native.Nat.{ℕ}
-use lib.ListN.{take}
+-- The code's type as the document's: all that a text holds. Assumes nothing.
+use Rattle.lines.specs.Buffers.{Buffer, buffer}
 use Rattle.prints.specs.declared.Text.{Text}
 
--- a text's bytes: the first `len` of those that it holds
-abbrev pub text-of : Text → List ℕ
-text-of t = take (t .len) (t .bytes)
+-- every byte of a text, and how many of them are printed
+abbrev pub held : Text → Buffer
+held t = buffer (t .bytes) (t .len)

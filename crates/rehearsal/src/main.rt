@@ -1,36 +1,17 @@
-// The rehearsal (document 01, "House table by hand"): answers each line of standard input on standard output. What a line is answered
-// is proved of `rehearsals::rehearsed`; here bytes are read and written.
+// The rehearsal (document 01, "House table by hand"): answers each line of standard input on standard output. How the
+// input is cut into lines is proved of `lines::cut`, what a line is answered of `rehearsals::rehearsed`; here bytes are
+// read and written.
+use lines::Line;
+use lines::blank;
+use lines::cut;
 use lines::front;
 use prints::Text;
 use rehearsals::rehearsed;
-
-// A line as far as it is read. Its 65th byte is the last to be kept: a line over 64 bytes is answered alike whatever else it holds.
-struct Line {
-    bytes: [u8; 65],
-    len: usize,
-}
 
 // Whether there was anything more to read, and the line that it left open.
 struct Input {
     more: bool,
     line: Line,
-}
-
-fn empty() -> Line {
-    Line {
-        bytes: [0; 65],
-        len: 0,
-    }
-}
-
-fn with_byte(line: Line, byte: u8) -> Line {
-    let at = line.len;
-    let mut next = line;
-    if at < 65 {
-        next.bytes[at] = byte;
-        next.len = at + 1;
-    }
-    next
 }
 
 fn print(text: Text) {
@@ -44,20 +25,13 @@ fn answer(line: Line) {
 }
 
 // Answers every line that ends in the chunk.
-fn take_in(chunk: &[u8], open: Line) -> Line {
-    let mut line = open;
-    let mut i = 0;
-    while i < chunk.len() {
-        let byte = chunk[i];
-        if byte == 10 {
-            answer(line);
-            line = empty();
-        } else {
-            line = with_byte(line, byte);
-        }
-        i += 1;
+fn take_in(chunk: &[u8], begun: Line) -> Line {
+    let mut piece = cut(chunk, 0, begun);
+    while piece.ended {
+        answer(piece.line);
+        piece = cut(chunk, piece.next, blank());
     }
-    line
+    piece.line
 }
 
 fn read_some(line: Line) -> Input {
@@ -79,7 +53,7 @@ fn read_all() -> Line {
     let mut turns = u64::MAX;
     let mut input = Input {
         more: true,
-        line: empty(),
+        line: blank(),
     };
     while turns > 0 && input.more {
         input = read_some(input.line);

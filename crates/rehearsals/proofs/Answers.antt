@@ -5,7 +5,8 @@ use mathlib.Core.List.{List}
 use Prim.Native.Nat.{ℕ, zero, suc, _+_, _^_, _<_}
 use native.Mathlib.Omega.{arith}
 use lib.Dec.{T, lit≤, lit<}
-use lib.IntN.{ℤ, pos}
+use lib.IntN.{ℤ}
+use lib.ListN.{take}
 use Rattle.words.specs.Words.{numbers}
 use Rattle.words.specs.Signed.{signed, wrap, in-range}
 use Rattle.words.proofs.Words.{Word, add-lt}
@@ -20,13 +21,15 @@ use Rattle.shares.specs.declared.Sharing.the-variants.{Shared, OutOfRange}
 use Rattle.shares.specs.declared.Opening.{Opening}
 use Rattle.shares.specs.declared.Opening.the-variants.{Opened, Disagree}
 use Rattle.runs.specs.Runs.{opened-slot}
-use Rattle.lines.specs.Lines.{malformed, asking, parsed}
+use Rattle.lines.specs.Lines.{Parsed, asking, parsed}
+use Rattle.lines.specs.Buffers.{Buffer, filled}
 use Rattle.lines.specs.Answers.{asked}
 use Rattle.lines.specs.declared.Asked.{Asked}
 use Rattle.lines.specs.declared.Asked.the-variants.{Reading, Malformed}
+use Rattle.lines.proofs.Chunks.{kept-reads}
 use Rattle.prints.specs.Printed.{answered, refused}
 use Rattle.trio.specs.declared.Trio.{Trio as Trio′}
-use Rattle.trio.specs.Together.{Trio, trio-of}
+use Rattle.trio.specs.Together.{Trio}
 use Rattle.rehearsals.specs.Rehearsal as Spec
 use Rattle.rehearsals.specs.Rehearsal.{first-a, first-b, answer-of, answer}
 use Rattle.rehearsals.specs.Trial.{trial, Ran}
@@ -52,14 +55,23 @@ holds b e = rw e tt
 
 -- ---- what the line asks for
 
-module _ (line : List ℕ) (v : Asked) (e : asked v ≡ parsed line) where
-  pub reading-asked : (m : ℕ) (z : ℤ) → v ≡ Reading m z → (t : List ℕ) → t ≡ answer-of (asking m z) → t ≡ answer line
-  unfolding answer
-  reading-asked m z h t g = g ∙ ap answer-of (sym (ap asked h) ∙ e)
+-- "over 64 bytes": the first 65 bytes of a line are answered as the whole of it
+pub kept-answered : (line : List ℕ) → answer (take 65 line) ≡ answer line
+unfolding answer
+kept-answered line = ap answer-of (kept-reads line)
 
-  pub nothing-asked : v ≡ Malformed → (t : List ℕ) → t ≡ refused 0 → t ≡ answer line
+-- a text with the answer
+abbrev holding : Parsed → Buffer
+holding p = filled 80 (answer-of p)
+
+module _ (line : List ℕ) (v : Asked) (e : asked v ≡ parsed line) where
+  pub reading-asked : (m : ℕ) (z : ℤ) → v ≡ Reading m z → (t : Buffer) → t ≡ holding (asking m z) → t ≡ filled 80 (answer line)
+  unfolding answer
+  reading-asked m z h t g = g ∙ ap holding (sym (ap asked h) ∙ e)
+
+  pub nothing-asked : v ≡ Malformed → (t : Buffer) → t ≡ filled 80 (refused 0) → t ≡ filled 80 (answer line)
   unfolding answer answer-of
-  nothing-asked h t g = g ∙ ap answer-of (sym (ap asked h) ∙ e)
+  nothing-asked h t g = g ∙ ap holding (sym (ap asked h) ∙ e)
 
 -- ---- the three hosts' answer
 
@@ -68,7 +80,7 @@ module _ (mode : ℕ) (z : ℤ) (v : Sharing) (e : sharing v ≡ split 32 z firs
   share-of = masked (numbers 32) (wrap 32 z) first-a first-b
 
   -- "a number out of range prints "refused 11""
-  pub out-of-range : v ≡ OutOfRange → (t : List ℕ) → t ≡ refused 11 → t ≡ answer-of (asking mode z)
+  pub out-of-range : v ≡ OutOfRange → (t : Buffer) → t ≡ filled 80 (refused 11) → t ≡ holding (asking mode z)
   unfolding split answer-of
   out-of-range h t g = g ∙ rw (split-out (in-range 32 z) (hand-out share-of) (sharing v) e (ap (λ (x : Sharing). sharing x .0) h))
 
@@ -118,7 +130,7 @@ module _ (mode : ℕ) (z : ℤ) (v : Sharing) (e : sharing v ≡ split 32 z firs
         pub agreed : o ≡ Disagree → ⊥
         agreed d = let k : _≡_ {A = ℕ} 10 0 = sym (ap (λ (x : Opening). opening x .0) d) ∙ ap (λ (x : ℕ × ℤ). x .0) (g ∙ opens-is) in omega (arith, k)
 
-        pub printed : (x : ℤ) → o ≡ Opened x → (t : List ℕ) → t ≡ answered mode z x (r .deals) (r .one .spoken + r .two .spoken) → t ≡ answer-of (asking mode z)
+        pub printed : (x : ℤ) → o ≡ Opened x → (t : Buffer) → t ≡ filled 80 (answered mode z x (r .deals) (r .one .spoken + r .two .spoken)) → t ≡ holding (asking mode z)
         unfolding answer-of
         printed x d t p =
             let y : x ≡ Spec.value mode z = sym (ap (λ (x : Opening). opening x .1) d) ∙ ap (λ (x : ℕ × ℤ). x .1) (g ∙ opens-is) in

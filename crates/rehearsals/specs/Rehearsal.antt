@@ -8,7 +8,7 @@ use Rattle.words.specs.Signed.{floor, wrap, in-range}
 use Rattle.truncations.specs.Truncation.{slip}
 use Rattle.tables.specs.Table.{rows, house}
 use Rattle.curves.specs.Curve.{scaled}
-use Rattle.lines.specs.Lines.{Parsed, malformed, asking, parsed}
+use Rattle.lines.specs.Lines.{Parsed, refusing, asking, parsed}
 use Rattle.prints.specs.Printed.{answered, refused}
 
 -- "Word j of A, from j = 1, is 2654435769 × j, of B 2246822519 × j"
@@ -22,11 +22,13 @@ first-b = 2246822519
 unfoldable pub Y : ℤ → ℤ
 Y x = scaled (rows house) x
 
--- "L is the sum of the two mask words of the curve's refresh": the lists begin at j = 2, and the eight rows' kind 9 before it take 208 words of A and 96 of B
+-- "L is the sum of the two mask words of the curve's refresh": the lists begin at j = 2, and the eight rows' kind 9
+-- before it take 208 words of A and 96 of B
 unfoldable pub refresh-L : ℕ
 refresh-L = add 32 (first-a * 210 % 2 ^ 32) (first-b * 98 % 2 ^ 32)
 
--- demand 3: "exactly floor(Y / 4096) in exact mode"; in one-bit mode "one more exactly when (Y mod 4096) + (L mod 4096) is at least 4096"
+-- demand 3: "exactly floor(Y / 4096) in exact mode"; in one-bit mode "one more exactly when (Y mod 4096) + (L mod 4096)
+-- is at least 4096"
 unfoldable pub value : (mode : ℕ) → ℤ → ℤ
 value zero x = floor (Y x) 4096
 value (suc m) x = floor (Y x) 4096 +ℤ pos (slip 12 (wrap 12 (Y x)) refresh-L)
@@ -42,7 +44,7 @@ words (suc m) = 196
 
 -- "Other lines, or over 64 bytes, print "refused 0"; a number out of range prints "refused 11"."
 unfoldable pub answer-of : Parsed → List ℕ
-answer-of malformed = refused 0
+answer-of (refusing n) = refused n
 answer-of (asking mode x) = cond (in-range 32 x) (answered mode x (value mode x) (deals mode) (words mode)) (refused 11)
 
 -- "It prints mode, reading, value, deals, words spoken"

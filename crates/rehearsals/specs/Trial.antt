@@ -20,9 +20,11 @@ mode-word (suc m) = 1
 abbrev pub in-first : ℕ → Lane
 in-first x = x ∷ replicate 15 0
 
--- the order takes register 0 to register 0; "the first of each splits and the job's lists begin at j = 2", as long as an exact curve needs
+-- the order takes register 0 to register 0; "the first of each splits and the job's lists begin at j = 2", as long as
+-- an exact curve needs
 unfoldable pub loan : (mode : ℕ) → Lending
-loan mode = lending (job-script 32 (10 ∷ 0 ∷ 0 ∷ mode-word mode ∷ []) house) (multiples first-a 2 236) (multiples first-b 2 108)
+loan mode =
+    lending (job-script 32 (10 ∷ 0 ∷ 0 ∷ mode-word mode ∷ []) house) (multiples first-a 2 236) (multiples first-b 2 108)
 
 unfoldable pub trial : (mode m l1 l2 : ℕ) → Trio
 trial mode m l1 l2 = together (loan mode) (in-first m, in-first l1, in-first l2) (replicate 128 0)

@@ -1,8 +1,9 @@
-// The rehearsal (document 01, "House table by hand"): one line of text to its answer, by a curve order that the three hosts run on the
-// house table.
+// The rehearsal (document 01, "House table by hand"): one line of text to its answer, by a curve order that the three
+// hosts run on the house table.
 ghost use mathlib.Core.Path.{_≡_};
 ghost use Rattle.lines.specs.Lines.{asking};
-ghost use Rattle.prints.specs.Answers.{text-of};
+ghost use Rattle.lines.specs.Buffers.{filled};
+ghost use Rattle.prints.specs.Answers.{held};
 ghost use Rattle.rehearsals.specs.Rehearsal.{answer, answer-of};
 ghost use Rattle.rehearsals.specs.Trial.{mode-word, in-first, trial, Ran};
 use lines::Asked;
@@ -20,7 +21,8 @@ use trio::Shared;
 use trio::Trio;
 use trio::run;
 
-// The first word of each mask list, which splits the reading; word j is j times it, and the job's lists begin at the second.
+// The first word of each mask list, which splits the reading; word j is j times it, and the job's lists begin at the
+// second.
 const A: u32 = 2654435769;
 
 const B: u32 = 2246822519;
@@ -63,7 +65,7 @@ fn curve(mode: u32, m: u32, l1: u32, l2: u32) -> Trio
 }
 
 fn rehearse(mode: u32, reading: i64) -> Text
-    ensures { λ t. ⌜ text-of t ≡ answer-of (asking mode reading) ⌝ }
+    ensures { λ t. ⌜ held t ≡ filled 80 (answer-of (asking mode reading)) ⌝ }
 {
     let Sharing::Shared(s) = share(reading, A, B) else {
         return refusal_text(11);
@@ -83,7 +85,7 @@ fn rehearse(mode: u32, reading: i64) -> Text
 
 // The line, without its newline.
 pub fn rehearsed(line: &[u8]) -> Text
-    ensures { λ t. ⌜ text-of t ≡ answer (now (line .entry)) ⌝ }
+    ensures { λ t. ⌜ held t ≡ filled 80 (answer (now (line .entry))) ⌝ }
 {
     match parse(line) {
         Asked::Reading { mode, reading } => rehearse(mode, reading),

@@ -14,22 +14,22 @@ use crate::printing::put_line;
 use crate::running::run;
 use dealer::Masks;
 
-// What the lines so far have set, the next line as far as it has come, of which 4,097 bytes are kept, and whether every write so
-// far was taken.
-pub struct Desk {
-    pub open: bool,
-    pub length: usize,
-    pub line: [u8; 4097],
-    pub offset: u32,
-    pub table_words: usize,
-    pub table: [u32; 2048],
-    pub m: [u32; 16],
-    pub l1: [u32; 16],
-    pub l2: [u32; 16],
+// What the lines so far have set, the next line as far as it has come, of which 4,097 bytes are kept, and whether every
+// write so far was taken.
+pub(crate) struct Desk {
+    pub(crate) open: bool,
+    pub(crate) length: usize,
+    pub(crate) line: [u8; 4097],
+    pub(crate) offset: u32,
+    pub(crate) table_words: usize,
+    pub(crate) table: [u32; 2048],
+    pub(crate) m: [u32; 16],
+    pub(crate) l1: [u32; 16],
+    pub(crate) l2: [u32; 16],
 }
 
 // At first the house table, offset 0 and zero shares.
-pub fn fresh_desk() -> Desk {
+pub(crate) fn fresh_desk() -> Desk {
     let house = tables::house();
     let mut table = [0u32; 2048];
     let table_words = set_table(&mut table, &house);
@@ -121,7 +121,7 @@ fn obey(code: u64, list: &[u32; 2048], count: usize, mut desk: Desk) -> Desk {
 }
 
 // The line, without its newline; one of more than 4,096 bytes is no command.
-pub fn take_line(desk: Desk) -> Desk {
+pub(crate) fn take_line(desk: Desk) -> Desk {
     let mut words = [0u32; 2048];
     let line = desk.line;
     let text = lines::front(&line, desk.length);

@@ -2,7 +2,7 @@
 ghost use mathlib.Core.Path.{_≡_};
 ghost use lib.ListN.{take};
 
-pub fn front(list: &[u32], n: usize) -> &[u32]
+pub(crate) fn front(list: &[u32], n: usize) -> &[u32]
     ensures { λ r. ⌜ now r ≡ take n (now (list .entry)) ⌝ }
 {
     if n <= list.len() {

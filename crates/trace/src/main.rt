@@ -36,8 +36,8 @@ fn take_bytes(bytes: &[u8], mut desk: Desk) -> Desk {
     desk
 }
 
-// Reads until the input ends, a read fails or a write fails; the last line may lack its newline. A proved loop has to end, and
-// nothing says that the input does: so it counts its turns down, from a number that no run uses up.
+// Reads until the input ends, a read fails or a write fails; the last line may lack its newline. A proved loop has to
+// end, and nothing says that the input does: so it counts its turns down, from a number that no run uses up.
 fn main() {
     let mut bytes = io::buffer();
     let mut desk = fresh_desk();

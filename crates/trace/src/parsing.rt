@@ -7,18 +7,18 @@ ghost use lib.ListN.{drop};
 ghost use Rattle.trace.specs.Decimal.{digit, digits, Written, word-at};
 
 // Keywords as numbers: their bytes, to the base 256.
-pub const TABLE: u64 = 0x7461626c65;
+pub(crate) const TABLE: u64 = 0x7461626c65;
 
-pub const OFFSET: u64 = 0x6f6666736574;
+pub(crate) const OFFSET: u64 = 0x6f6666736574;
 
-pub const REGISTER: u64 = 0x7265676973746572;
+pub(crate) const REGISTER: u64 = 0x7265676973746572;
 
-pub const RUN: u64 = 0x72756e;
+pub(crate) const RUN: u64 = 0x72756e;
 
 // What a line starts with, as a number, and the place behind it.
-pub struct Keyword {
-    pub code: u64,
-    pub end: usize,
+pub(crate) struct Keyword {
+    pub(crate) code: u64,
+    pub(crate) end: usize,
 }
 
 // A decimal word and the place behind it, where there is one.
@@ -29,7 +29,7 @@ struct Parsed {
 }
 
 // In place of a count, where something else than words stands in a line, or more of them than there is room for.
-pub const NO_WORDS: usize = 2049;
+pub(crate) const NO_WORDS: usize = 2049;
 
 fn wide(x: u8) -> u64
     ensures { λ r. ⌜ r ≡ x ⌝ }
@@ -111,7 +111,7 @@ fn number(text: &[u8], start: usize) -> Parsed
 }
 
 // The words from a place to the line's end, and how many they are.
-pub fn words_from(text: &[u8], mut at: usize, words: &mut [u32; 2048]) -> usize {
+pub(crate) fn words_from(text: &[u8], mut at: usize, words: &mut [u32; 2048]) -> usize {
     let mut count = 0;
     while count < 2048 {
         if text.len() <= at {
@@ -140,7 +140,7 @@ fn with_byte(code: u64, byte: u8) -> u64 {
 }
 
 // A keyword ends before the first byte that is no more than a space: a zero in front would leave its code as it is.
-pub fn keyword_of(text: &[u8]) -> Keyword {
+pub(crate) fn keyword_of(text: &[u8]) -> Keyword {
     let mut code = 0;
     let mut at = 0;
     while at < text.len() {

@@ -1,4 +1,5 @@
-// Standard output, a word at a time. Each function says whether every write was taken, and writes no more after one that was not.
+// Standard output, a word at a time. Each function says whether every write was taken, and writes no more after one
+// that was not.
 use libc::STDOUT_FILENO;
 
 // A word in decimal, with a space before it.
@@ -7,7 +8,7 @@ fn put_word(word: u32) -> bool {
 }
 
 // A line: a name, and words with a space before each.
-pub fn put_line(name: &[u8], words: &[u32]) -> bool {
+pub(crate) fn put_line(name: &[u8], words: &[u32]) -> bool {
     if !io::write_all(STDOUT_FILENO, name) {
         return false;
     }

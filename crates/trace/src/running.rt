@@ -127,7 +127,7 @@ fn run_with(job: &[u32], table: &[u32], a: &[u32], b: &[u32], m: [u32; 16], mask
 }
 
 // A run on the mask lists that an offset gives, from registers with these shares.
-pub fn run(job: &[u32], table: &[u32], offset: u32, m: [u32; 16], masks: Masks) -> bool {
+pub(crate) fn run(job: &[u32], table: &[u32], offset: u32, m: [u32; 16], masks: Masks) -> bool {
     let mut a = [0u32; LIST_A];
     let mut b = [0u32; LIST_B];
     fill(&mut a, 2654435769, offset);

@@ -8,7 +8,7 @@ use Rattle.lines.proofs.front.Statement.{statement}
 use Rattle.lines.proofs.front.Tie as tie
 
 slice-aggregate-result : tie.Need-slice-aggregate-result
-slice-aggregate-result c = sym (length-take-le _ (c .before .before .args .bytes .now) (c .before .if1 .taken))
+slice-aggregate-result c = sym (length-take-le _ (c .before .before .args .bytes .now) (omega arith))
 
 returns : tie.Need-returns
 returns c = search needs

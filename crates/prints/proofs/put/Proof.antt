@@ -1,16 +1,12 @@
 use borrow.Author.Needs.{needs}
-use mathlib.Core.Path.{_≡_}
-use mathlib.Core.List.{[], _∷_}
-use lib.ListN.{length}
-use Rattle.prints.proofs.Texts.{full, room}
+use borrow.Author.Tests.{lt-ltb, le-ltb}
+use Rattle.lines.specs.Buffers.{with-byte, with-bytes}
 use Rattle.prints.proofs.put.Statement.{statement}
 use Rattle.prints.proofs.put.Tie as tie
 
 returns : tie.Need-returns
-returns c =
-    let t = c .before .args .t in
-    let l : length (t .bytes) ≡ 80 = search needs in
-    full (t .bytes) (t .len) l (c .before .args .b ∷ []) (c .if1 .taken)
+unfolding with-bytes with-byte
+returns c = rw (le-ltb (c .before .args .t .len) 80 (c .if1 .taken))
 
 element-write-longer : tie.Need-element-write-longer
 element-write-longer c = search needs
@@ -19,10 +15,8 @@ add-longer : tie.Need-add-longer
 add-longer c = search needs
 
 returns-2 : tie.Need-returns-2
-returns-2 c =
-    let t = c .before .args .t in
-    let l : length (t .bytes) ≡ 80 = search needs in
-    room (t .bytes) (t .len) l (c .before .args .b) (c .if1 .left)
+unfolding with-bytes with-byte
+returns-2 c = rw (lt-ltb (c .before .args .t .len) 80 (c .if1 .left))
 
 pub put-spec : {M : Type 1} → statement M
 put-spec = tie.close (tie.spec returns element-write-longer add-longer returns-2)

@@ -1,29 +1,27 @@
 -- The loop's invariant: the text has the bytes that were passed behind it. The measure is what is left of them.
 use borrow.Author.Needs.{needs, zero≤}
 use borrow.Author.Count.{falls}
-use mathlib.Core.Path.{_≡_, ap, _∙_}
-use mathlib.Core.List.{List, _++_}
+use mathlib.Core.Path.{_≡_, refl, ap, _∙_}
 use native.Mathlib.Numerals.{add-one-le}
 use native.Mathlib.Omega.{arith}
-use Prim.Native.Nat.{ℕ, _-_, _≤_}
+use Prim.Native.Nat.{_-_, _≤_}
 use lib.ListN.{length, take}
 use lib.Seq.{take-all}
-use Rattle.prints.specs.Answers.{text-of}
-use Rattle.prints.proofs.Texts.{same, more}
+use Rattle.lines.specs.Buffers.{with-bytes}
+use Rattle.lines.proofs.Buffers.{next-behind}
+use Rattle.prints.specs.Answers.{held}
 use Rattle.prints.proofs.put_bytes.Statement.{statement}
 use Rattle.prints.proofs.put_bytes.Tie as tie
 
 abbrev Inv-loop : tie.InvT-loop
-Inv-loop s longer₀ i₀ longer i = (i ≤ length s) × (text-of longer ≡ take 80 (text-of longer₀ ++ take i s))
+Inv-loop s longer₀ i₀ longer i = (i ≤ length s) × (held longer ≡ with-bytes 80 (held longer₀) (take i s))
 
 abbrev μ-loop : tie.MeasureT-loop
 μ-loop s longer₀ i₀ longer i = length s - i
 
 loop-holds : tie.Need-loop-holds Inv-loop μ-loop
-loop-holds c =
-    let t = c .before .args .t in
-    let l : length (t .bytes) ≡ 80 = search needs in
-    (zero≤, same (t .bytes) (t .len) l)
+unfolding with-bytes
+loop-holds c = (zero≤, refl)
 
 shared-slice-read-put : tie.Need-shared-slice-read-put Inv-loop μ-loop
 shared-slice-read-put c = c .before .loop-test .taken
@@ -41,13 +39,14 @@ loop-again : tie.Need-loop-again Inv-loop μ-loop
 loop-again c =
     let e = c .before .before .before in
     let a = e .before .before .args in
-    (add-one-le (c .before .before .loop-test .taken), more (text-of (a .t)) (a .s .now) (e .loop .i) (c .before .before .loop-test .taken) (e .loop .inv .1) (c .put .ensures))
+    let t = c .before .before .loop-test .taken in
+    (add-one-le t, next-behind 80 (held (a .t)) (a .s .now) (e .loop .i) t (e .loop .inv .1) (c .put .ensures))
 
 returns : tie.Need-returns Inv-loop μ-loop
 returns c =
     let e = c .before in
     let a = e .before .before .args in
-    e .loop .inv .1 ∙ ap (λ (x : List ℕ). take 80 (text-of (a .t) ++ x)) (take-all (e .loop .i) (a .s .now) (c .loop-test .left))
+    e .loop .inv .1 ∙ ap (with-bytes 80 (held (a .t))) (take-all (e .loop .i) (a .s .now) (c .loop-test .left))
 
 pub put-bytes-spec : {M : Type 1} → statement M
 put-bytes-spec =

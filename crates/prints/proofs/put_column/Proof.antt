@@ -1,9 +1,9 @@
 use borrow.Author.Needs.{needs}
-use mathlib.Core.List.{List, [], _∷_}
-use Prim.Native.Nat.{ℕ}
-use Rattle.prints.specs.Answers.{text-of}
+use mathlib.Core.List.{[], _∷_}
+use Rattle.lines.specs.Buffers.{Buffer}
+use Rattle.lines.proofs.Buffers.{behind}
+use Rattle.prints.specs.Answers.{held}
 use Rattle.prints.proofs.Signs.{turned-fits, turned-cast, turned-more, held-cast, shows-negative, shows-positive}
-use Rattle.prints.proofs.Texts.{behind}
 use Rattle.prints.proofs.put_column.Statement.{statement}
 use Rattle.prints.proofs.put_column.Tie as tie
 
@@ -42,15 +42,15 @@ put-number-requires-2 c κs = search needs
 returns : tie.Need-returns
 returns c =
     let e = c .before .before .before in
-    let t : List ℕ = text-of (e .before .args .t) in
+    let t : Buffer = held (e .before .args .t) in
     rw (← shows-negative (e .before .args .z) (e .before .fits .z) (c .before .before .if1 .taken))
-    (behind t (32 ∷ 45 ∷ []) _ (behind t (32 ∷ []) (45 ∷ []) (e .put .ensures) (c .before .put2 .ensures)) (c .put-number .ensures))
+    (behind 80 t (32 ∷ 45 ∷ []) _ (behind 80 t (32 ∷ []) (45 ∷ []) (e .put .ensures) (c .before .put2 .ensures)) (c .put-number .ensures))
 
 returns-2 : tie.Need-returns-2
 returns-2 c =
     let e = c .before .before in
     rw (← shows-positive (e .before .args .z) (e .before .fits .z) (c .before .if1 .left))
-    (behind (text-of (e .before .args .t)) (32 ∷ []) _ (e .put .ensures) (c .put-number2 .ensures))
+    (behind 80 (held (e .before .args .t)) (32 ∷ []) _ (e .put .ensures) (c .put-number2 .ensures))
 
 pub put-column-spec : {M : Type 1} → statement M
 put-column-spec =

@@ -1,8 +1,6 @@
 use borrow.Author.Needs.{needs}
 use mathlib.Core.Path.{ap, _∙_}
-use mathlib.Core.List.{List, _++_}
-use Prim.Native.Nat.{ℕ}
-use lib.ListN.{take}
+use Rattle.lines.specs.Buffers.{Buffer, with-bytes}
 use Rattle.prints.specs.Printed.{refused-word}
 use Rattle.prints.proofs.Rows.{refusal}
 use Rattle.prints.proofs.refusal_text.Statement.{statement}
@@ -27,7 +25,7 @@ returns : tie.Need-returns
 returns c =
     let e = c .before .before .before .before .before in
     refusal (e .args .number) (e .fits .number)
-    (c .before .before .put-bytes .ensures ∙ ap (λ (x : List ℕ). take 80 (x ++ refused-word)) (c .before .before .before .before .empty .ensures))
+    (c .before .before .put-bytes .ensures ∙ ap (λ (x : Buffer). with-bytes 80 x refused-word) (c .before .before .before .before .empty .ensures))
     (c .before .put-number .ensures)
     (c .put .ensures)
 

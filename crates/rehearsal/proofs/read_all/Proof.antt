@@ -9,8 +9,8 @@ Inv-loop turns₀ input₀ turns input = Unit
 abbrev μ-loop : tie.MeasureT-loop
 μ-loop turns₀ input₀ turns input = turns
 
-empty-requires : tie.Need-empty-requires Inv-loop μ-loop
-empty-requires c κs = search needs
+blank-requires : tie.Need-blank-requires Inv-loop μ-loop
+blank-requires c κs = search needs
 
 loop-holds : tie.Need-loop-holds Inv-loop μ-loop
 loop-holds c = tt
@@ -36,7 +36,7 @@ read-all-spec =
     (tie.spec
     Inv-loop
     μ-loop
-    empty-requires
+    blank-requires
     loop-holds
     read-some-requires
     sub-turns

@@ -1,36 +1,36 @@
-use Prim.Native.Nat.{_-_}
-use native.Mathlib.Omega.{arith}
+-- The measure is what is left to cut of the chunk.
 use borrow.Author.Needs.{needs}
-use lib.ListN.{length}
+use Rattle.lines.specs.Answers.{held, piece}
+use Rattle.lines.proofs.Chunks.{left, less-left}
 use Rattle.rehearsal.proofs.take_in.Statement.{statement}
 use Rattle.rehearsal.proofs.take_in.Tie as tie
 
 abbrev Inv-loop : tie.InvT-loop
-Inv-loop chunk line₀ i₀ line i = Unit
+Inv-loop chunk piece₀ p = Unit
 
 abbrev μ-loop : tie.MeasureT-loop
-μ-loop chunk line₀ i₀ line i = length chunk - i
+μ-loop chunk piece₀ p = left chunk (piece p)
+
+cut-requires : tie.Need-cut-requires Inv-loop μ-loop
+cut-requires c κs = search needs
 
 loop-holds : tie.Need-loop-holds Inv-loop μ-loop
 loop-holds c = tt
 
-shared-slice-read-byte : tie.Need-shared-slice-read-byte Inv-loop μ-loop
-shared-slice-read-byte c = omega arith
-
 answer-requires : tie.Need-answer-requires Inv-loop μ-loop
 answer-requires c κs = search needs
 
-empty-requires : tie.Need-empty-requires Inv-loop μ-loop
-empty-requires c κs = search needs
+blank-requires : tie.Need-blank-requires Inv-loop μ-loop
+blank-requires c κs = search needs
 
-with-byte-requires : tie.Need-with-byte-requires Inv-loop μ-loop
-with-byte-requires c κs = search needs
-
-add-i : tie.Need-add-i Inv-loop μ-loop
-add-i c = omega arith
+cut-requires-2 : tie.Need-cut-requires-2 Inv-loop μ-loop
+cut-requires-2 c κs = search needs
 
 loop-less : tie.Need-loop-less Inv-loop μ-loop
-loop-less c = omega arith
+loop-less c =
+    less-left _ (piece (c .before .before .before .before .loop .piece)) (piece (c .cut2 .result)) (held (c .before .blank .result))
+    (c .before .before .before .loop-test .taken)
+    (c .cut2 .ensures)
 
 loop-again : tie.Need-loop-again Inv-loop μ-loop
 loop-again c = tt
@@ -44,12 +44,11 @@ take-in-spec =
     (tie.spec
     Inv-loop
     μ-loop
+    cut-requires
     loop-holds
-    shared-slice-read-byte
     answer-requires
-    empty-requires
-    with-byte-requires
-    add-i
+    blank-requires
+    cut-requires-2
     loop-less
     loop-again
     returns)
