@@ -1,5 +1,5 @@
--- Document 01, "The curve": the scaled sum Y and the exact line C on whole numbers, where nothing wraps; and the sum that the hosts form of words.
--- Assumes nothing.
+-- Document 01, "The curve": the scaled sum Y and the exact line C on whole numbers, where nothing wraps; and the sum
+-- that the hosts form of words. Assumes nothing.
 use mathlib.Core.Bool.{cond}
 use mathlib.Core.List.{List, [], _∷_}
 use Prim.Native.Nat.{ℕ, _-_, _*_, _<_}
@@ -64,7 +64,8 @@ last-count [] = 0
 last-count (p ∷ []) = p .r
 last-count (p ∷ q ∷ ps) = last-count (q ∷ ps)
 
--- ---- the same sum, of words and row by row: each row's ReLU times the change of slope there, 0 before the first row and after the last
+-- ---- the same sum, of words and row by row: each row's ReLU times the change of slope there, 0 before the first row
+-- and after the last
 
 -- the slope after a row
 unfoldable pub slope-after : Row → List Row → ℤ
@@ -81,7 +82,8 @@ relu-word w x = wrap w (relu (signed w x))
 
 unfoldable pub word-sum : (w : ℕ) (before : ℤ) → List Row → (x sum : ℕ) → ℕ
 word-sum w s [] x sum = sum
-word-sum w s (p ∷ ps) x sum = word-sum w (slope-after p ps) ps x (add w sum (mul w (relu-word w (sub w x (p .r))) (coefficient w s p ps)))
+word-sum w s (p ∷ ps) x sum = word-sum w (slope-after p ps) ps x
+    (add w sum (mul w (relu-word w (sub w x (p .r))) (coefficient w s p ps)))
 
 -- the sum that the hosts form of x, modulo 2^w
 unfoldable pub word-curve : ℕ → List Row → ℕ → ℕ

@@ -43,7 +43,8 @@ fn registers(lane: [u32; 24]) -> [u32; 16]
 fn behind(g: Gate, used: Used) -> Used
     requires { ⌜ (used .a < 2 ^ 62) × (used .b < 2 ^ 62) × (used .deals < 2 ^ 62) ⌝ }
     ensures { λ r.
-        ⌜ ((A B : List ℕ) (l1 l2 : Lane) (buffer : List ℕ) → Counts (dealing A B (meaning 32 g) (dealer used l1 l2 buffer)) r) ⌝ }
+        ⌜ ((A B : List ℕ) (l1 l2 : Lane) (buffer : List ℕ)
+        → Counts (dealing A B (meaning 32 g) (dealer used l1 l2 buffer)) r) ⌝ }
 {
     let more = used_by(g);
     Used {
@@ -64,7 +65,8 @@ fn deal_order(
     l2: &mut [u32; 24],
     deals: &mut [u32],
 ) -> Used
-    requires { ⌜ Room (now a) (now b) (order-steps 32 (program 32 (rows (now table)) o) []) (dealer used (now l1) (now l2) (now deals)) ⌝ }
+    requires { ⌜ Room (now a) (now b) (order-steps 32 (program 32 (rows (now table)) o) [])
+        (dealer used (now l1) (now l2) (now deals)) ⌝ }
     ensures { λ r.
         ⌜ dealer r (now (l1 .exit)) (now (l2 .exit)) (now (deals .exit))
         ≡ deal-all (now (a .entry)) (now (b .entry)) (order-steps 32 (program 32 (rows (now (table .entry))) o) [])
@@ -121,7 +123,8 @@ pub fn prepare(
 ) -> Prepared
     ensures { λ r.
         ⌜ answer r (now (deals .exit))
-        ≡ Calls.prepare (job-script 32 (now (job .entry)) (now (table .entry))) (now (a .entry)) (now (b .entry)) (now (deals .entry))
+        ≡ Calls.prepare (job-script 32 (now (job .entry)) (now (table .entry))) (now (a .entry)) (now (b .entry))
+        (now (deals .entry))
         (masks .l1, masks .l2) ⌝ }
 {
     let found = check_dealer(job, table, a, b, deals);

@@ -52,7 +52,8 @@ fn resume(
     at: Reach,
     b: usize,
 ) -> Answer
-    requires { ⌜ Sized (now job) (now table) × Standing (now job) (now table) (s .order) (at .gate) × (at .gate < 1000) × (s .turn < 1000)
+    requires { ⌜ Sized (now job) (now table) × Standing (now job) (now table) (s .order) (at .gate) × (at .gate < 1000)
+        × (s .turn < 1000)
         × (at .a < 2 ^ 30) × (at .k < 2 ^ 30) × (b < 2 ^ 30) ⌝ }
     ensures { λ r.
         ⌜ answer-of r
@@ -101,7 +102,9 @@ impl State {
     ) -> Answer
         ensures { λ r.
             ⌜ answer-of r
-            ≡ Calls.hear (lent host (job-script 32 (now (job .entry)) (now (table .entry))) (now (masks .entry)) (now (deals .entry)))
+            ≡ Calls.hear
+            (lent host (job-script 32 (now (job .entry)) (now (table .entry))) (now (masks .entry))
+            (now (deals .entry)))
             (state-of self) heard ⌝ }
     {
         let s = self;

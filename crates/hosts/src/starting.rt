@@ -24,7 +24,8 @@ pub fn start(
 ) -> Answer
     ensures { λ r.
         ⌜ answer-of r
-        ≡ Calls.start (lent host (job-script 32 (now (job .entry)) (now (table .entry))) (now (masks .entry)) (now (deals .entry)))
+        ≡ Calls.start
+        (lent host (job-script 32 (now (job .entry)) (now (table .entry))) (now (masks .entry)) (now (deals .entry)))
         (lanes-of registers) ⌝ }
 {
     let m = registers.m;

@@ -11,7 +11,8 @@ ghost use Rattle.lendings.specs.Faults.{fault-of, needs-of};
 use checks::survey;
 use jobs::Counts;
 
-// The number, 0 for none, and the order's index; where there is none, the counts of the orders before the host's place, or for host 0 of the whole job.
+// The number, 0 for none, and the order's index; where there is none, the counts of the orders before the host's place,
+// or for host 0 of the whole job.
 pub struct Lending {
     pub number: u32,
     pub index: u32,
@@ -83,7 +84,8 @@ fn check_job(
     ensures fault { λ r.
         ⌜ fault-of r
         ≡ or-else (job-fault 32 (now (job .entry)) (now (table .entry)))
-        (dealer-lists-fault (needs-of host (job-cost 32 (now (job .entry)) (now (table .entry)))) (now (a .entry)) (now (b .entry))
+        (dealer-lists-fault (needs-of host (job-cost 32 (now (job .entry)) (now (table .entry)))) (now (a .entry))
+        (now (b .entry))
         (now (deals .entry))) ⌝ }
     ensures counts { λ r.
         ⌜ counted (r .counts)
@@ -117,7 +119,9 @@ pub fn check_lent(
 ) -> Lending
     ensures fault { λ r.
         ⌜ fault-of r
-        ≡ lent-fault (lent host (job-script 32 (now (job .entry)) (now (table .entry))) (now (masks .entry)) (now (deals .entry))) ⌝ }
+        ≡ lent-fault
+        (lent host (job-script 32 (now (job .entry)) (now (table .entry))) (now (masks .entry))
+        (now (deals .entry))) ⌝ }
     ensures counts { λ r.
         ⌜ counted (r .counts)
         ≡ passed (r .number) (job-cost 32 (take (place * 4) (now (job .entry))) (now (table .entry))) ⌝ }
@@ -132,8 +136,10 @@ pub fn check_lent(
 pub fn check_dealer(job: &[u32], table: &[u32], a: &[u32], b: &[u32], deals: &[u32]) -> Lending
     ensures fault { λ r.
         ⌜ fault-of r
-        ≡ dealer-fault (job-script 32 (now (job .entry)) (now (table .entry))) (now (a .entry)) (now (b .entry)) (now (deals .entry)) ⌝ }
-    ensures counts { λ r. ⌜ counted (r .counts) ≡ passed (r .number) (job-cost 32 (now (job .entry)) (now (table .entry))) ⌝ }
+        ≡ dealer-fault (job-script 32 (now (job .entry)) (now (table .entry))) (now (a .entry)) (now (b .entry))
+        (now (deals .entry)) ⌝ }
+    ensures counts { λ r. ⌜ counted (r .counts)
+        ≡ passed (r .number) (job-cost 32 (now (job .entry)) (now (table .entry))) ⌝ }
 {
     check_job(0, job, table, a, b, deals, job.len())
 }

@@ -11,7 +11,8 @@ ghost use Rattle.places.specs.Seek.{sought, Seeks};
 ghost use Rattle.places.specs.Packed.{moved, place-of};
 use circuits::Order;
 
-// Where an order's n-th product or refresh stands: the gate's index, and the words of A and the deals that the order uses before it.
+// Where an order's n-th product or refresh stands: the gate's index, and the words of A and the deals that the order
+// uses before it.
 pub enum Sought {
     Found { gate: usize, a: usize, deals: usize },
     Nowhere,
@@ -123,7 +124,8 @@ fn curve_place(mode: u32, table: &[u32], n: u32) -> Sought
 
 // A program whose first gate is its one exchange.
 fn at_once(n: usize) -> Sought
-    ensures { λ s. ⌜ ((d x y : ℕ) → s ≡ sought 32 (Mul d x y ∷ []) n 0 0 0) × ((d x : ℕ) → s ≡ sought 32 (Refresh d x ∷ []) n 0 0 0) ⌝ }
+    ensures { λ s. ⌜ ((d x y : ℕ) → s ≡ sought 32 (Mul d x y ∷ []) n 0 0 0)
+        × ((d x : ℕ) → s ≡ sought 32 (Refresh d x ∷ []) n 0 0 0) ⌝ }
 {
     if n == 0 {
         Sought::Found {

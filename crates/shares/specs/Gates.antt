@@ -1,4 +1,5 @@
--- Document 01, "Shares" and "Gates", over the operations of any commutative ring: numbers modulo 2^w, and bits with xor and `and`. Assumes nothing.
+-- Document 01, "Shares" and "Gates", over the operations of any commutative ring: numbers modulo 2^w, and bits with xor
+-- and `and`. Assumes nothing.
 use mathlib.Core.Path.{_≡_}
 use Rattle.words.specs.Ring.{Ops}
 

@@ -1,4 +1,5 @@
--- What `together` gives is what the three hosts hold at the end of a run, with its counts and its words. Assumes nothing.
+-- What `together` gives is what the three hosts hold at the end of a run, with its counts and its words. Assumes
+-- nothing.
 use mathlib.Core.Path.{_≡_}
 use mathlib.Core.List.{List, reverse}
 use Prim.Native.Nat.{ℕ, suc}

@@ -44,7 +44,8 @@ fn first(
     ensures { λ r.
         ⌜ answer-of r
         ≡ Calls.unless number (number, index) (Calls.given (lanes-of registers))
-        (Calls.start (lent host (job-script 32 (now (job .entry)) (now (table .entry))) (now (masks .entry)) (now (deals .entry)))
+        (Calls.start
+        (lent host (job-script 32 (now (job .entry)) (now (table .entry))) (now (masks .entry)) (now (deals .entry)))
         (lanes-of registers)) ⌝ }
 {
     if number == 0 {
@@ -81,7 +82,8 @@ fn begin(
 ) -> Trio
     ensures { λ r.
         ⌜ trio-of r (now (deals .exit))
-        ≡ begun (lending (job-script 32 (now (job .entry)) (now (table .entry))) (now (a .entry)) (now (b .entry))) (m, l1, l2)
+        ≡ begun (lending (job-script 32 (now (job .entry)) (now (table .entry))) (now (a .entry)) (now (b .entry)))
+        (m, l1, l2)
         (now (deals .entry)) ⌝ }
     ensures { λ r. ⌜ Full 16 (m, l1, l2) ⌝ }
 {
@@ -152,7 +154,8 @@ pub fn run(
 ) -> Trio
     ensures { λ r.
         ⌜ trio-of r (now (deals .exit))
-        ≡ together (lending (job-script 32 (now (job .entry)) (now (table .entry))) (now (a .entry)) (now (b .entry))) (shared registers)
+        ≡ together (lending (job-script 32 (now (job .entry)) (now (table .entry))) (now (a .entry)) (now (b .entry)))
+        (shared registers)
         (now (deals .entry)) ⌝ }
 {
     let m = registers.m;
