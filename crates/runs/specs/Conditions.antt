@@ -60,8 +60,8 @@ gate-places o (gs ∷ os) = order-places o 0 gs ++ gate-places (suc o) os
 -- ---- what the conditions speak of
 
 pub record Terms : Type 1 where
-  -- the number and the index by the conditions that come before 6, or 0 and 0 where none of them is met: for a job 2 to
-  -- 5
+  -- the number and the index by the conditions that come before 6, or 0 and 0 where none of them is met; for a job
+  -- these are 2 to 5
   pub own : (number index : ℕ) → Type 0
   -- the words needed of A and of B, and the deals
   pub needs : Cost
@@ -76,8 +76,11 @@ Single N = (n i m j : ℕ) → N n i → N m j → (n ≡ m) × (i ≡ j)
 -- ---- preparation, "2 to 7": "host 0: A and B"; "(hosts 0 and 2)"
 
 pub data PreparationIs (T : Terms) (A B buffer : List ℕ) : (number index : ℕ) → Type 0 where
+  -- 2 to 5
   of-itself : {n i : ℕ} → T .own (suc n) i → PreparationIs T A B buffer (suc n) i
+  -- "6. A list that this host uses (host 0: A and B; ..) is shorter than the job needs."
   of-lists : T .own 0 0 → (length A < T .needs .a) ⊎ (length B < T .needs .b) → PreparationIs T A B buffer 6 0
+  -- "7. The deal list or deal buffer is shorter than the job's deals (hosts 0 and 2)."
   of-buffer : T .own 0 0 → T .needs .a ≤ length A → T .needs .b ≤ length B → length buffer < T .needs .deals
       → PreparationIs T A B buffer 7 0
   prepares-well : T .own 0 0 → T .needs .a ≤ length A → T .needs .b ≤ length B → T .needs .deals ≤ length buffer
@@ -90,7 +93,9 @@ abbrev pub list-needed : Terms → (host : ℕ) → ℕ
 list-needed T h = cond (eqb h 1) (T .needs .a) (T .needs .b)
 
 pub data StartIs (T : Terms) (h : ℕ) (masks deals : List ℕ) : (number index : ℕ) → Type 0 where
+  -- "1. Starting or stepping names a host other than 1 or 2."
   stranger : h ≢ 1 → h ≢ 2 → StartIs T h masks deals 1 0
+  -- 2 to 5, 6 and 7
   of-its-own : {n i : ℕ} → (h ≡ 1) ⊎ (h ≡ 2) → T .own (suc n) i → StartIs T h masks deals (suc n) i
   of-its-list : (h ≡ 1) ⊎ (h ≡ 2) → T .own 0 0 → length masks < list-needed T h → StartIs T h masks deals 6 0
   of-its-deals : h ≡ 2 → T .own 0 0 → list-needed T h ≤ length masks → length deals < T .needs .deals
@@ -105,6 +110,7 @@ abbrev pub end-place : Terms → Place
 end-place T = (T .orders, 0)
 
 pub data HearingIs (T : Terms) (h : ℕ) (masks deals : List ℕ) (p : Place) : (number index : ℕ) → Type 0 where
+  -- 1 to 7
   as-starting : {n i : ℕ} → StartIs T h masks deals (suc n) i → HearingIs T h masks deals p (suc n) i
   -- "8. The state's place is neither the end nor a product or refresh of this job."
   misplaced : StartIs T h masks deals 0 0 → (Listed p (T .places) → ⊥) → p ≢ end-place T
