@@ -18,7 +18,7 @@ mark (deal d f) s t = t
 mark (exchange d e) s t = t
 mark end s t = t ++ (s ∷ [])
 
--- the walk stands at an exchange, or has ended
+-- the walk stands at an exchange
 abbrev pub Exchanging : List Step → Type 0
 Exchanging [] = ⊥
 Exchanging (local d m l ∷ ss) = ⊥

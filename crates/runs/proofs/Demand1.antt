@@ -11,10 +11,10 @@ use Rattle.jobs.proofs.CostTable.{cost-table}
 use Rattle.parties.specs.Scripts.{Script, job-script}
 use Rattle.parties.proofs.Scripts.{job-made}
 use Rattle.parties.specs.Lent.{Lent, lent, party-of, lent-fault, dealer-fault}
-use Rattle.parties.specs.Calls.{State, Answer, report, unless, given, start-walk, start, hear-walk, place-fault, found-of, resume, hear, prepared, prepare}
+use Rattle.parties.specs.Calls.{State, Answer, fresh, report, unless, given, start-walk, start, hear-walk, place-fault, found-of, resume, hear, prepared, prepare}
 use Rattle.runs.specs.Conditions.{places-from, Single}
 use Rattle.runs.specs.Numbers.{Told}
-use Rattle.runs.specs.Demand1.{job-terms, Demand1}
+use Rattle.runs.specs.Demand1.{job-terms, returned, Demand1}
 use Rattle.runs.proofs.Chain.{job-orders, job-orderly}
 use Rattle.runs.proofs.Refusals.{start-state, hear-state, prepare-back}
 use Rattle.runs.proofs.Placed.{gates-placed}
@@ -68,6 +68,11 @@ hear-rest L s v h =
     unless-rest (lent-fault L .0) (lent-fault L) s (unless (place-fault f) (place-fault f, 0) s a) h
     (λ k. unless-rest (place-fault f) (place-fault f, 0) s a k (λ z. absurd (z refl)))
 
+-- the registers as they were given
+start-back : (L : Lent) (r : Pair) → start L r .number ≢ 0 → start L r .state ≡ returned r
+unfolding given fresh
+start-back L r h = start-state L r h
+
 pub demand1 : Demand1
 demand1 =
     record {
@@ -80,6 +85,6 @@ demand1 =
       one-hearing = λ h job table M D o x.
           numbers .one-hearing (job-script 32 job table) (job-terms job table) (job-told job table) (job-orderly 32 job table) (job-single job table) h M D o x;
       preparing-unchanged = λ σ A B D r h. let p = prepare-back σ A B D r h in (p .0, p .1, prepare-rest σ A B D r h);
-      starting-unchanged = λ L r h. let p = start-rest L r h in (start-state L r h, p .0, p .1);
+      starting-unchanged = λ L r h. let p = start-rest L r h in (start-back L r h, p .0, p .1);
       hearing-unchanged = λ L s v h. let p = hear-rest L s v h in (hear-state L s v h, p .0, p .1);
     }

@@ -22,6 +22,8 @@ pub mod Demand2
 pub mod Written
 pub mod Unwritten
 pub mod Returned
+pub mod Standing
+pub mod Holdings
 pub mod InOrder
 pub mod Strict
 pub mod Buffers

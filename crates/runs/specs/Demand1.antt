@@ -2,9 +2,9 @@
 -- the order's index, for every job; and that a refused call, of any script at all, changes nothing. Assumes nothing.
 use mathlib.Core.Path.{_≡_}
 use mathlib.Core.Logic.{_≢_}
-use mathlib.Core.List.{List}
+use mathlib.Core.List.{List, _++_}
 use Prim.Native.Nat.{ℕ}
-use lib.ListN.{length}
+use lib.ListN.{length, replicate}
 use Rattle.gates.specs.Parties.{Pair}
 use Rattle.tables.specs.Table.{rows}
 use Rattle.jobs.specs.Job.{orders, job-gates}
@@ -12,7 +12,7 @@ use Rattle.jobs.specs.CostTable.{table-counts}
 use Rattle.jobs.specs.FirstFault.{Numbered}
 use Rattle.parties.specs.Scripts.{Script, job-script}
 use Rattle.parties.specs.Lent.{Lent, lent}
-use Rattle.parties.specs.Calls.{State, Answer, Prepared, given, start, hear, prepare}
+use Rattle.parties.specs.Calls.{State, Answer, Prepared, start, hear, prepare}
 use Rattle.runs.specs.Conditions.{gate-places, Terms, Single, PreparationIs, StartIs, HearingIs}
 
 -- a job with its table: conditions 2 to 5 as jobs/specs/FirstFault.antt has them; the sum over its orders of document
@@ -35,6 +35,11 @@ start-job h job table M D r = start (lent h (job-script 32 job table) M D) r
 abbrev pub hear-job : (h : ℕ) (job table masks deals : List ℕ) → State → (heard : ℕ) → Answer
 hear-job h job table M D s v = hear (lent h (job-script 32 job table) M D) s v
 
+-- "Refused starting gives back the registers it was given .. every other number in a refused answer is 0": so the eight
+-- kept words and the place
+abbrev pub returned : Pair → State
+returned r = record { m = r .0 ++ replicate 8 0; mask = r .1 ++ replicate 8 0; order = 0; turn = 0 }
+
 pub record Demand1 : Type 0 where
   -- "A call that meets a condition of document 01's list .. gives the number its checking order reaches first", and the
   -- order's index; "every other call completes its work": its number is 0
@@ -54,6 +59,6 @@ pub record Demand1 : Type 0 where
   pub preparing-unchanged : (σ : Script) (A B D : List ℕ) (r : Pair) → prepare σ A B D r .number ≢ 0
       → (prepare σ A B D r .masks ≡ r) × (prepare σ A B D r .buffer ≡ D) × (prepare σ A B D r .deals ≡ 0)
   pub starting-unchanged : (L : Lent) (r : Pair) → start L r .number ≢ 0
-      → (start L r .state ≡ given r) × (start L r .spoken ≡ 0) × (start L r .word ≡ 0)
+      → (start L r .state ≡ returned r) × (start L r .spoken ≡ 0) × (start L r .word ≡ 0)
   pub hearing-unchanged : (L : Lent) (s : State) (v : ℕ) → hear L s v .number ≢ 0
       → (hear L s v .state ≡ s) × (hear L s v .spoken ≡ 0) × (hear L s v .word ≡ 0)

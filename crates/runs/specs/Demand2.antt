@@ -65,7 +65,7 @@ pub record Demand2 : Type 0 where
   pub register-kept : (S : Setting) (q i : ℕ) (v : World) → Finishes (staged 32 S) q v → i < 16
       → eqb i (order-of S q .target) ≡ false
       → slot (after-order (staged 32 S) q) i ≡ slot (before-order (staged 32 S) q) i
-  -- "every spoken word is the one defined there"
+  -- "every spoken word is the one defined there": one of those defined; in order and each once, InOrder.antt
   pub host1-speaks : (S : Stage) (cs : List Call) (z : Dealer) (buf : List ℕ) (s : State) (t : List Pair)
       (said : List Spoken)
       (two : Side) → Run S cs (world z buf (going s t said) two) → (p : Spoken) → Among p said → Among p (words-of-1 S)

@@ -6,6 +6,7 @@ pub mod Numbers
 pub mod Demand1
 pub mod Demand2
 pub mod Returned
+pub mod Holdings
 pub mod InOrder
 pub mod Strict
 pub mod Buffers

@@ -18,6 +18,7 @@ use Rattle.circuits.specs.declared.Order.{Order}
 use Rattle.circuits.specs.Programs.{sum-program}
 use Rattle.circuits.specs.Costs.{program-cost}
 use Rattle.jobs.specs.Job.{orders, job-gates}
+use Rattle.jobs.specs.FirstFault.{order}
 use Rattle.parties.specs.Calls.{fresh}
 use Rattle.runs.specs.Runs.{Stage, Setting}
 
@@ -76,7 +77,7 @@ mask-behind w A B k gs = add w (at A (k .a + program-cost w gs .a)) (at B (k .b 
 
 -- order q
 unfoldable pub order-of : Setting → ℕ → Order
-order-of S q = getD (orders (S .job)) q (record { kind = 0; target = 0; source = 0; fourth = 0 })
+order-of S q = order (orders (S .job)) q
 
 -- the counts of the first q of a list of programs
 unfoldable pub first-counts : (w q : ℕ) → List (List Gate) → Cost

@@ -1,0 +1,192 @@
+-- Wherever a host stands, a slot that the order at hand does not write holds what it held just before that order. Assumes nothing.
+use mathlib.Core.Path.{_≡_, refl, sym, ap, _∙_, subst}
+use mathlib.Core.Bool.{false}
+use mathlib.Core.List.{List, [], _∷_, _++_}
+use Prim.Native.Nat.{ℕ, zero, suc, _+_, _-_, _<_}
+use native.Mathlib.Nat.{zero-add}
+use native.Mathlib.Omega.{arith}
+use lib.Dec.{eqb}
+use lib.ListN.{getD, length, take, length-append, List·getD-append}
+use lib.Seq.{getD-take, getD-at}
+use Rattle.shares.specs.Gates.{Share}
+use Rattle.tables.specs.Table.{rows}
+use Rattle.gates.specs.Steps.{Lane, at, Exchange, Step, local, deal, exchange, end, Cursor, origin, past}
+use Rattle.gates.specs.Walk.{Conf, conf, whole, next}
+use Rattle.gates.specs.Parties.{Pair, Triple, of1, of2, act, joint1, joint2}
+use Rattle.jobs.specs.Job.{orders}
+use Rattle.parties.specs.Scripts.{orders-in, ends, Closed}
+use Rattle.parties.proofs.Scripts.{job-made}
+use Rattle.parties.specs.Calls.{State}
+use Rattle.runs.specs.Runs.{Stage, Setting, staged, Spoken, Dealer, ready, Side, going, world, Call, Run}
+use Rattle.runs.specs.Orders.{first, trail, after-order, before-order, slot, Unwritten, order-of}
+use Rattle.runs.proofs.Places.{pos, ends-pos, trail-pos, trail-length}
+use Rattle.runs.proofs.Ties.{joint, Tied}
+use Rattle.runs.proofs.Kept.{all, j₀, last, Ok, ok, dealt-all, go1, go2, kept}
+use Rattle.runs.proofs.Chain.{gates-length}
+use Rattle.runs.proofs.Opened.{gates, gates-is}
+use Rattle.runs.proofs.Written.{spares-program}
+use Rattle.runs.proofs.Unwritten.{act-misses, closed-from, unwritten-gates}
+use Rattle.runs.proofs.Returned.{rest-length, last-is}
+
+module _ (A B : List ℕ) (all : List Step) (j₀ : Triple) where
+  abbrev at-n : ℕ → Conf Triple
+  at-n n = joint A B all j₀ n
+
+  -- as the order before order q left the lanes, in a trail
+  before : ℕ → List Triple → Triple
+  before zero t = j₀
+  before (suc q) t = getD t q j₀
+
+  -- what the order at hand has still to do, and slot i while it does not write it
+  record Current (i : ℕ) (p : Conf Triple) : Type 0 where
+    pub later : (k q : ℕ) → q ≡ p .cur .order + k → Unwritten i q all → Unwritten i k (p .rest)
+    pub same : Unwritten i (p .cur .order) all → slot (p .state) i ≡ slot (before (p .cur .order) (p .trail)) i
+    pub count : length (p .trail) ≡ p .cur .order
+
+  here : (i : ℕ) (p : Conf Triple) → Current i p → Unwritten i (p .cur .order) all → Unwritten i 0 (p .rest)
+  here i p z u = z .later 0 (p .cur .order) (omega arith) u
+
+  module _ (i : ℕ) (ss : List Step) (c : Cursor) (j : Triple) (t : List Triple) where
+    -- past a step of the order at hand
+    within : (x : Step) (c′ : Cursor) (j′ : Triple) → c′ .order ≡ c .order → ((k : ℕ) → Unwritten i k (x ∷ ss) → Unwritten i k ss)
+        → (Unwritten i 0 (x ∷ ss) → slot j′ i ≡ slot j i) → Current i (conf (x ∷ ss) c j t) → Current i (conf ss c′ j′ t)
+    within x c′ j′ e f g z =
+        record {
+          later = λ k q h u. f k (z .later k q (omega (arith, h, e)) u);
+          same = λ u.
+              let v : Unwritten i (c .order) all = subst (λ (q : ℕ). Unwritten i q all) e u in
+              g (here i (conf (x ∷ ss) c j t) z v) ∙ z .same v ∙ ap (λ (q : ℕ). slot (before q t) i) (sym e);
+          count = omega (arith, z .count, e);
+        }
+
+    behind-end : Current i (conf (end ∷ ss) c j t) → Current i (conf ss (past end c) (act A B end c j) (t ++ (j ∷ [])))
+    unfolding past act before
+    behind-end z =
+        record {
+          later = λ k q h u. z .later (suc k) q (omega (arith, h)) u;
+          same = λ u. ap (λ (x : Triple). slot x i) (sym (getD-at t j [] j₀ (c .order) (z .count)));
+          count = omega (arith, length-append t (j ∷ []), z .count);
+        }
+
+  abbrev passes : (i : ℕ) (ss : List Step) (x : Step) → Type 0
+  passes i ss x = (k : ℕ) → Unwritten i k (x ∷ ss) → Unwritten i k ss
+
+  passes-local : (i d : ℕ) (m l : Lane → ℕ) (ss : List Step) → passes i ss (local d m l)
+  passes-local i d m l ss zero u = u .1
+  passes-local i d m l ss (suc k) u = u
+
+  passes-deal : (i d : ℕ) (f : ℕ → Lane → Lane → ℕ) (ss : List Step) → passes i ss (deal d f)
+  passes-deal i d f ss zero u = u .1
+  passes-deal i d f ss (suc k) u = u
+
+  passes-exchange : (i d : ℕ) (e : Exchange) (ss : List Step) → passes i ss (exchange d e)
+  passes-exchange i d e ss zero u = u .1
+  passes-exchange i d e ss (suc k) u = u
+
+  current-next : (i : ℕ) (ss : List Step) (c : Cursor) (j : Triple) (t : List Triple) → Current i (conf ss c j t) → Current i (next (act A B) (conf ss c j t))
+  unfolding past
+  current-next i [] c j t z = z
+  current-next i (local d m l ∷ ss) c j t z =
+      within i ss c j t (local d m l) _ _ refl (passes-local i d m l ss) (λ u. act-misses A B (local d m l) c j i (u .0)) z
+  current-next i (deal d f ∷ ss) c j t z =
+      within i ss c j t (deal d f) _ _ refl (passes-deal i d f ss) (λ u. act-misses A B (deal d f) c j i (u .0)) z
+  current-next i (exchange d e ∷ ss) c j t z =
+      within i ss c j t (exchange d e) _ _ refl (passes-exchange i d e ss) (λ u. act-misses A B (exchange d e) c j i (u .0)) z
+  current-next i (end ∷ ss) c j t z = behind-end i ss c j t z
+
+  current : (i n : ℕ) → Current i (at-n n)
+  unfolding pos before
+  current i zero = record { later = λ k q h u. let e : q ≡ k = omega (arith, h) in subst (λ (x : ℕ). Unwritten i x all) e u; same = λ u. refl; count = refl }
+  current i (suc n) = current-next i (at-n n .rest) (at-n n .cur) (at-n n .state) (at-n n .trail) (current i n)
+
+module _ (S : Stage) where
+  abbrev A : List ℕ
+  A = S .A
+
+  abbrev B : List ℕ
+  B = S .B
+
+  abbrev point : ℕ → Conf Triple
+  point n = joint A B (all S) (j₀ S) n
+
+  before-is : (n q : ℕ) → point n .cur .order ≡ q → before A B (all S) (j₀ S) q (point n .trail) ≡ before-order S q
+  unfolding before before-order after-order trail
+  before-is n zero e = refl
+  before-is n (suc q) e =
+      let r = trail-pos (act A B) (all S) (j₀ S) n in
+      let l : q < length (point n .trail) = omega (arith, trail-length (act A B) (all S) (j₀ S) n, e) in
+      sym (ap (λ (u : List Triple). getD u q (j₀ S)) (r .1) ∙ List·getD-append (point n .trail) (r .0) (j₀ S) q l)
+
+  -- slot i at position n
+  stands-at : (n i : ℕ) → Unwritten i (point n .cur .order) (all S) → slot (point n .state) i ≡ slot (before-order S (point n .cur .order)) i
+  stands-at n i u = current A B (all S) (j₀ S) i n .same u ∙ ap (λ (x : Triple). slot x i) (before-is n _ refl)
+
+  module _ (h : Triple → Pair) (say : Exchange → Cursor → Triple → ℕ) (s : State) (t : List Pair) (said : List Spoken)
+      (Z : Tied A B (all S) (j₀ S) h say s t said) (i : ℕ) where
+    order-is : s .order ≡ point (Z .n) .cur .order
+    order-is = ap (λ (x : State). x .order) (Z .is)
+
+    tied-stands : Unwritten i (s .order) (all S) → slot (point (Z .n) .state) i ≡ slot (before-order S (s .order)) i
+    tied-stands u =
+        stands-at (Z .n) i (subst (λ (q : ℕ). Unwritten i q (all S)) order-is u) ∙ ap (λ (q : ℕ). slot (before-order S q) i) (sym order-is)
+
+  -- ---- host by host
+
+  pub stands1 : {cs : List Call} {z : Dealer} {buf : List ℕ} {s : State} {t : List Pair} {said : List Spoken} {two : Side} → Run S cs (world z buf (going s t said) two)
+      → (i : ℕ) → Unwritten i (s .order) (all S) → (at (s .m) i ≡ slot (before-order S (s .order)) i .m) × (at (s .mask) i ≡ slot (before-order S (s .order)) i .l1)
+  stands1 {s = s} {t = t} {said = said} r i u = go (kept S r)
+    where
+      go : {z : Dealer} {buf : List ℕ} {two : Side} → Ok S (world z buf (going s t said) two)
+          → (at (s .m) i ≡ slot (before-order S (s .order)) i .m) × (at (s .mask) i ≡ slot (before-order S (s .order)) i .l1)
+      go (ok z (go1 X) two a) =
+          let e = tied-stands of1 (joint1 A B) s t said X i u in
+          (ap (λ (x : State). at (x .m) i) (X .is) ∙ ap (λ (x : Share ℕ). x .m) e, ap (λ (x : State). at (x .mask) i) (X .is) ∙ ap (λ (x : Share ℕ). x .l1) e)
+
+  pub stands2 : {cs : List Call} {z : Dealer} {buf : List ℕ} {one : Side} {s : State} {t : List Pair} {said : List Spoken} → Run S cs (world z buf one (going s t said))
+      → (i : ℕ) → Unwritten i (s .order) (all S) → (at (s .m) i ≡ slot (before-order S (s .order)) i .m) × (at (s .mask) i ≡ slot (before-order S (s .order)) i .l2)
+  stands2 {s = s} {t = t} {said = said} r i u = go (kept S r)
+    where
+      go : {z : Dealer} {buf : List ℕ} {one : Side} → Ok S (world z buf one (going s t said))
+          → (at (s .m) i ≡ slot (before-order S (s .order)) i .m) × (at (s .mask) i ≡ slot (before-order S (s .order)) i .l2)
+      go (ok z one (go2 Y) a) =
+          let e = tied-stands of2 (joint2 A B) s t said Y i u in
+          (ap (λ (x : State). at (x .m) i) (Y .is) ∙ ap (λ (x : Share ℕ). x .m) e, ap (λ (x : State). at (x .mask) i) (Y .is) ∙ ap (λ (x : Share ℕ). x .l2) e)
+
+  -- the end of the joint walk, past every order
+  last-order : point (length (all S)) .cur .order ≡ orders-in (S .script)
+  unfolding ends
+  last-order = go (point (length (all S)) .rest) (ends-pos (act A B) (all S) (j₀ S) (length (all S))) (rest-length A B (all S) (j₀ S) (length (all S)))
+    where
+      go : (ss : List Step) → ends ss + point (length (all S)) .cur .order ≡ ends (all S) → length ss ≡ length (all S) - length (all S)
+          → point (length (all S)) .cur .order ≡ ends (all S)
+      go [] e l = sym (zero-add _) ∙ e
+      go (x ∷ ss) e l = absurd (omega arith)
+
+  last-stands : Closed (all S) → (i : ℕ) → slot (last S .state) i ≡ slot (before-order S (orders-in (S .script))) i
+  last-stands shut i =
+      let n : ℕ = length (all S) in
+      let u : Unwritten i (point n .cur .order) (all S) = closed-from i (all S) shut (point n .cur .order) (omega (arith, last-order)) in
+      ap (λ (p : Conf Triple). slot (p .state) i) (last-is A B (all S) (j₀ S)) ∙ stands-at n i u ∙ ap (λ (q : ℕ). slot (before-order S q) i) last-order
+
+  pub stands0 : {cs : List Call} {r : Pair} {t : List Pair} {buf : List ℕ} {one two : Side} → Closed (all S) → Run S cs (world (ready r t) buf one two)
+      → (i : ℕ) → i < S .script .slots
+      → (at (r .0) i ≡ slot (before-order S (orders-in (S .script))) i .l1) × (at (r .1) i ≡ slot (before-order S (orders-in (S .script))) i .l2)
+  stands0 {r = r} {t = t} shut R i h = go (kept S R)
+    where
+      go : {buf : List ℕ} {one two : Side} → Ok S (world (ready r t) buf one two)
+          → (at (r .0) i ≡ slot (before-order S (orders-in (S .script))) i .l1) × (at (r .1) i ≡ slot (before-order S (orders-in (S .script))) i .l2)
+      go (ok (dealt-all p g e k) one two a) =
+          let z = last-stands shut i in
+          (
+            ap (λ (x : Pair). at (x .0) i) e ∙ getD-take (S .script .slots) (last S .state .1) i 0 h ∙ ap (λ (x : Share ℕ). x .l1) z,
+            ap (λ (x : Pair). at (x .1) i) e ∙ getD-take (S .script .slots) (last S .state .2) i 0 h ∙ ap (λ (x : Share ℕ). x .l2) z,
+          )
+
+-- ---- of a job: a register that is not the target of order q
+
+pub spared-by : (S : Setting) (q i : ℕ) → i < 16 → (q < length (orders (S .job)) → eqb i (order-of S q .target) ≡ false) → Unwritten i q (staged 32 S .script .steps)
+spared-by S q i hi f =
+    subst (λ (ss : List Step). Unwritten i q ss) (sym (job-made 32 (S .job) (S .table)))
+    (unwritten-gates 32 i q (gates 32 S)
+    (λ h. let k : q < length (orders (S .job)) = rw (gates-length 32 (S .job) (S .table)) at h in
+        rw (gates-is 32 S q k) (spares-program 32 (rows (S .table)) (order-of S q) i hi (f k))))
