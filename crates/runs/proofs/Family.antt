@@ -3,7 +3,6 @@ use mathlib.Core.Path.{_≡_, refl, sym, ap, _∙_}
 use mathlib.Core.List.{List, [], _∷_, _++_}
 use Prim.Native.Nat.{ℕ, _+_, _<_}
 use native.Mathlib.Omega.{arith}
-use lib.Dec.{lit≤}
 use lib.ListN.{getD, length, set, take}
 use lib.Seq.{getD-set-same, getD-set-other}
 use Rattle.words.specs.Words.{add, numbers}
@@ -27,7 +26,7 @@ use Rattle.parties.proofs.Scripts.{job-made}
 use Rattle.runs.specs.Runs.{Setting, staged}
 use Rattle.runs.specs.Orders.{Words, first, slot, before-order, order-of, used-before, refresh-mask}
 use Rattle.runs.specs.Demand3.{reading, OneBit, refresh-place, with-word}
-use Rattle.runs.proofs.Chain.{state-before, first-cost, used-within}
+use Rattle.runs.proofs.Chain.{job-orderly, state-before, first-cost, used-within}
 use Rattle.runs.proofs.Gated.{G₀, before-is}
 use Rattle.runs.proofs.Opened.{gates-is, in-gates}
 
@@ -35,7 +34,7 @@ use Rattle.runs.proofs.Opened.{gates-is, in-gates}
 before-walk : (w : ℕ) (S : Setting) → Words w (staged w S) → (q : ℕ) → q < length (orders (S .job))
     → before-order (staged w S) q ≡ whole (act (S .A) (S .B)) (job-steps w (take q (job-gates w (S .job) (S .table)))) origin (first (staged w S)) [] .state
 before-walk w S words q h =
-    before-is w (staged w S) (lit≤ tt) words (job-gates w (S .job) (S .table)) (job-made w (S .job) (S .table)) q (in-gates w S q h) ∙ sym (state-before w (S .A) (S .B) (words .A) (words .B) (job-gates w (S .job) (S .table)) (G₀ w (staged w S) (lit≤ tt) words) q [])
+    before-is w (staged w S) (job-orderly w (S .job) (S .table)) words (job-gates w (S .job) (S .table)) (job-made w (S .job) (S .table)) q (in-gates w S q h) ∙ sym (state-before w (S .A) (S .B) (words .A) (words .B) (job-gates w (S .job) (S .table)) (G₀ w (staged w S) (job-orderly w (S .job) (S .table)) words) q [])
 
 module _ (S : Setting) (q : ℕ) (o : OneBit S q) where
   abbrev i : ℕ

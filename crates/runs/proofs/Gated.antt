@@ -28,6 +28,7 @@ use Rattle.circuits.proofs.Gates.{Fits}
 use Rattle.circuits.proofs.Points.{Point, after, afters, num, l1-of, l2-of}
 use Rattle.circuits.proofs.Opens.{new-mask, curve-mask, Sound, kind-opens, kind-keeps}
 use Rattle.jobs.proofs.Accepted.{Good, exact-shift, curve-ruled}
+use Rattle.parties.specs.Scripts.{Orderly}
 use Rattle.parties.specs.Calls.{fresh}
 use Rattle.runs.proofs.Lists.{length-map}
 use Rattle.runs.specs.Runs.{Stage}
@@ -45,7 +46,7 @@ fits-zeros w zero i = pow-pos w
 fits-zeros w (suc n) zero = pow-pos w
 fits-zeros w (suc n) (suc i) = fits-zeros w n i
 
-module _ (w : ℕ) (S : Stage) (room : 16 ≤ S .script .slots) (words : Words w S) where
+module _ (w : ℕ) (S : Stage) (tidy : Orderly (S .script)) (words : Words w S) where
   abbrev pub Pt : Type 0
   Pt = Point w (S .A) (S .B) (words .A) (words .B)
 
@@ -65,7 +66,7 @@ module _ (w : ℕ) (S : Stage) (room : 16 ≤ S .script .slots) (words : Words w
         fits = record { m = fresh-fits (S .rm) (words .rm); l1 = fresh-fits (S .r1) (words .r1); l2 = fresh-fits (S .r2) (words .r2) };
         slots = λ i l. let n = j₀-lengths S in
             let k : i < 24 = ltb-true i 24 l in
-            let h : i < S .script .slots + 8 = omega (arith, k, room) in
+            let h : i < S .script .slots + 8 = omega (arith, k, tidy .room) in
             record { m = rw (n .m) h; l1 = rw (n .l1) h; l2 = rw (n .l2) h };
       }
 

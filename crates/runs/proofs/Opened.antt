@@ -5,7 +5,7 @@ use mathlib.Core.Bool.{true, false}
 use mathlib.Core.List.{List, []}
 use Prim.Native.Nat.{ℕ, _≤_, _<_}
 use native.Mathlib.Omega.{arith}
-use lib.Dec.{eqb, lit≤}
+use lib.Dec.{eqb}
 use lib.ListN.{getD, length}
 use Rattle.words.specs.Words.{numbers}
 use Rattle.shares.specs.Gates.{value, mask}
@@ -22,7 +22,7 @@ use Rattle.parties.proofs.Scripts.{job-made}
 use Rattle.runs.proofs.Lists.{getD-map}
 use Rattle.runs.specs.Runs.{Setting, staged}
 use Rattle.runs.specs.Orders.{Words, trail, after-order, before-order, slot, order-of, used-before, refresh-mask}
-use Rattle.runs.proofs.Chain.{gates-length}
+use Rattle.runs.proofs.Chain.{job-orderly, gates-length}
 use Rattle.runs.proofs.Gated.{trail-gates, program-leaves, program-keeps}
 
 module _ (w : ℕ) (S : Setting) where
@@ -34,7 +34,7 @@ module _ (w : ℕ) (S : Setting) where
 
   -- as many entries as the job has orders
   pub trail-orders : Words w (staged w S) → length (trail (staged w S)) ≡ length (orders (S .job))
-  trail-orders words = trail-gates w (staged w S) (lit≤ tt) words gates made ∙ gates-length w (S .job) (S .table)
+  trail-orders words = trail-gates w (staged w S) (job-orderly w (S .job) (S .table)) words gates made ∙ gates-length w (S .job) (S .table)
 
   module _ (q : ℕ) (hq : q < length (orders (S .job))) where
     pub in-gates : q < length gates
@@ -65,8 +65,8 @@ module _ (w : ℕ) (S : Setting) where
         ≡ order-value w ps o (value (numbers w) (slot (before-order (staged w S) q) (o .source))) (value (numbers w) (slot (before-order (staged w S) q) (o .fourth)))
         (mask (numbers w) (slot (before-order (staged w S) q) (o .source))) (refresh-mask w S q)
     unfolding refresh-mask used-before
-    order-leaves = program-leaves w (staged w S) (lit≤ tt) words gates made low wide q (in-gates q hq) ps o (gates-is q hq) (keeps-rules (S .table)) order-good some-row
+    order-leaves = program-leaves w (staged w S) (job-orderly w (S .job) (S .table)) words gates made low wide q (in-gates q hq) ps o (gates-is q hq) (keeps-rules (S .table)) order-good some-row
 
     -- "the register keeps that until an order writes it"
     pub order-keeps : (i : ℕ) → i < 16 → eqb i (o .target) ≡ false → slot (after-order (staged w S) q) i ≡ slot (before-order (staged w S) q) i
-    order-keeps = program-keeps w (staged w S) (lit≤ tt) words gates made low wide q (in-gates q hq) ps o (gates-is q hq) (keeps-rules (S .table)) order-good some-row
+    order-keeps = program-keeps w (staged w S) (job-orderly w (S .job) (S .table)) words gates made low wide q (in-gates q hq) ps o (gates-is q hq) (keeps-rules (S .table)) order-good some-row

@@ -176,8 +176,7 @@ module _ (S : Stage) where
       go : {buf : List ℕ} {one two : Side} → Ok S (world (ready r t) buf one two)
           → (at (r .0) i ≡ slot (before-order S (orders-in (S .script))) i .l1) × (at (r .1) i ≡ slot (before-order S (orders-in (S .script))) i .l2)
       go (ok (dealt-all p g e k) one two a) =
-          let z = last-stands shut i in
-          (
+          let z = last-stands shut i in (
             ap (λ (x : Pair). at (x .0) i) e ∙ getD-take (S .script .slots) (last S .state .1) i 0 h ∙ ap (λ (x : Share ℕ). x .l1) z,
             ap (λ (x : Pair). at (x .1) i) e ∙ getD-take (S .script .slots) (last S .state .2) i 0 h ∙ ap (λ (x : Share ℕ). x .l2) z,
           )
@@ -189,4 +188,4 @@ spared-by S q i hi f =
     subst (λ (ss : List Step). Unwritten i q ss) (sym (job-made 32 (S .job) (S .table)))
     (unwritten-gates 32 i q (gates 32 S)
     (λ h. let k : q < length (orders (S .job)) = rw (gates-length 32 (S .job) (S .table)) at h in
-        rw (gates-is 32 S q k) (spares-program 32 (rows (S .table)) (order-of S q) i hi (f k))))
+    rw (gates-is 32 S q k) (spares-program 32 (rows (S .table)) (order-of S q) i hi (f k))))

@@ -1,5 +1,6 @@
 -- The whole job in one place is a run carried to its end. Assumes nothing.
 use mathlib.Core.Path.{_≡_, refl, sym, ap, _∙_}
+use mathlib.Core.Logic.{_≢_}
 use mathlib.Core.List.{List, []}
 use Prim.Native.Nat.{ℕ, zero, suc, _≤_, _<_}
 use native.Mathlib.Nat.{zero-add}
@@ -8,10 +9,12 @@ use lib.ListN.{length}
 use Rattle.gates.specs.Steps.{Cursor, origin}
 use Rattle.gates.specs.Parties.{Pair, of1, of2}
 use Rattle.gates.proofs.Needs.{far-used}
-use Rattle.parties.specs.Scripts.{script-cost, orders-in, Orderly}
-use Rattle.parties.specs.Calls.{State, Answer, unless, given}
+use Rattle.jobs.specs.Job.{Fault}
+use Rattle.parties.specs.Scripts.{Script, script-cost, orders-in, Orderly}
+use Rattle.parties.specs.Calls.{State, Answer, refused, fresh, unless, given, prepared as Calls-prepared, prepare}
 use Rattle.runs.specs.Runs.{Stage, staged, Spoken, Dealer, going, world, held, Begins, given-out, begin, Finished}
 use Rattle.runs.specs.Whole.{WholeRun, outset}
+use Rattle.runs.proofs.Demand1.{demand1}
 use Rattle.runs.proofs.Chain.{job-orderly}
 use Rattle.runs.proofs.Kept.{Ok, ok, go1, go2, kept}
 use Rattle.runs.proofs.Progress.{unless-zero}
@@ -20,9 +23,44 @@ use Rattle.runs.proofs.Buffers.{buffers}
 use Rattle.runs.proofs.InOrder.{in-order}
 use Rattle.runs.proofs.Whole.{whole}
 use Rattle.trio.specs.Together.{Trio, prepared, preparation as trio-preparation, left, ended, together}
-use Rattle.trio.specs.Ran.{ran, RunTo, Ran}
+use Rattle.trio.specs.Ran.{ran, RunTo, TurnedDown, Ran}
 use Rattle.trio.proofs.Positions.{lent-of, given-of, P, D, at-n, standing}
 use Rattle.trio.proofs.Ends.{no-step, cur-is, finish}
+
+-- ---- the preparation's number and index
+
+prepared-index : (k : ℕ) (f : Fault) (σ : Script) (A B buf : List ℕ) (r : Pair) → f .0 ≡ k → Calls-prepared k f σ A B buf r .number ≡ 0
+    → Calls-prepared k f σ A B buf r .index ≡ 0
+unfolding Calls-prepared
+prepared-index zero f σ A B buf r e h = refl
+prepared-index (suc k) f σ A B buf r e h = absurd (omega arith)
+
+index-none : (S : Stage) (buf : List ℕ) → P S buf .number ≡ 0 → P S buf .index ≡ 0
+unfolding prepare
+index-none S buf e = prepared-index _ _ (S .script) (S .A) (S .B) buf (S .r1, S .r2) refl e
+
+-- ---- refused
+
+unless-some : (n : ℕ) (f : Fault) (s : State) (a : Answer) → n ≢ 0 → unless n f s a ≡ refused f s
+unfolding unless
+unless-some zero f s a h = absurd (h refl)
+unless-some (suc n) f s a h = refl
+
+turned-down : (S : Stage) (buf : List ℕ) → P S buf .number ≢ 0 → TurnedDown S buf (ran S buf)
+unfolding together prepared trio-preparation given fresh
+turned-down S buf h =
+    let p = demand1 .preparing-unchanged (S .script) (S .A) (S .B) buf (S .r1, S .r2) h in
+    record {
+      number = refl;
+      index = refl;
+      deals = p .2;
+      masks = p .0;
+      buffer = p .1;
+      one = unless-some (P S buf .number) (P S buf .number, P S buf .index) (given (S .rm, S .r1)) _ h;
+      two = unless-some (P S buf .number) (P S buf .number, P S buf .index) (given (S .rm, S .r2)) _ h;
+    }
+
+-- ---- accepted
 
 module _ (S : Stage) (tidy : Orderly (S .script)) (buf : List ℕ) (done : P S buf .number ≡ 0) where
   -- every order is behind a place that is past all of them
@@ -69,13 +107,14 @@ module _ (S : Stage) (tidy : Orderly (S .script)) (buf : List ℕ) (done : P S b
   -- a host at the end
   record Last (a : Answer) : Type 0 where
     pub number : a .number ≡ 0
+    pub index : a .index ≡ 0
     pub spoken : a .spoken ≡ script-cost (S .script) .b
     pub word : a .word ≡ 0
     pub order : a .state .order ≡ orders-in (S .script)
 
   last-of : (a : Answer) (l : Pair) → a ≡ ended (lent-of S) l → Last a
   unfolding ended
-  last-of a l e = rw e (record { number = refl; spoken = refl; word = refl; order = refl })
+  last-of a l e = rw e (record { number = refl; index = refl; spoken = refl; word = refl; order = refl })
 
   module _ (E : List ℕ) (one two : State) (p1 : held S one ≡ (S .rm, S .r1)) (p2 : held S two ≡ (S .rm, S .r2)) where
     begins : Begins S (outset S buf one two)
@@ -103,7 +142,8 @@ module _ (S : Stage) (tidy : Orderly (S .script)) (buf : List ℕ) (done : P S b
         let R = wide-on S (begin begins) (W .run) in
         record {
           whole = W;
-          accepted = (done, a .number, b .number);
+          numbers = (done, a .number, b .number);
+          indices = (index-none S buf done, a .index, b .index);
           deals = buffers .reported S _ _ buf _ _ (begin begins) done;
           buffer = buffers .written S _ _ buf _ _ (begin begins) done;
           said1 = in-order .all-said-1 S tidy _ _ _ _ _ _ _ R (a .order);
@@ -122,4 +162,5 @@ trio-ran =
       job-run = λ S E buf one two p1 p2 i.
           found-run (staged 32 S) (job-orderly 32 (S .job) (S .table)) buf (whole .prepares (staged 32 S) buf (S .r1, S .r2) (whole .accepted-job S buf .0 i)) E
           one two p1 p2;
+      refused = λ S buf h. turned-down S buf h;
     }

@@ -1,14 +1,16 @@
 -- What `together` gives is what the three hosts hold at the end of a run, with its counts and its words. Assumes
 -- nothing.
 use mathlib.Core.Path.{_≡_}
+use mathlib.Core.Logic.{_≢_}
 use mathlib.Core.List.{List, reverse}
 use Prim.Native.Nat.{ℕ, suc}
 use lib.ListN.{length}
 use Rattle.parties.specs.Scripts.{Orderly}
-use Rattle.parties.specs.Calls.{State}
-use Rattle.runs.specs.Runs.{Stage, Setting, staged, World, held, buffer-of, Accepted}
+use Rattle.gates.specs.Parties.{Pair}
+use Rattle.parties.specs.Calls.{State, Answer}
+use Rattle.runs.specs.Runs.{Stage, Setting, staged, World, preparation, held, buffer-of, Accepted}
 use Rattle.runs.specs.Conditions.{PreparationIs}
-use Rattle.runs.specs.Demand1.{job-terms}
+use Rattle.runs.specs.Demand1.{job-terms, returned}
 use Rattle.runs.specs.Demand2.{words-of-1, words-of-2}
 use Rattle.runs.specs.Buffers.{deals-of, filled}
 use Rattle.runs.specs.Whole.{WholeRun, outset}
@@ -23,7 +25,8 @@ pub record RunTo (S : Stage) (E : List ℕ) (v : World) (t : Trio) : Type 0 wher
   -- the run: host 0 then holds these masks and this buffer, hosts 1 and 2 these states, and every order is finished
   pub whole : WholeRun S E v (t .masks) (t .buffer) (t .one .state) (t .two .state)
   -- no call of it was refused
-  pub accepted : (t .number ≡ 0) × (t .one .number ≡ 0) × (t .two .number ≡ 0)
+  pub numbers : (t .number ≡ 0) × (t .one .number ≡ 0) × (t .two .number ≡ 0)
+  pub indices : (t .index ≡ 0) × (t .one .index ≡ 0) × (t .two .index ≡ 0)
   -- "preparation reports the deals it wrote", which stand in front of the buffer
   pub deals : t .deals ≡ length (deals-of S)
   pub buffer : t .buffer ≡ filled S (buffer-of v)
@@ -34,6 +37,20 @@ pub record RunTo (S : Stage) (E : List ℕ) (v : World) (t : Trio) : Type 0 wher
   -- and reports as many as come before that 0
   pub spoken1 : suc (t .one .spoken) ≡ length (whole .said1)
   pub spoken2 : suc (t .two .spoken) ≡ length (whole .said2)
+
+-- the answer of a host that did not start: the preparation's number and index, and the registers as they were given
+abbrev pub not-started : Trio → Pair → Answer
+not-started t r = record { number = t .number; index = t .index; spoken = 0; word = 0; state = returned r }
+
+-- t is the preparation's refusal: nothing is written, and the hosts hold what they were given
+pub record TurnedDown (S : Stage) (buf : List ℕ) (t : Trio) : Type 0 where
+  pub number : t .number ≡ preparation S buf (S .r1, S .r2) .number
+  pub index : t .index ≡ preparation S buf (S .r1, S .r2) .index
+  pub deals : t .deals ≡ 0
+  pub masks : t .masks ≡ (S .r1, S .r2)
+  pub buffer : t .buffer ≡ buf
+  pub one : t .one ≡ not-started t (S .rm, S .r1)
+  pub two : t .two ≡ not-started t (S .rm, S .r2)
 
 pub record Ran : Type 0 where
   -- where it is not refused, from any registers that open, whatever the hosts keep beside them
@@ -48,3 +65,5 @@ pub record Ran : Type 0 where
       → held (staged 32 S) two ≡ (S .rm, S .r2)
       → PreparationIs (job-terms (S .job) (S .table)) (S .A) (S .B) buffer 0 0
       → RunTo (staged 32 S) E (outset (staged 32 S) buffer one two) (ran (staged 32 S) buffer)
+  -- and where it is refused
+  pub refused : (S : Stage) (buffer : List ℕ) → ran S buffer .number ≢ 0 → TurnedDown S buffer (ran S buffer)
