@@ -17,6 +17,7 @@ pub mod Demand3
 pub mod Placed
 pub mod Numbers
 pub mod Demand1
+pub mod Completed
 pub mod Counts
 pub mod Demand2
 pub mod Written

@@ -28,7 +28,7 @@ abbrev pub steps-in : Found → ℕ
 steps-in nowhere = 0
 steps-in (found ss c) = length ss
 
-here-self : (c : Cursor) → here (c .order) (c .turn) c ≡ true
+pub here-self : (c : Cursor) → here (c .order) (c .turn) c ≡ true
 here-self c = go (eqb (c .order) (c .order)) (eqb (c .turn) (c .turn)) (eqb-refl (c .order)) (eqb-refl (c .turn))
   where
     go : (a b : Bool) → T a → T b → (a && b) ≡ true
@@ -37,7 +37,7 @@ here-self c = go (eqb (c .order) (c .order)) (eqb (c .turn) (c .turn)) (eqb-refl
     go false true h k = absurd h
     go false false h k = absurd h
 
-here-other : (o x : ℕ) (c : Cursor) → (c .order ≡ o → c .turn ≡ x → ⊥) → here o x c ≡ false
+pub here-other : (o x : ℕ) (c : Cursor) → (c .order ≡ o → c .turn ≡ x → ⊥) → here o x c ≡ false
 here-other o x c n = go (eqb (c .order) o) (eqb (c .turn) x) (eqb→eq (c .order) o) (eqb→eq (c .turn) x)
   where
     go : (a b : Bool) → (T a → c .order ≡ o) → (T b → c .turn ≡ x) → (a && b) ≡ false
@@ -47,11 +47,11 @@ here-other o x c n = go (eqb (c .order) o) (eqb (c .turn) x) (eqb→eq (c .order
     go false false h k = refl
 
 -- a place does not come again: one cursor is at most as far as another
-data Upto (o x : ℕ) (c : Cursor) : Type 0 where
+pub data Upto (o x : ℕ) (c : Cursor) : Type 0 where
   earlier : o < c .order → Upto o x c
   level : o ≡ c .order → x ≤ c .turn → Upto o x c
 
-upto-past : (o x : ℕ) (y : Step) (c : Cursor) → Upto o x c → Upto o x (past y c)
+pub upto-past : (o x : ℕ) (y : Step) (c : Cursor) → Upto o x c → Upto o x (past y c)
 unfolding past
 upto-past o x (local d m l) c u = u
 upto-past o x (deal d f) c (earlier h) = earlier h
@@ -61,7 +61,7 @@ upto-past o x (exchange d e) c (level p h) = level p (omega arith)
 upto-past o x end c (earlier h) = earlier (omega arith)
 upto-past o x end c (level p h) = earlier (omega arith)
 
-upto-not : (o x : ℕ) (c : Cursor) → Upto o (suc x) c → o ≡ c .order → x ≡ c .turn → ⊥
+pub upto-not : (o x : ℕ) (c : Cursor) → Upto o (suc x) c → o ≡ c .order → x ≡ c .turn → ⊥
 upto-not o x c (earlier h) p q = omega arith
 upto-not o x c (level e h) p q = omega arith
 

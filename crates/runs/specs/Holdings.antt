@@ -1,5 +1,5 @@
--- The very words that the hosts hold, wherever they stand in a run: of a slot that the order at hand does not write, those
--- of the joint walk just before that order; and the masks that the preparation returned. Assumes nothing.
+-- The very words that the hosts hold, wherever they stand in a run: of a slot that the order at hand does not write,
+-- those of the joint walk just before that order; and the masks that the preparation returned. Assumes nothing.
 use mathlib.Core.Path.{_≡_}
 use mathlib.Core.Bool.{false}
 use mathlib.Core.List.{List}
@@ -24,8 +24,8 @@ abbrev pub Spared : Setting → (q i : ℕ) → Type 0
 Spared S q i = q < length (orders (S .job)) → eqb i (order-of S q .target) ≡ false
 
 pub record Holdings : Type 0 where
-  -- "the register keeps that until an order writes it", "host 1 holds m, L1; host 2 holds m, L2": the state that the last
-  -- call returned, at whatever place
+  -- "the register keeps that until an order writes it", "host 1 holds m, L1; host 2 holds m, L2": the state that the
+  -- last call returned, at whatever place
   pub host1 : (S : Stage) (cs : List Call) (z : Dealer) (buf : List ℕ) (s : State) (t : List Pair) (said : List Spoken)
       (two : Side) → Run S cs (world z buf (going s t said) two) → (i : ℕ) → Unwritten i (s .order) (S .script .steps)
       → (at (s .m) i ≡ share-before S (s .order) i .m) × (at (s .mask) i ≡ share-before S (s .order) i .l1)

@@ -4,6 +4,7 @@ pub mod Demand3
 pub mod Conditions
 pub mod Numbers
 pub mod Demand1
+pub mod Completed
 pub mod Demand2
 pub mod Returned
 pub mod Holdings

@@ -1,0 +1,78 @@
+-- A call that meets no condition does its work, whatever it is lent and given. Assumes nothing.
+use mathlib.Core.Path.{_≡_, refl, sym, ap, ap₂, _∙_}
+use mathlib.Core.List.{List, [], _∷_, _++_}
+use Prim.Native.Nat.{ℕ, zero, suc}
+use native.Mathlib.Omega.{arith}
+use lib.ListN.{length, take, drop}
+use Rattle.gates.specs.Steps.{Exchange, Step, local, deal, exchange, end, Cursor, origin, past}
+use Rattle.gates.specs.Walk.{far}
+use Rattle.gates.specs.Parties.{Pair}
+use Rattle.jobs.specs.Job.{Fault}
+use Rattle.parties.specs.Scripts.{Script}
+use Rattle.parties.specs.Places.{Found, found, seek}
+use Rattle.parties.specs.Lent.{Lent, party-of, dealer-fault}
+use Rattle.parties.specs.Calls.{State, Answer, Prepared, fresh, unless, start-walk, start, hear-walk, place-fault, found-of, resume, hear, script-deals, prepare-walk, prepared, prepare}
+use Rattle.runs.specs.Completed.{walks-on, Completed}
+use Rattle.runs.proofs.Places.{here-self, here-other, Upto, level, upto-past, upto-not}
+use Rattle.runs.proofs.Refusals.{start-none, hear-none}
+
+-- ---- `seek` finds the product or refresh behind the steps pre
+
+upto-far : (o x : ℕ) (ss : List Step) (c : Cursor) → Upto o x c → Upto o x (far ss c)
+unfolding far
+upto-far o x [] c u = u
+upto-far o x (y ∷ ss) c u = upto-far o x ss (past y c) (upto-past o x y c u)
+
+behind : (d : ℕ) (e : Exchange) (c : Cursor) → Upto (c .order) (suc (c .turn)) (past (exchange d e) c)
+unfolding past
+behind d e c = level refl (omega arith)
+
+seek-to : (pre ss : List Step) (d : ℕ) (e : Exchange) (c : Cursor)
+    → seek (far pre c .order) (far pre c .turn) (pre ++ (exchange d e ∷ ss)) c ≡ found (exchange d e ∷ ss) (far pre c)
+unfolding seek far
+seek-to [] ss d e c = rw (here-self c)
+seek-to (local d′ m l ∷ pre) ss d e c = seek-to pre ss d e (past (local d′ m l) c)
+seek-to (deal d′ f ∷ pre) ss d e c = seek-to pre ss d e (past (deal d′ f) c)
+seek-to (exchange d′ e′ ∷ pre) ss d e c =
+    rw (here-other (far pre (past (exchange d′ e′) c) .order) (far pre (past (exchange d′ e′) c) .turn) c
+    (λ p q. upto-not (c .order) (c .turn) (far pre (past (exchange d′ e′) c)) (upto-far (c .order) (suc (c .turn)) pre (past (exchange d′ e′) c) (behind d′ e′ c)) p q))
+    (seek-to pre ss d e (past (exchange d′ e′) c))
+seek-to (end ∷ pre) ss d e c = seek-to pre ss d e (past end c)
+
+-- ---- the three calls
+
+prepared-done : (k : ℕ) (f : Fault) (σ : Script) (A B buf : List ℕ) (r : Pair) → f .0 ≡ k → prepared k f σ A B buf r .number ≡ 0
+    → prepared k f σ A B buf r
+    ≡ record {
+      number = 0;
+      index = 0;
+      deals = length (script-deals σ A B r);
+      masks = (take (σ .slots) (prepare-walk σ A B r .state .0), take (σ .slots) (prepare-walk σ A B r .state .1));
+      buffer = script-deals σ A B r ++ drop (length (script-deals σ A B r)) buf;
+    }
+unfolding prepared
+prepared-done zero f σ A B buf r e h = refl
+prepared-done (suc k) f σ A B buf r e h = absurd (omega arith)
+
+resumed : (L : Lent) (s : State) (v : ℕ) (ss : List Step) (c : Cursor) (d : ℕ) (e : Exchange)
+    → resume (party-of L) s v (found (exchange d e ∷ ss) c) ≡ walks-on L ss (past (exchange d e) c) (party-of L .hear d e c (s .m, s .mask) v)
+unfolding resume place-fault unless hear-walk
+resumed L s v ss c d e = refl
+
+module _ (L : Lent) (s : State) (v : ℕ) (pre ss : List Step) (d : ℕ) (e : Exchange) (is : L .script .steps ≡ pre ++ (exchange d e ∷ ss))
+    (o : s .order ≡ far pre origin .order) (x : s .turn ≡ far pre origin .turn) where
+  found-there : found-of L s ≡ found (exchange d e ∷ ss) (far pre origin)
+  unfolding found-of
+  found-there = rw (o, x, is) (seek-to pre ss d e origin)
+
+  heard : hear L s v .number ≡ 0 → hear L s v ≡ walks-on L ss (past (exchange d e) (far pre origin)) (party-of L .hear d e (far pre origin) (s .m, s .mask) v)
+  heard h = hear-none L s v h .1 ∙ ap {B = Answer} (resume (party-of L) s v) found-there ∙ resumed L s v ss (far pre origin) d e
+
+pub completed : Completed
+unfolding prepare script-deals prepare-walk fresh start-walk
+completed =
+    record {
+      preparing = λ σ A B buf r h. prepared-done (dealer-fault σ A B buf .0) (dealer-fault σ A B buf) σ A B buf r refl h;
+      starting = λ L r h. start-none L r h .1;
+      hearing = λ L s v pre ss d e is o x h. heard L s v pre ss d e is o x h;
+    }

@@ -1,0 +1,52 @@
+-- "every other call completes its work": what a call that meets no condition answers, whatever it is lent and whatever
+-- state it is given, in a run or outside one. Assumes nothing.
+use mathlib.Core.Path.{_≡_}
+use mathlib.Core.List.{List, [], _∷_, _++_}
+use Prim.Native.Nat.{ℕ}
+use lib.ListN.{length, take, drop, replicate}
+use Rattle.gates.specs.Steps.{Exchange, Step, exchange, Cursor, origin, past}
+use Rattle.gates.specs.Walk.{walk, whole, far}
+use Rattle.gates.specs.Parties.{Pair, act0, deals}
+use Rattle.parties.specs.Scripts.{Script}
+use Rattle.parties.specs.Lent.{Lent, party-of}
+use Rattle.parties.specs.Calls.{State, Answer, Prepared, report, start, hear, prepare}
+
+-- the lanes at the start: what is given, with eight slots of 0 behind it for the words kept between gates
+abbrev pub with-kept : Pair → Pair
+with-kept r = (r .0 ++ replicate 8 0, r .1 ++ replicate 8 0)
+
+-- the host walks these steps from the cursor c on, up to the next product or refresh or to the end, and answers there
+abbrev pub walks-on : Lent → List Step → Cursor → Pair → Answer
+walks-on L ss c l = report (party-of L) (walk (party-of L .act) ss c l [])
+
+-- host 0's deals, and the masks that it gives back
+abbrev pub all-deals : Script → (A B : List ℕ) → Pair → List ℕ
+all-deals σ A B r = deals A B (σ .steps) origin (with-kept r)
+
+abbrev pub all-masks : Script → (A B : List ℕ) → Pair → Pair
+all-masks σ A B r = whole (act0 A B) (σ .steps) origin (with-kept r) [] .state
+
+pub record Completed : Type 0 where
+  -- "Host 0's preparation writes exactly its deals, in gate order, and gives back its masks of all registers; later
+  -- words of its buffer keep their content."
+  pub preparing : (σ : Script) (A B buf : List ℕ) (r : Pair) → prepare σ A B buf r .number ≡ 0
+      → prepare σ A B buf r
+      ≡ record {
+        number = 0;
+        index = 0;
+        deals = length (all-deals σ A B r);
+        masks = (take (σ .slots) (all-masks σ A B r .0), take (σ .slots) (all-masks σ A B r .1));
+        buffer = all-deals σ A B r ++ drop (length (all-deals σ A B r)) buf;
+      }
+  -- "Starting host 1 or 2 runs to its first product or refresh and gives the word it speaks"
+  pub starting : (L : Lent) (r : Pair) → start L r .number ≡ 0
+      → start L r ≡ walks-on L (L .script .steps) origin (with-kept r)
+  -- "hearing takes the other's word and runs to the next, or to the end", from the product or refresh e at the state's
+  -- place, behind the steps pre; "Kept words in a forged state are taken as they come."
+  pub hearing : (L : Lent) (s : State) (v : ℕ) (pre ss : List Step) (d : ℕ) (e : Exchange)
+      → L .script .steps ≡ pre ++ (exchange d e ∷ ss) → s .order ≡ far pre origin .order
+      → s .turn ≡ far pre origin .turn
+      → hear L s v .number ≡ 0
+      → hear L s v
+      ≡ walks-on L ss (past (exchange d e) (far pre origin))
+      (party-of L .hear d e (far pre origin) (s .m, s .mask) v)
