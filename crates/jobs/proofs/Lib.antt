@@ -6,4 +6,5 @@ pub mod CostTable
 pub mod Turns
 pub mod Marks
 pub mod Unused
+pub mod Plainly
 pub mod FirstFault
