@@ -16,7 +16,8 @@ use Rattle.parties.specs.Scripts.{Script, script-cost, ends, Orderly}
 use Rattle.parties.specs.Places.{Found}
 use Rattle.parties.specs.Lent.{Lent, party-of, or-else, lists-fault, lent-fault, dealer-lists-fault, dealer-fault}
 use Rattle.parties.specs.Calls.{State, Answer, report, unless, given, start-walk, start, hear-walk, place-fault, found-of, resume, hear, prepared, prepare}
-use Rattle.runs.specs.Conditions.{Place, Listed, places-from, Terms, Single, PreparationIs, of-itself, of-lists, of-buffer, prepares-well, list-needed, StartIs, stranger, of-its-own, of-its-list, of-its-deals, starts-well, end-place, HearingIs, as-starting, misplaced, ended, hears-well}
+use Rattle.runs.specs.Runs.{Among}
+use Rattle.runs.specs.Conditions.{Place, places-from, Terms, Single, PreparationIs, of-itself, of-lists, of-buffer, prepares-well, list-needed, StartIs, stranger, of-its-own, of-its-list, of-its-deals, starts-well, end-place, HearingIs, as-starting, misplaced, ended, hears-well}
 use Rattle.runs.specs.Numbers.{Told, Numbers}
 use Rattle.runs.proofs.Placed.{last-turn, Placed, a-turn, the-end, nothing, placed, last-turn-0, before-end, gates-placed}
 
@@ -161,11 +162,11 @@ module _ (L : Lent) (T : Terms) (told : Told (L .script) T) (ok : Orderly (L .sc
   end-turn = last-turn-0 all 0 (ok .closed) (λ e. refl)
 
   place-is : Starts L T told 0 0 → (n : ℕ) → Placed (s .order) (s .turn) (places-from 0 0 all) (ends all) (last-turn 0 all) n → Is n 0
-  place-is z n (a-turn h q) = rw q (hears-well z (subst (Listed (s .order, s .turn)) (told .places) h))
+  place-is z n (a-turn h q) = rw q (hears-well z (subst (Among (s .order, s .turn)) (told .places) h))
   place-is z n (the-end a b q) = rw q (ended z (ap₂ {C = Place} (λ (i j : ℕ). (i, j)) (a ∙ told .orders) (b ∙ end-turn)))
   place-is z n (nothing h g q) =
       rw q
-      (misplaced z (λ k. h (subst (Listed (s .order, s .turn)) (sym (told .places)) k))
+      (misplaced z (λ k. h (subst (Among (s .order, s .turn)) (sym (told .places)) k))
       (λ e. g (ap (λ (p : Place). p .0) e ∙ sym (told .orders)) (ap (λ (p : Place). p .1) e ∙ sym end-turn)))
 
   found-is : Starts L T told 0 0 → Is (place-fault (found-of L s)) 0
@@ -251,7 +252,7 @@ module _ (T : Terms) (single : Single (T .own)) (host : ℕ) (M D : List ℕ) wh
   one-start (starts-well h z k l) (of-its-deals a y m n) = absurd (omega (arith, l a))
   one-start (starts-well h z k l) (starts-well a y m n) = (refl, refl)
 
-  module _ (o x : ℕ) (apart : Listed (o, x) (T .places) → (o, x) ≢ end-place T) where
+  module _ (o x : ℕ) (apart : Among (o, x) (T .places) → (o, x) ≢ end-place T) where
     pub one-hearing : {n i m j : ℕ} → HearingIs T host M D (o, x) n i → HearingIs T host M D (o, x) m j → (n ≡ m) × (i ≡ j)
     one-hearing (as-starting p) (as-starting q) = one-start p q
     one-hearing (as-starting p) (misplaced z h k) = absurd (omega (arith, one-start p z .0))
@@ -271,9 +272,9 @@ module _ (T : Terms) (single : Single (T .own)) (host : ℕ) (M D : List ℕ) wh
     one-hearing (hears-well z h) (hears-well y a) = (refl, refl)
 
 -- no product or refresh has the end's place
-apart : (σ : Script) (T : Terms) → Told σ T → Orderly σ → (o x : ℕ) → Listed (o, x) (T .places) → (o, x) ≢ end-place T
+apart : (σ : Script) (T : Terms) → Told σ T → Orderly σ → (o x : ℕ) → Among (o, x) (T .places) → (o, x) ≢ end-place T
 apart σ T told ok o x h e =
-    let k : o < 0 + ends (σ .steps) = before-end (σ .steps) 0 0 o x (ok .closed) (subst (Listed (o, x)) (sym (told .places)) h) in
+    let k : o < 0 + ends (σ .steps) = before-end (σ .steps) 0 0 o x (ok .closed) (subst (Among (o, x)) (sym (told .places)) h) in
     omega (arith, k, told .orders, ap (λ (p : Place). p .0) e)
 
 pub numbers : Numbers

@@ -14,7 +14,8 @@ use Rattle.gates.specs.Meaning.{meaning, order-steps, job-steps}
 use Rattle.parties.specs.Scripts.{ends, Closed}
 use Rattle.parties.specs.Places.{Found, nowhere, found, seek}
 use Rattle.parties.specs.Calls.{place-fault}
-use Rattle.runs.specs.Conditions.{Place, Listed, places-from, speaks, order-places, gate-places}
+use Rattle.runs.specs.Runs.{Among}
+use Rattle.runs.specs.Conditions.{Place, places-from, speaks, order-places, gate-places}
 
 -- the turn at the end of steps that begin with turn t
 unfoldable pub last-turn : (t : ℕ) → List Step → ℕ
@@ -33,9 +34,9 @@ place-turn e = ap (λ (p : Place). p .1) e
 module _ (o x : ℕ) where
   -- the number n of the place (o, x), where ps are the places and (q, y) is the end
   pub data Placed (ps : List Place) (q y n : ℕ) : Type 0 where
-    a-turn : Listed (o, x) ps → n ≡ 0 → Placed ps q y n
+    a-turn : Among (o, x) ps → n ≡ 0 → Placed ps q y n
     the-end : o ≡ q → x ≡ y → n ≡ 9 → Placed ps q y n
-    nothing : (Listed (o, x) ps → ⊥) → (o ≡ q → x ≡ y → ⊥) → n ≡ 8 → Placed ps q y n
+    nothing : (Among (o, x) ps → ⊥) → (o ≡ q → x ≡ y → ⊥) → n ≡ 8 → Placed ps q y n
 
   -- past a product or refresh that has another place
   on : (p t q y n : ℕ) (ps : List Place) → (p ≡ o → t ≡ x → ⊥) → Placed ps q y n → Placed ((p, t) ∷ ps) q y n
@@ -43,7 +44,7 @@ module _ (o x : ℕ) where
   on p t q y n ps f (the-end a b z) = the-end a b z
   on p t q y n ps f (nothing h g z) = nothing none g z
     where
-      none : Listed (o, x) ((p, t) ∷ ps) → ⊥
+      none : Among (o, x) ((p, t) ∷ ps) → ⊥
       none (inl e) = f (omega (arith, place-order e)) (omega (arith, place-turn e))
       none (inr k) = h k
 
@@ -85,7 +86,7 @@ last-turn-0 (deal d f ∷ ss) t c h = last-turn-0 ss t (c .1) (λ e. absurd (ome
 last-turn-0 (exchange d e ∷ ss) t c h = last-turn-0 ss (suc t) (c .1) (λ k. absurd (omega (arith, c .0)))
 last-turn-0 (end ∷ ss) t c h = last-turn-0 ss 0 (c .1) (λ e. refl)
 
-pub before-end : (ss : List Step) (p t o x : ℕ) → Closed ss → Listed (o, x) (places-from p t ss) → o < p + ends ss
+pub before-end : (ss : List Step) (p t o x : ℕ) → Closed ss → Among (o, x) (places-from p t ss) → o < p + ends ss
 unfolding places-from ends
 before-end [] p t o x c h = absurd h
 before-end (local d m l ∷ ss) p t o x c h = before-end ss p t o x (c .1) h

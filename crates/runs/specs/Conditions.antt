@@ -12,15 +12,12 @@ use Rattle.gates.specs.Costs.{Cost}
 use Rattle.gates.specs.declared.Gate.{Gate}
 use Rattle.gates.specs.declared.Gate.the-variants.{Add, Sub, Xor, Mul, And, Refresh, Scale, Plus, Up, Bit, Const}
 use Rattle.gates.specs.declared.Gate.the-variants.{Public, Deal, DealBits}
+use Rattle.runs.specs.Runs.{Among}
 
 -- ---- places: "(order, and which of its products and refreshes, both from 0; the end is the number of orders and 0)"
 
 abbrev pub Place : Type 0
 Place = ℕ × ℕ
-
-abbrev pub Listed : Place → List Place → Type 0
-Listed p [] = ⊥
-Listed p (q ∷ l) = (p ≡ q) ⊎ Listed p l
 
 -- the places of the products and refreshes among steps, the first of which would have the place (o, x)
 unfoldable pub places-from : (o x : ℕ) → List Step → List Place
@@ -113,8 +110,8 @@ pub data HearingIs (T : Terms) (h : ℕ) (masks deals : List ℕ) (p : Place) : 
   -- 1 to 7
   as-starting : {n i : ℕ} → StartIs T h masks deals (suc n) i → HearingIs T h masks deals p (suc n) i
   -- "8. The state's place is neither the end nor a product or refresh of this job."
-  misplaced : StartIs T h masks deals 0 0 → (Listed p (T .places) → ⊥) → p ≢ end-place T
+  misplaced : StartIs T h masks deals 0 0 → (Among p (T .places) → ⊥) → p ≢ end-place T
       → HearingIs T h masks deals p 8 0
   -- "9. Hearing is called at the end."
   ended : StartIs T h masks deals 0 0 → p ≡ end-place T → HearingIs T h masks deals p 9 0
-  hears-well : StartIs T h masks deals 0 0 → Listed p (T .places) → HearingIs T h masks deals p 0 0
+  hears-well : StartIs T h masks deals 0 0 → Among p (T .places) → HearingIs T h masks deals p 0 0

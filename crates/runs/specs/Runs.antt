@@ -63,7 +63,7 @@ Spoken = ℕ × ℕ × ℕ
 abbrev pub utter : State → ℕ → Spoken
 utter s w = (s .order, s .turn, w)
 
-abbrev pub Among : Spoken → List Spoken → Type 0
+abbrev pub Among : {T : Type 0} → T → List T → Type 0
 Among p [] = ⊥
 Among p (q ∷ l) = (p ≡ q) ⊎ Among p l
 
