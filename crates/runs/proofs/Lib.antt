@@ -34,3 +34,4 @@ pub mod Readings
 pub mod ByKind
 pub mod Same
 pub mod ByHand
+pub mod Fronts

@@ -177,7 +177,7 @@ module _ {S : Type 0} (act : Step → Cursor → S → S) (all : List Step) (s�
   whole-pos (suc n) = whole-pos n ∙ whole-one (pos n .rest) (pos n .cur) (pos n .state) (pos n .trail)
 
   -- the last trail begins with every trail on the way
-  trail-grows : (ss : List Step) (c : Cursor) (s : S) (t : List S) → (u : List S) × (whole act ss c s t .trail ≡ t ++ u)
+  pub trail-grows : (ss : List Step) (c : Cursor) (s : S) (t : List S) → (u : List S) × (whole act ss c s t .trail ≡ t ++ u)
   unfolding whole
   trail-grows [] c s t = ([], sym (append-nil t))
   trail-grows (local d m l ∷ ss) c s t = trail-grows ss _ _ t

@@ -16,3 +16,4 @@ pub mod ReturnedCurves
 pub mod Readings
 pub mod ByKind
 pub mod ByHand
+pub mod Fronts
