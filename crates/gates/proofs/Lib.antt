@@ -6,3 +6,4 @@ pub mod Duet
 pub mod Floors
 pub mod Others
 pub mod Spoken
+pub mod Formulas
