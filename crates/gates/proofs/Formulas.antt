@@ -1,23 +1,21 @@
--- Each gate of the joint walk has the effect that document 01 gives it; the lists are used in turn. Assumes nothing.
+-- Each gate of the joint walk has the effect that document 01 gives it. Assumes nothing.
 use mathlib.Core.Logic.{_≢_}
-use mathlib.Core.Path.{_≡_, refl, ap}
-use mathlib.Core.List.{List, [], _∷_, _++_}
-use Prim.Native.Nat.{ℕ, zero, suc, _+_}
-use native.Mathlib.Nat.{add-zero, zero-add}
+use mathlib.Core.Path.{_≡_, refl}
+use mathlib.Core.List.{List, [], _∷_}
+use Prim.Native.Nat.{ℕ, suc}
 use native.Mathlib.Omega.{arith}
 use lib.ListN.{set}
 use lib.Seq.{getD-set-same, getD-set-other}
 use Rattle.words.specs.Ring.{Ops}
 use Rattle.shares.specs.Gates.{Share}
 use Rattle.gates.specs.Steps as Steps
-use Rattle.gates.specs.Steps.{Lane, at, Step, local, exchange, end, Cursor, origin, past}
+use Rattle.gates.specs.Steps.{Lane, at, Step, local, exchange, end, Cursor, past}
 use Rattle.gates.specs.Steps.{say1, say2, meet, part2, new-at, past-deal, emit}
 use Rattle.gates.specs.Meaning.{meaning}
 use Rattle.gates.specs.Parties.{Triple, share, Slot, dealt, joint1, joint2, act}
 use Rattle.gates.specs.Duet.{utter}
-use Rattle.gates.specs.Costs.{plus, step-cost, cost}
-use Rattle.gates.specs.Formulas.{a-product, a-refresh, alone, Has, Formulas, places, used, InTurn}
-use Rattle.gates.proofs.Needs.{past-used}
+use Rattle.gates.specs.Costs.{step-cost}
+use Rattle.gates.specs.Formulas.{a-product, a-refresh, alone, Has, Formulas}
 
 -- ---- one slot written on the three lanes
 
@@ -167,31 +165,4 @@ formulas A B c j w =
       bit-of = λ d a n h k. has-local A B c j d _ _;
       plus = λ d a n h k. has-local A B c j d _ _;
       ends = λ d. has-end A B c j d;
-    }
-
--- ---- each list in turn
-
-places-append : (i n m : ℕ) → places i n ++ places (i + n) m ≡ places i (n + m)
-unfolding places
-places-append i zero m = rw (add-zero i, zero-add m)
-places-append i (suc n) m =
-    let e : suc n + m ≡ suc (n + m) = omega arith in
-    let f : i + suc n ≡ suc i + n = omega arith in
-    rw (e, f) (ap (λ (l : List ℕ). i ∷ l) (places-append (suc i) n m))
-
-module _ (count : Step → ℕ) (next : Cursor → ℕ) (moves : (x : Step) (c : Cursor) → next (past x c) ≡ next c + count x)
-    (total : List Step → ℕ) (none : total [] ≡ 0)
-    (more : (x : Step) (ss : List Step) → total (x ∷ ss) ≡ count x + total ss) where
-  from : (ss : List Step) (c : Cursor) → used count next ss c ≡ places (next c) (total ss)
-  unfolding used places
-  from [] c = rw none
-  from (x ∷ ss) c = rw (from ss (past x c), moves x c, more x ss) (places-append (next c) (count x) (total ss))
-
-pub in-turn : (ss : List Step) → InTurn ss
-unfolding cost plus
-in-turn ss =
-    record {
-      a = from _ _ (λ x c. past-used x c .a) (λ r. cost r .a) refl (λ x r. refl) ss origin;
-      b = from _ _ (λ x c. past-used x c .b) (λ r. cost r .b) refl (λ x r. refl) ss origin;
-      deals = from _ _ (λ x c. past-used x c .deals) (λ r. cost r .deals) refl (λ x r. refl) ss origin;
     }
