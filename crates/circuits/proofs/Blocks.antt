@@ -20,9 +20,9 @@ use Rattle.gates.specs.declared.Gate.{Gate}
 use Rattle.gates.specs.declared.Gate.the-variants.{Sub, Xor, Mul, And, Bit, Const, Public, DealBits}
 use Rattle.gates.specs.Steps.{at}
 use Rattle.gates.specs.Meaning.{part, dealt-of, meaning}
-use Rattle.gates.specs.Parties.{act}
+use Rattle.gates.specs.Parties.{share, act}
 use Rattle.circuits.specs.Programs.{update-gates, rounds, adder, to-number, relu-program}
-use Rattle.circuits.proofs.Gates.{share, Fits}
+use Rattle.circuits.proofs.Gates.{Fits}
 use Rattle.circuits.proofs.Points.{target, Point, after, afters, afters-append, num, bin, m-of, l1-of, l2-of, keep-m, keep-share, keep-num, keep-bin}
 use Rattle.circuits.proofs.Targets.{at-add, at-sub, at-xor, at-mul, at-and, at-scale, at-up, at-bit, at-const, at-public, at-public-bits, at-deal, at-deal-bits}
 

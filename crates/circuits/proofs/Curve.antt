@@ -17,10 +17,11 @@ use Rattle.words.proofs.Signed.{signed-low, signed-high, top-bit}
 use Rattle.shares.specs.Gates.{value}
 use Rattle.gates.specs.declared.Gate.{Gate}
 use Rattle.gates.specs.declared.Gate.the-variants.{Add, Scale, Plus, Const}
+use Rattle.gates.specs.Parties.{share}
 use Rattle.tables.specs.Table.{Row}
 use Rattle.curves.specs.Curve.{relu, slope-after, coefficient, relu-word, word-sum, word-curve}
 use Rattle.circuits.specs.Programs.{relu-program, row-program, rows-program, sum-program}
-use Rattle.circuits.proofs.Gates.{share, Fits}
+use Rattle.circuits.proofs.Gates.{Fits}
 use Rattle.circuits.proofs.Points.{not-temporary, target, Point, after, afters, afters-append, num, keep-share, keep-num}
 use Rattle.circuits.proofs.Targets.{at-add, at-scale, at-plus, at-const}
 use Rattle.circuits.proofs.Blocks.{relu-opens, relu-keeps}

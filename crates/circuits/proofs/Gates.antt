@@ -1,7 +1,6 @@
 -- What each gate opens, and what it leaves alone, on the joint walk. Assumes nothing.
 use mathlib.Core.Path.{_≡_, refl}
 use Prim.Native.Nat.{ℕ, _^_, _<_}
-use lib.ListN.{length}
 use Rattle.words.specs.Ring.{Ops}
 use Rattle.words.specs.Words.{add, sub, mul}
 use Rattle.words.proofs.Solver.{exprs, Expr}
@@ -11,10 +10,6 @@ use Rattle.shares.specs.Gates.{Share, value}
 use Rattle.gates.specs.Steps.{Lane, at}
 use Rattle.gates.specs.Parties.{Triple}
 
--- the share in slot i
-abbrev pub share : Triple → ℕ → Share ℕ
-share j i = record { m = at (j .0) i; l1 = at (j .1) i; l2 = at (j .2) i }
-
 -- every word of a lane is below 2^w
 abbrev pub Fits : ℕ → Lane → Type 0
 Fits w l = (i : ℕ) → at l i < 2 ^ w
@@ -23,12 +18,6 @@ pub record FitsAll (w : ℕ) (j : Triple) : Type 0 where
   pub m : Fits w (j .0)
   pub l1 : Fits w (j .1)
   pub l2 : Fits w (j .2)
-
--- slot d is a slot of all three lanes
-pub record Slot (j : Triple) (d : ℕ) : Type 0 where
-  pub m : d < length (j .0)
-  pub l1 : d < length (j .1)
-  pub l2 : d < length (j .2)
 
 -- ---- linear steps, over any carrier: what the three lanes' words open
 

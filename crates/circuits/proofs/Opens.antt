@@ -19,13 +19,13 @@ use Rattle.gates.specs.declared.Gate.{Gate}
 use Rattle.gates.specs.declared.Gate.the-variants.{Add, Sub, Mul, Refresh, Scale, Plus}
 use Rattle.gates.specs.Steps.{at, new-at}
 use Rattle.gates.specs.Meaning.{meaning}
-use Rattle.gates.specs.Parties.{act}
+use Rattle.gates.specs.Parties.{share, act}
 use Rattle.tables.specs.Table.{Row}
 use Rattle.curves.specs.Curve.{relu-word, word-curve}
 use Rattle.circuits.specs.Programs.{relu-program, slack-program, one-bit-program, exact-program, sum-program, curve-exact, curve-one-bit}
 use Rattle.circuits.specs.Orders.{curve-program, kinds}
 use Rattle.circuits.specs.Opens.{curve-value, values}
-use Rattle.circuits.proofs.Gates.{share, Fits}
+use Rattle.circuits.proofs.Gates.{Fits}
 use Rattle.circuits.proofs.Points.{not-temporary, Other, other, target, Point, after, afters, afters-append, num, m-of, l1-of, l2-of, keep-share}
 use Rattle.circuits.proofs.Targets.{at-add, at-sub, at-mul, at-scale, at-plus, at-refresh}
 use Rattle.circuits.proofs.Blocks.{relu-opens, relu-keeps}

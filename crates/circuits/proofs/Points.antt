@@ -26,8 +26,9 @@ use Rattle.gates.specs.declared.Gate.{Gate}
 use Rattle.gates.specs.declared.Gate.the-variants.{Add, Sub, Xor, Mul, And, Refresh, Scale, Plus, Up, Bit, Const, Public, Deal, DealBits}
 use Rattle.gates.specs.Steps.{Lane, at, say1, say2, meet, part2, new-at, Cursor, past}
 use Rattle.gates.specs.Meaning.{part, dealt-of, meaning}
-use Rattle.gates.specs.Parties.{Triple, joint1, joint2, act}
-use Rattle.circuits.proofs.Gates.{share, Fits, FitsAll, Slot}
+use Rattle.gates.specs.Parties.{Triple, share, Slot, joint1, joint2, act}
+use Rattle.gates.proofs.Formulas.{share-path}
+use Rattle.circuits.proofs.Gates.{Fits, FitsAll}
 
 -- ---- bounds
 
@@ -229,9 +230,6 @@ module _ (w : ℕ) (A B : List ℕ) (hA : Fits w A) (hB : Fits w B) where
   l2-of G i = at (G .j .2) i
 
   -- ---- other slots
-
-  share-path : {x y : Share ℕ} → x .m ≡ y .m → x .l1 ≡ y .l1 → x .l2 ≡ y .l2 → x ≡ y
-  share-path p q r = λ i. record { m = p i; l1 = q i; l2 = r i }
 
   module _ (g : Gate) (G : Point) (i : ℕ) (e : eqb i (target g) ≡ false) where
     pub keep-m : m-of (after g G) i ≡ m-of G i

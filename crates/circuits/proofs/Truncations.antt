@@ -16,8 +16,9 @@ use Rattle.gates.specs.declared.Dealt.the-variants.{OfNegated}
 use Rattle.gates.specs.declared.Gate.{Gate}
 use Rattle.gates.specs.declared.Gate.the-variants.{Add, Sub, Scale, Plus, Bit, Public, Deal}
 use Rattle.gates.specs.Meaning.{part, dealt-of}
+use Rattle.gates.specs.Parties.{share}
 use Rattle.circuits.specs.Programs.{adder, to-number, slack-program, one-bit-program, exact-program}
-use Rattle.circuits.proofs.Gates.{share, Fits}
+use Rattle.circuits.proofs.Gates.{Fits}
 use Rattle.circuits.proofs.Points.{Other, target, Point, after, afters, afters-append, num, bin, m-of, l1-of, l2-of, keep-m, keep-l1, keep-l2, keep-share, keep-num, keep-bin}
 use Rattle.circuits.proofs.Targets.{at-add, at-sub, at-mul, at-scale, at-plus, at-bit, at-public, at-deal, m-plus, l1-plus, l2-plus}
 use Rattle.circuits.proofs.Blocks.{digit-bit, number-opens, number-keeps, adder-opens, adder-keeps}

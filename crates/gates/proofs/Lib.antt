@@ -1,7 +1,9 @@
 pub mod Seen
 pub mod Lanes
+pub mod Formulas
 pub mod Needs
 pub mod Uses
+pub mod Turns
 pub mod Duet
 pub mod Floors
 pub mod Others

@@ -5,3 +5,4 @@ pub mod Parties
 pub mod Speech
 pub mod Costs
 pub mod Duet
+pub mod Formulas

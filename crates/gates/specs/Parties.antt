@@ -1,8 +1,9 @@
 -- The three parties' steps on their lanes and the words that they speak; and the joint walk's, on all three lanes at once. Assumes nothing.
 use mathlib.Core.Path.{_≡_}
 use mathlib.Core.List.{List, [], _∷_}
-use Prim.Native.Nat.{ℕ, suc}
-use lib.ListN.{set}
+use Prim.Native.Nat.{ℕ, suc, _<_}
+use lib.ListN.{length, set}
+use Rattle.shares.specs.Gates.{Share}
 use Rattle.gates.specs.Steps.{Lane, at, Exchange, Step, local, deal, exchange, end, say1, say2, meet, part2, new-at, emit, Cursor, past}
 
 -- two lanes of a party: L1 and L2, or m and a mask
@@ -12,6 +13,16 @@ Pair = Lane × Lane
 -- m, L1, L2
 abbrev pub Triple : Type 0
 Triple = Lane × Lane × Lane
+
+-- the share in slot i
+abbrev pub share : Triple → ℕ → Share ℕ
+share j i = record { m = at (j .0) i; l1 = at (j .1) i; l2 = at (j .2) i }
+
+-- slot d is a slot of all three lanes
+pub record Slot (j : Triple) (d : ℕ) : Type 0 where
+  pub m : d < length (j .0)
+  pub l1 : d < length (j .1)
+  pub l2 : d < length (j .2)
 
 abbrev pub of0 : Triple → Pair
 of0 j = (j .1, j .2)

@@ -11,7 +11,7 @@ use Rattle.shares.specs.Gates.{Share, value, mask}
 use Rattle.tables.specs.Table.{rows}
 use Rattle.gates.specs.Steps.{at, Step, local, deal, exchange, end, origin}
 use Rattle.gates.specs.Walk.{whole}
-use Rattle.gates.specs.Parties.{Triple, act}
+use Rattle.gates.specs.Parties.{Triple, share, act}
 use Rattle.gates.specs.Costs.{Cost, cost-of, plus}
 use Rattle.gates.specs.declared.Gate.{Gate}
 use Rattle.circuits.specs.declared.Order.{Order}
@@ -48,7 +48,7 @@ before-order S (suc q) = after-order S q
 
 -- the share in slot i
 abbrev pub slot : Triple → ℕ → Share ℕ
-slot j i = record { m = at (j .0) i; l1 = at (j .1) i; l2 = at (j .2) i }
+slot = share
 
 -- what slot i opens just before order q, and its mask there, "L = L1 + L2"
 abbrev pub value-before : Stage → (q i : ℕ) → ℕ
