@@ -15,4 +15,4 @@ row-more (suc m) n = cost-path (omega arith) (omega arith) (omega arith) (omega 
 
 pub cost-table : CostTable
 unfolding kind-cost kind-costs curve-cost
-cost-table = record { job-counts = job-counts; eight-exact = refl; eight-one-bit = refl; row-more = row-more }
+cost-table = record { job-counts = job-counts; lines = λ c n. refl; eight-exact = refl; eight-one-bit = refl; row-more = row-more }

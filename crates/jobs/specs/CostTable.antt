@@ -1,6 +1,6 @@
 -- Document 01's table of costs, and a job's counts as the sum of its orders' entries. Assumes nothing.
 use mathlib.Core.Path.{_≡_}
-use mathlib.Core.List.{List, [], _∷_}
+use mathlib.Core.List.{List, [], _∷_, map}
 use Prim.Native.Nat.{ℕ, suc}
 use lib.ListN.{length}
 use Rattle.tables.specs.Table.{rows}
@@ -17,6 +17,11 @@ table-counts n (o ∷ os) = plus (kind-cost (o .kind) (o .fourth) n) (table-coun
 pub record CostTable : Type 0 where
   -- "A job's counts .. equal .. these sums": for every job and table, turned down or not
   pub job-counts : (job table : List ℕ) → job-cost 32 job table ≡ table-counts (length (rows table)) (orders job)
+  -- "Kinds 0 to 3 use none", and the lines of kinds 4 to 9: deals, words spoken, A, B; whatever the fourth word and
+  -- rows
+  pub lines : (c n : ℕ) → map (λ (k : ℕ). kind-cost k c n) (0 ∷ 1 ∷ 2 ∷ 3 ∷ 4 ∷ 5 ∷ 6 ∷ 7 ∷ 8 ∷ 9 ∷ [])
+      ≡ cost-of 0 0 0 0 ∷ cost-of 0 0 0 0 ∷ cost-of 0 0 0 0 ∷ cost-of 0 0 0 0 ∷ cost-of 1 2 2 1 ∷ cost-of 0 2 1 1
+      ∷ cost-of 1 0 1 0 ∷ cost-of 3 2 4 1 ∷ cost-of 16 24 28 12 ∷ cost-of 14 24 26 12 ∷ []
   -- "Kind 10 is shown for 8 table rows", exact and one-bit
   pub eight-exact : kind-cost 10 0 8 ≡ cost-of 128 216 236 108
   pub eight-one-bit : kind-cost 10 1 8 ≡ cost-of 115 196 213 98

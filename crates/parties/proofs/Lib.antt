@@ -1,4 +1,3 @@
 pub mod Lists
 pub mod Scripts
-pub mod Behind
 pub mod Faults

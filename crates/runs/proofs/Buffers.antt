@@ -11,7 +11,7 @@ use Rattle.parties.specs.Lent.{dealer-fault}
 use Rattle.parties.specs.Calls.{script-deals, prepare}
 use Rattle.runs.specs.Runs.{Stage, Spoken, Dealer, idle, ready, Side, World, world, Refuses, Call, preparation, Completes, prepares, starts1, starts2, hears1, hears2, Begins, given-out, Run, begin, buffer-of}
 use Rattle.runs.specs.Strict.{Calls, none, completes, refuses}
-use Rattle.runs.specs.Buffers.{defined-deals, deals-of, filled, Buffers}
+use Rattle.runs.specs.Buffers.{defined-deals, deals-of, with-deals, Buffers}
 use Rattle.runs.proofs.Kept.{Ok, ok, not-yet, prepared-none, refuses-nothing, kept}
 use Rattle.runs.proofs.Strict.{wide-on}
 
@@ -33,7 +33,7 @@ module _ (S : Stage) where
   masks-given (ok (not-yet h) one two a) = h
 
   from-given : (r : Pair) (buf : List ℕ) → r ≡ (S .r1, S .r2) → preparation S buf r .number ≡ 0
-      → (preparation S buf r .deals ≡ length (deals-of S)) × (preparation S buf r .buffer ≡ filled S buf)
+      → (preparation S buf r .deals ≡ length (deals-of S)) × (preparation S buf r .buffer ≡ with-deals S buf)
   unfolding prepare
   from-given r buf h e =
       let f : Fault = dealer-fault (S .script) (S .A) (S .B) buf in
@@ -42,17 +42,17 @@ module _ (S : Stage) where
       (p .2 ∙ ap length d, p .1 ∙ ap (λ (l : List ℕ). l ++ drop (length l) buf) d)
 
   pub prepares-filled : {cs : List Call} {r : Pair} {buf : List ℕ} {one two : Side} → Run S cs (world (idle r) buf one two) → preparation S buf r .number ≡ 0
-      → (preparation S buf r .deals ≡ length (deals-of S)) × (preparation S buf r .buffer ≡ filled S buf)
+      → (preparation S buf r .deals ≡ length (deals-of S)) × (preparation S buf r .buffer ≡ with-deals S buf)
   prepares-filled {r = r} {buf = buf} R e = from-given r buf (masks-given (kept S R)) e
 
   -- ---- along a run
 
   abbrev Held : (buffer : List ℕ) → World → Type 0
   Held b (world (idle r) buf one two) = buf ≡ b
-  Held b (world (ready r t) buf one two) = buf ≡ filled S b
+  Held b (world (ready r t) buf one two) = buf ≡ with-deals S b
 
   held-on : {cs : List Call} {c : Call} {v v′ : World} (b : List ℕ) → Run S cs v → Completes S c v v′ → Held b v → Held b v′
-  held-on b R (prepares {r = r} {buf = buf} e) h = prepares-filled R e .1 ∙ ap (filled S) h
+  held-on b R (prepares {r = r} {buf = buf} e) h = prepares-filled R e .1 ∙ ap (with-deals S) h
   held-on b R (starts1 {z = idle r} D e) h = h
   held-on b R (starts1 {z = ready r t} D e) h = h
   held-on b R (starts2 D d e) h = h

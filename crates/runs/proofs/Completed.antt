@@ -1,5 +1,6 @@
 -- A call that meets no condition does its work, whatever it is lent and given. Assumes nothing.
 use mathlib.Core.Path.{_≡_, refl, sym, ap, ap₂, _∙_}
+use mathlib.Core.Logic.{inl, inr}
 use mathlib.Core.List.{List, [], _∷_, _++_}
 use Prim.Native.Nat.{ℕ, zero, suc}
 use native.Mathlib.Omega.{arith}
@@ -12,7 +13,9 @@ use Rattle.parties.specs.Scripts.{Script}
 use Rattle.parties.specs.Places.{Found, found, seek}
 use Rattle.parties.specs.Lent.{Lent, party-of, dealer-fault}
 use Rattle.parties.specs.Calls.{State, Answer, Prepared, fresh, unless, start-walk, start, hear-walk, place-fault, found-of, resume, hear, script-deals, prepare-walk, prepared, prepare}
-use Rattle.runs.specs.Completed.{walks-on, Completed}
+use Rattle.runs.specs.Runs.{Among}
+use Rattle.runs.specs.Conditions.{Place, places-from}
+use Rattle.runs.specs.Completed.{walks-on, Located, Completed}
 use Rattle.runs.proofs.Places.{here-self, here-other, Upto, level, upto-past, upto-not}
 use Rattle.runs.proofs.Refusals.{start-none, hear-none}
 
@@ -68,6 +71,39 @@ module _ (L : Lent) (s : State) (v : ℕ) (pre ss : List Step) (d : ℕ) (e : Ex
   heard : hear L s v .number ≡ 0 → hear L s v ≡ walks-on L ss (past (exchange d e) (far pre origin)) (party-of L .hear d e (far pre origin) (s .m, s .mask) v)
   heard h = hear-none L s v h .1 ∙ ap {B = Answer} (resume (party-of L) s v) found-there ∙ resumed L s v ss (far pre origin) d e
 
+-- ---- every place has its product or refresh
+
+past-one : (y : Step) (ss : List Step) (c : Cursor) (o x : ℕ) → Located ss (past y c) o x → Located (y ∷ ss) c o x
+unfolding far
+past-one y ss c o x z =
+    record {
+      before = y ∷ z .before;
+      target = z .target;
+      gate = z .gate;
+      behind = z .behind;
+      is = ap (λ (l : List Step). y ∷ l) (z .is);
+      order = z .order;
+      turn = z .turn;
+    }
+
+located : (ss : List Step) (c : Cursor) (o x : ℕ) → Among (o, x) (places-from (c .order) (c .turn) ss) → Located ss c o x
+unfolding places-from past far
+located [] c o x h = absurd h
+located (local d m l ∷ ss) c o x h = past-one (local d m l) ss c o x (located ss (past (local d m l) c) o x h)
+located (deal d f ∷ ss) c o x h = past-one (deal d f) ss c o x (located ss (past (deal d f) c) o x h)
+located (exchange d e ∷ ss) c o x (inl p) =
+    record {
+      before = [];
+      target = d;
+      gate = e;
+      behind = ss;
+      is = refl;
+      order = sym (ap (λ (q : Place). q .0) p);
+      turn = sym (ap (λ (q : Place). q .1) p);
+    }
+located (exchange d e ∷ ss) c o x (inr h) = past-one (exchange d e) ss c o x (located ss (past (exchange d e) c) o x h)
+located (end ∷ ss) c o x h = past-one end ss c o x (located ss (past end c) o x h)
+
 pub completed : Completed
 unfolding prepare script-deals prepare-walk fresh start-walk
 completed =
@@ -75,4 +111,5 @@ completed =
       preparing = λ σ A B buf r h. prepared-done (dealer-fault σ A B buf .0) (dealer-fault σ A B buf) σ A B buf r refl h;
       starting = λ L r h. start-none L r h .1;
       hearing = λ L s v pre ss d e is o x h. heard L s v pre ss d e is o x h;
+      located = λ ss o x h. located ss origin o x h;
     }

@@ -14,7 +14,7 @@ use Rattle.parties.specs.Lent.{Lent, lent, party-of, lent-fault, dealer-fault}
 use Rattle.parties.specs.Calls.{State, Answer, fresh, report, unless, given, start-walk, start, hear-walk, place-fault, found-of, resume, hear, prepared, prepare}
 use Rattle.runs.specs.Conditions.{places-from, Single}
 use Rattle.runs.specs.Numbers.{Told}
-use Rattle.runs.specs.Demand1.{job-terms, returned, Demand1}
+use Rattle.runs.specs.Demand1.{terms-of, job-terms, given-back, Demand1}
 use Rattle.runs.proofs.Chain.{job-orders, job-orderly}
 use Rattle.runs.proofs.Refusals.{start-state, hear-state, prepare-back}
 use Rattle.runs.proofs.Placed.{gates-placed}
@@ -22,22 +22,31 @@ use Rattle.runs.proofs.Numbers.{numbers}
 
 -- ---- a job's terms
 
-module _ (job table : List ℕ) where
-  pub job-told : Told (job-script 32 job table) (job-terms job table)
+module _ (w : ℕ) (job table : List ℕ) where
+  told : Told (job-script w job table) (terms-of w job table (job-cost w job table))
   unfolding job-cost
-  job-told =
+  told =
       record {
-        none = λ e. let p = number-0 32 job table .0 e in faultless (p .0) (p .1);
-        some = λ k e. subst (λ (n : ℕ). Numbered 32 job table n (job-fault 32 job table .1)) e (job-number 32 job table _ _ .0 refl);
-        needs = cost-table .job-counts job table;
-        places = ap (places-from 0 0) (job-made 32 job table) ∙ gates-placed 32 0 (job-gates 32 job table);
-        orders = job-orders 32 job table;
+        none = λ e. let p = number-0 w job table .0 e in faultless (p .0) (p .1);
+        some = λ k e. subst (λ (n : ℕ). Numbered w job table n (job-fault w job table .1)) e (job-number w job table _ _ .0 refl);
+        needs = refl;
+        places = ap (places-from 0 0) (job-made w job table) ∙ gates-placed w 0 (job-gates w job table);
+        orders = job-orders w job table;
       }
 
-  pub job-single : Single (Numbered 32 job table)
-  job-single n i m j p q =
-      let e : _≡_ {A = Fault} (n, i) (m, j) = sym (job-number 32 job table n i .1 p) ∙ job-number 32 job table m j .1 q in
+  single : Single (Numbered w job table)
+  single n i m j p q =
+      let e : _≡_ {A = Fault} (n, i) (m, j) = sym (job-number w job table n i .1 p) ∙ job-number w job table m j .1 q in
       (ap (λ (f : Fault). f .0) e, ap (λ (f : Fault). f .1) e)
+
+-- at 32 bits, by the table of costs
+job-told : (job table : List ℕ) → Told (job-script 32 job table) (job-terms job table)
+job-told job table =
+    let t = told 32 job table in
+    record { none = t .none; some = t .some; needs = t .needs ∙ cost-table .job-counts job table; places = t .places; orders = t .orders }
+
+job-single : (job table : List ℕ) → Single (Numbered 32 job table)
+job-single = single 32
 
 -- ---- a refusal's other numbers
 
@@ -69,7 +78,7 @@ hear-rest L s v h =
     (λ k. unless-rest (place-fault f) (place-fault f, 0) s a k (λ z. absurd (z refl)))
 
 -- the registers as they were given
-start-back : (L : Lent) (r : Pair) → start L r .number ≢ 0 → start L r .state ≡ returned r
+start-back : (L : Lent) (r : Pair) → start L r .number ≢ 0 → start L r .state ≡ given-back r
 unfolding given fresh
 start-back L r h = start-state L r h
 
@@ -84,6 +93,8 @@ demand1 =
       one-start = λ h job table M D. numbers .one-start (job-terms job table) (job-single job table) h M D;
       one-hearing = λ h job table M D o x.
           numbers .one-hearing (job-script 32 job table) (job-terms job table) (job-told job table) (job-orderly 32 job table) (job-single job table) h M D o x;
+      told = told;
+      single = single;
       preparing-unchanged = λ σ A B D r h. let p = prepare-back σ A B D r h in (p .0, p .1, prepare-rest σ A B D r h);
       starting-unchanged = λ L r h. let p = start-rest L r h in (start-back L r h, p .0, p .1);
       hearing-unchanged = λ L s v h. let p = hear-rest L s v h in (hear-state L s v h, p .0, p .1);

@@ -17,7 +17,7 @@ use Rattle.runs.specs.Whole.{WholeRun, outset, Whole}
 use Rattle.runs.proofs.Kept.{kept}
 use Rattle.runs.proofs.Progress.{lent1-zero, lent2-zero}
 use Rattle.runs.proofs.Numbers.{preparation-is}
-use Rattle.runs.proofs.Demand1.{job-told, job-single, demand1}
+use Rattle.runs.proofs.Demand1.{demand1}
 use Rattle.runs.proofs.Strict.{wide-on, start-zero, joined, buffer-kept, carried-with}
 
 module _ (S : Stage) (buf : List ℕ) (r : Pair) where

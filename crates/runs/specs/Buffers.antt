@@ -20,23 +20,24 @@ abbrev pub deals-of : Stage → List ℕ
 deals-of S = defined-deals (S .A) (S .B) (S .script .steps) origin (first S)
 
 -- a buffer with the deals in front of the words that stood behind them
-abbrev pub filled : Stage → (buffer : List ℕ) → List ℕ
-filled S buf = deals-of S ++ drop (length (deals-of S)) buf
+abbrev pub with-deals : Stage → (buffer : List ℕ) → List ℕ
+with-deals S buf = deals-of S ++ drop (length (deals-of S)) buf
 
 pub record Buffers : Type 0 where
   -- in every run, the preparation that completes
   pub written : (S : Stage) (cs : List Call) (r : Pair) (buf : List ℕ) (one two : Side)
       → Run S cs (world (idle r) buf one two)
-      → preparation S buf r .number ≡ 0 → preparation S buf r .buffer ≡ filled S buf
+      → preparation S buf r .number ≡ 0 → preparation S buf r .buffer ≡ with-deals S buf
   -- "preparation reports the deals it wrote"
   pub reported : (S : Stage) (cs : List Call) (r : Pair) (buf : List ℕ) (one two : Side)
       → Run S cs (world (idle r) buf one two)
       → preparation S buf r .number ≡ 0 → preparation S buf r .deals ≡ length (deals-of S)
-  -- from the first call to the last: as it was given until the preparation completes, and so filled from then on
+  -- from the first call to the last: as it was given until the preparation completes, and from then on with the deals
+  -- in front
   pub before : (S : Stage) (E : List ℕ) (v : World) (cs : List Call) (r : Pair) (buf : List ℕ) (one two : Side)
       (h1 h2 : List Spoken)
       → Begins S v → Calls S E v [] [] cs (world (idle r) buf one two) h1 h2 → buf ≡ buffer-of v
   pub after : (S : Stage) (E : List ℕ) (v : World) (cs : List Call) (r : Pair) (t : List Pair) (buf : List ℕ)
       (one two : Side)
       (h1 h2 : List Spoken)
-      → Begins S v → Calls S E v [] [] cs (world (ready r t) buf one two) h1 h2 → buf ≡ filled S (buffer-of v)
+      → Begins S v → Calls S E v [] [] cs (world (ready r t) buf one two) h1 h2 → buf ≡ with-deals S (buffer-of v)

@@ -10,6 +10,8 @@ use Rattle.gates.specs.Parties.{Pair, act0, deals}
 use Rattle.parties.specs.Scripts.{Script}
 use Rattle.parties.specs.Lent.{Lent, party-of}
 use Rattle.parties.specs.Calls.{State, Answer, Prepared, report, start, hear, prepare}
+use Rattle.runs.specs.Runs.{Among}
+use Rattle.runs.specs.Conditions.{places-from}
 
 -- the lanes at the start: what is given, with eight slots of 0 behind it for the words kept between gates
 abbrev pub with-kept : Pair → Pair
@@ -25,6 +27,16 @@ all-deals σ A B r = deals A B (σ .steps) origin (with-kept r)
 
 abbrev pub all-masks : Script → (A B : List ℕ) → Pair → Pair
 all-masks σ A B r = whole (act0 A B) (σ .steps) origin (with-kept r) [] .state
+
+-- the product or refresh with the place (o, x), among steps that begin at the cursor c
+pub record Located (ss : List Step) (c : Cursor) (o x : ℕ) : Type 0 where
+  pub before : List Step
+  pub target : ℕ
+  pub gate : Exchange
+  pub behind : List Step
+  pub is : ss ≡ before ++ (exchange target gate ∷ behind)
+  pub order : far before c .order ≡ o
+  pub turn : far before c .turn ≡ x
 
 pub record Completed : Type 0 where
   -- "Host 0's preparation writes exactly its deals, in gate order, and gives back its masks of all registers; later
@@ -50,3 +62,5 @@ pub record Completed : Type 0 where
       → hear L s v
       ≡ walks-on L ss (past (exchange d e) (far pre origin))
       (party-of L .hear d e (far pre origin) (s .m, s .mask) v)
+  -- every place that 8 does not turn down has one
+  pub located : (ss : List Step) (o x : ℕ) → Among (o, x) (places-from 0 0 ss) → Located ss origin o x

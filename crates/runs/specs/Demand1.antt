@@ -7,24 +7,30 @@ use Prim.Native.Nat.{ℕ}
 use lib.ListN.{length, replicate}
 use Rattle.gates.specs.Parties.{Pair}
 use Rattle.tables.specs.Table.{rows}
-use Rattle.jobs.specs.Job.{orders, job-gates}
+use Rattle.gates.specs.Costs.{Cost}
+use Rattle.jobs.specs.Job.{orders, job-gates, job-cost}
 use Rattle.jobs.specs.CostTable.{table-counts}
 use Rattle.jobs.specs.FirstFault.{Numbered}
 use Rattle.parties.specs.Scripts.{Script, job-script}
 use Rattle.parties.specs.Lent.{Lent, lent}
 use Rattle.parties.specs.Calls.{State, Answer, Prepared, start, hear, prepare}
 use Rattle.runs.specs.Conditions.{gate-places, Terms, Single, PreparationIs, StartIs, HearingIs}
+use Rattle.runs.specs.Numbers.{Told}
 
--- a job with its table: conditions 2 to 5 as jobs/specs/FirstFault.antt has them; the sum over its orders of document
--- 01's table of costs; the products and refreshes of its orders' gates
-abbrev pub job-terms : (job table : List ℕ) → Terms
-job-terms job table =
+-- a job with its table, whose counts are k: conditions 2 to 5 as jobs/specs/FirstFault.antt has them, and the products
+-- and refreshes of its orders' gates
+abbrev pub terms-of : (w : ℕ) (job table : List ℕ) → Cost → Terms
+terms-of w job table k =
     record {
-      own = Numbered 32 job table;
-      needs = table-counts (length (rows table)) (orders job);
-      places = gate-places 0 (job-gates 32 job table);
+      own = Numbered w job table;
+      needs = k;
+      places = gate-places 0 (job-gates w job table);
       orders = length (orders job);
     }
+
+-- its counts are the sum over its orders of document 01's table of costs
+abbrev pub job-terms : (job table : List ℕ) → Terms
+job-terms job table = terms-of 32 job table (table-counts (length (rows table)) (orders job))
 
 abbrev pub prepare-job : (job table A B buffer : List ℕ) (masks : Pair) → Prepared
 prepare-job job table A B D r = prepare (job-script 32 job table) A B D r
@@ -37,8 +43,8 @@ hear-job h job table M D s v = hear (lent h (job-script 32 job table) M D) s v
 
 -- "Refused starting gives back the registers it was given .. every other number in a refused answer is 0": so the eight
 -- kept words and the place
-abbrev pub returned : Pair → State
-returned r = record { m = r .0 ++ replicate 8 0; mask = r .1 ++ replicate 8 0; order = 0; turn = 0 }
+abbrev pub given-back : Pair → State
+given-back r = record { m = r .0 ++ replicate 8 0; mask = r .1 ++ replicate 8 0; order = 0; turn = 0 }
 
 pub record Demand1 : Type 0 where
   -- "A call that meets a condition of document 01's list .. gives the number its checking order reaches first", and the
@@ -55,10 +61,13 @@ pub record Demand1 : Type 0 where
   pub one-preparation : (job table A B buffer : List ℕ) → Single (PreparationIs (job-terms job table) A B buffer)
   pub one-start : (h : ℕ) (job table M D : List ℕ) → Single (StartIs (job-terms job table) h M D)
   pub one-hearing : (h : ℕ) (job table M D : List ℕ) (o x : ℕ) → Single (HearingIs (job-terms job table) h M D (o, x))
+  -- at every width: a job's script is what these terms say, so that its calls are those of Numbers.antt
+  pub told : (w : ℕ) (job table : List ℕ) → Told (job-script w job table) (terms-of w job table (job-cost w job table))
+  pub single : (w : ℕ) (job table : List ℕ) → Single (Numbered w job table)
   -- "and changes no state and no lent word"; "every other number in a refused answer is 0"
   pub preparing-unchanged : (σ : Script) (A B D : List ℕ) (r : Pair) → prepare σ A B D r .number ≢ 0
       → (prepare σ A B D r .masks ≡ r) × (prepare σ A B D r .buffer ≡ D) × (prepare σ A B D r .deals ≡ 0)
   pub starting-unchanged : (L : Lent) (r : Pair) → start L r .number ≢ 0
-      → (start L r .state ≡ returned r) × (start L r .spoken ≡ 0) × (start L r .word ≡ 0)
+      → (start L r .state ≡ given-back r) × (start L r .spoken ≡ 0) × (start L r .word ≡ 0)
   pub hearing-unchanged : (L : Lent) (s : State) (v : ℕ) → hear L s v .number ≢ 0
       → (hear L s v .state ≡ s) × (hear L s v .spoken ≡ 0) × (hear L s v .word ≡ 0)

@@ -23,7 +23,7 @@ use Rattle.runs.proofs.Buffers.{buffers}
 use Rattle.runs.proofs.InOrder.{in-order}
 use Rattle.runs.proofs.Whole.{whole}
 use Rattle.trio.specs.Together.{Trio, prepared, preparation as trio-preparation, left, ended, together}
-use Rattle.trio.specs.Ran.{ran, RunTo, TurnedDown, Ran}
+use Rattle.trio.specs.Ran.{ran, RunTo, TurnedDown, TrioRun}
 use Rattle.trio.proofs.Positions.{lent-of, given-of, P, D, at-n, standing}
 use Rattle.trio.proofs.Ends.{no-step, cur-is, finish}
 
@@ -153,7 +153,7 @@ module _ (S : Stage) (tidy : Orderly (S .script)) (buf : List ℕ) (done : P S b
           spoken2 = ap suc (b .spoken) ∙ sym (k .words2);
         }
 
-pub trio-ran : Ran
+pub trio-ran : TrioRun
 unfolding together prepared trio-preparation
 trio-ran =
     record {

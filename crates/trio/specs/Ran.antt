@@ -10,9 +10,9 @@ use Rattle.gates.specs.Parties.{Pair}
 use Rattle.parties.specs.Calls.{State, Answer}
 use Rattle.runs.specs.Runs.{Stage, Setting, staged, World, preparation, held, buffer-of, Accepted}
 use Rattle.runs.specs.Conditions.{PreparationIs}
-use Rattle.runs.specs.Demand1.{job-terms, returned}
+use Rattle.runs.specs.Demand1.{job-terms, given-back}
 use Rattle.runs.specs.Demand2.{words-of-1, words-of-2}
-use Rattle.runs.specs.Buffers.{deals-of, filled}
+use Rattle.runs.specs.Buffers.{deals-of, with-deals}
 use Rattle.runs.specs.Whole.{WholeRun, outset}
 use Rattle.trio.specs.Together.{lending, Trio, together}
 
@@ -29,7 +29,7 @@ pub record RunTo (S : Stage) (E : List ℕ) (v : World) (t : Trio) : Type 0 wher
   pub indices : (t .index ≡ 0) × (t .one .index ≡ 0) × (t .two .index ≡ 0)
   -- "preparation reports the deals it wrote", which stand in front of the buffer
   pub deals : t .deals ≡ length (deals-of S)
-  pub buffer : t .buffer ≡ filled S (buffer-of v)
+  pub buffer : t .buffer ≡ with-deals S (buffer-of v)
   -- each host has spoken every word defined for it, in order, with the 0 of its last answer behind them
   pub said1 : reverse (whole .said1) ≡ words-of-1 S
   pub said2 : reverse (whole .said2) ≡ words-of-2 S
@@ -40,7 +40,7 @@ pub record RunTo (S : Stage) (E : List ℕ) (v : World) (t : Trio) : Type 0 wher
 
 -- the answer of a host that did not start: the preparation's number and index, and the registers as they were given
 abbrev pub not-started : Trio → Pair → Answer
-not-started t r = record { number = t .number; index = t .index; spoken = 0; word = 0; state = returned r }
+not-started t r = record { number = t .number; index = t .index; spoken = 0; word = 0; state = given-back r }
 
 -- t is the preparation's refusal: nothing is written, and the hosts hold what they were given
 pub record TurnedDown (S : Stage) (buf : List ℕ) (t : Trio) : Type 0 where
@@ -52,7 +52,7 @@ pub record TurnedDown (S : Stage) (buf : List ℕ) (t : Trio) : Type 0 where
   pub one : t .one ≡ not-started t (S .rm, S .r1)
   pub two : t .two ≡ not-started t (S .rm, S .r2)
 
-pub record Ran : Type 0 where
+pub record TrioRun : Type 0 where
   -- where it is not refused, from any registers that open, whatever the hosts keep beside them
   pub is-run : (S : Stage) → Orderly (S .script) → (E buffer : List ℕ) (one two : State) → held S one ≡ (S .rm, S .r1)
       → held S two ≡ (S .rm, S .r2) → ran S buffer .number ≡ 0 → RunTo S E (outset S buffer one two) (ran S buffer)
