@@ -1,10 +1,12 @@
--- The three parties' steps on their lanes and the words that they speak; and the joint walk's, on all three lanes at once. Assumes nothing.
+-- The three parties' steps on their lanes and the words that they speak; and the joint walk's, on all three lanes at
+-- once. Assumes nothing.
 use mathlib.Core.Path.{_≡_}
 use mathlib.Core.List.{List, [], _∷_}
 use Prim.Native.Nat.{ℕ, suc, _<_}
 use lib.ListN.{length, set}
 use Rattle.shares.specs.Gates.{Share}
-use Rattle.gates.specs.Steps.{Lane, at, Exchange, Step, local, deal, exchange, end, say1, say2, meet, part2, new-at, emit, Cursor, past}
+use Rattle.gates.specs.Steps.{Lane, at, Exchange, Step, local, deal, exchange, end, say1, say2, meet, part2}
+use Rattle.gates.specs.Steps.{new-at, emit, Cursor, past}
 
 -- two lanes of a party: L1 and L2, or m and a mask
 abbrev pub Pair : Type 0

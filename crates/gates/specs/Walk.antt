@@ -2,7 +2,8 @@
 use mathlib.Core.List.{List, [], _∷_, _++_}
 use Rattle.gates.specs.Steps.{Step, local, deal, exchange, end, Cursor, past}
 
--- where a walk is: the steps left, the cursor, the state, and the trail, the states as each order that it finished left them
+-- where a walk is: the steps left, the cursor, the state, and the trail, the states as each order that it finished left
+-- them
 pub record Conf (S : Type 0) : Type 0 where
   pub rest : List Step
   pub cur : Cursor

@@ -16,7 +16,7 @@ use Rattle.curves.specs.Count.{count}
 use Rattle.circuits.specs.Programs.{sum-program}
 use Rattle.circuits.specs.Costs.{program-cost}
 use Rattle.parties.specs.Scripts.{orders-in}
-use Rattle.runs.specs.Runs.{Stage, Setting, staged, World, Call, Completes, Run, Finished, opened-after}
+use Rattle.runs.specs.Runs.{Stage, Setting, altered, staged, World, Call, Completes, Run, Finished, opened-after}
 use Rattle.runs.specs.Runs.{buffer-of, Accepted}
 use Rattle.runs.specs.Orders.{Words, value-before, order-of, used-before, refresh-mask}
 
@@ -54,19 +54,7 @@ refresh-place S q = used-before 32 S q .a + program-cost 32 (sum-program 32 (ord
 
 -- the same setting with another word there: "alike in job, table, registers and every other mask word"
 unfoldable pub with-word : Setting → ℕ → ℕ → Setting
-with-word S q a =
-    record {
-      job = S .job;
-      table = S .table;
-      A = set (S .A) (refresh-place S q) a;
-      B = S .B;
-      rm = S .rm;
-      r1 = S .r1;
-      r2 = S .r2;
-      rm-sixteen = S .rm-sixteen;
-      r1-sixteen = S .r1-sixteen;
-      r2-sixteen = S .r2-sixteen;
-    }
+with-word S q a = altered S (S .job) (set (S .A) (refresh-place S q) a)
 
 -- two whole numbers are equal
 abbrev pub eqZ : ℤ → ℤ → Bool

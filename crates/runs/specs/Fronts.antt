@@ -6,7 +6,7 @@ use Prim.Native.Nat.{ℕ, suc, _*_, _<_}
 use lib.ListN.{length, take}
 use Rattle.gates.specs.Steps.{Step}
 use Rattle.jobs.specs.Job.{orders}
-use Rattle.runs.specs.Runs.{Stage, Setting, staged, World, opened-after, Accepted}
+use Rattle.runs.specs.Runs.{Stage, Setting, altered, staged, World, opened-after, Accepted}
 use Rattle.runs.specs.Orders.{order-of}
 use Rattle.runs.specs.Demand3.{opens, Finishes}
 use Rattle.runs.specs.Returned.{opened-now}
@@ -23,19 +23,7 @@ pub record Front (S′ S : Stage) : Type 0 where
 
 -- the same setting, with the job's orders up to order q and no more
 abbrev pub up-to : Setting → (q : ℕ) → Setting
-up-to S q =
-    record {
-      job = take (suc q * 4) (S .job);
-      table = S .table;
-      A = S .A;
-      B = S .B;
-      rm = S .rm;
-      r1 = S .r1;
-      r2 = S .r2;
-      rm-sixteen = S .rm-sixteen;
-      r1-sixteen = S .r1-sixteen;
-      r2-sixteen = S .r2-sixteen;
-    }
+up-to S q = altered S (take (suc q * 4) (S .job)) (S .A)
 
 pub record Fronts : Type 0 where
   -- of any script: order q opens in every slot what it opens where the script ends sooner

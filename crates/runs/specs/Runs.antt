@@ -39,6 +39,22 @@ pub record Setting : Type 0 where
   pub r1-sixteen : length r1 ≡ 16
   pub r2-sixteen : length r2 ≡ 16
 
+-- the same setting with another job and another list A
+abbrev pub altered : Setting → (job A : List ℕ) → Setting
+altered S job a =
+    record {
+      job = job;
+      table = S .table;
+      A = a;
+      B = S .B;
+      rm = S .rm;
+      r1 = S .r1;
+      r2 = S .r2;
+      rm-sixteen = S .rm-sixteen;
+      r1-sixteen = S .r1-sixteen;
+      r2-sixteen = S .r2-sixteen;
+    }
+
 -- a job's stage
 abbrev pub staged : ℕ → Setting → Stage
 staged w S =
