@@ -11,10 +11,10 @@ use Rattle.gates.specs.Walk.{far}
 use Rattle.gates.specs.Parties.{Pair, deals}
 use Rattle.gates.proofs.Needs.{far-used, deals-length}
 use Rattle.jobs.specs.Job.{Fault}
-use Rattle.parties.specs.Scripts.{Script, script-cost}
-use Rattle.parties.specs.Lent.{dealer-fault}
-use Rattle.parties.specs.Calls.{fresh, fresh2, Prepared, prepare-walk, script-deals, prepared, prepare}
-use Rattle.dealings.specs.Dealings.{Dealer}
+use Rattle.calls.specs.Scripts.{Script, script-cost}
+use Rattle.calls.specs.Lent.{dealer-fault}
+use Rattle.calls.specs.Calls.{fresh, fresh2, Prepared, prepare-walk, script-deals, prepared, prepare}
+use Rattle.dealer_gate.specs.Dealings.{Dealer}
 use Rattle.dealer.specs.Preparation.{outset, deal-all, Room}
 use Rattle.dealer.proofs.Dealers.{stands, dealt-whole}
 use Rattle.dealer.proofs.Checks.{Enough, accepted}

@@ -11,9 +11,9 @@ use Rattle.gates.specs.Costs.{Cost, cost-of}
 use Rattle.jobs.specs.declared.Checked.{Checked}
 use Rattle.jobs.specs.declared.Checked.the-variants.{Accepted, Refused}
 use Rattle.jobs.specs.Job.{Fault, short-a, short-b, short-deals}
-use Rattle.parties.specs.Scripts.{Script, script-cost}
+use Rattle.calls.specs.Scripts.{Script, script-cost}
 use Rattle.jobs.specs.Answers.{Verdict, refusal, verdict, judged, check-job}
-use Rattle.parties.specs.Lent.{or-else, dealer-lists-fault, dealer-fault}
+use Rattle.calls.specs.Lent.{or-else, dealer-lists-fault, dealer-fault}
 
 -- the lists are long enough where there is no fault
 pub record Enough (k : Cost) (A B D : List ℕ) : Type 0 where

@@ -13,7 +13,7 @@ use Rattle.gates.specs.Speech.{dealt-word, shape}
 use Rattle.gates.specs.Costs.{Cost, plus, step-cost, used-at, cost}
 use Rattle.gates.proofs.Needs.{cost-append}
 use Rattle.gates.specs.declared.Used.{Used}
-use Rattle.dealings.specs.Dealings.{Dealer, dealer, Holds, dealing}
+use Rattle.dealer_gate.specs.Dealings.{Dealer, dealer, Holds, dealing}
 use Rattle.dealer.specs.Preparation.{Counts, deal-all, Room}
 
 -- a cursor, two lanes and a buffer

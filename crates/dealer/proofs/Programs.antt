@@ -14,13 +14,13 @@ use Rattle.gates.specs.Meaning.{meaning, order-steps}
 use Rattle.gates.specs.Costs.{Cost, cost}
 use Rattle.tables.specs.Table.{Row}
 use Rattle.curves.specs.Curve.{slope-after, coefficient}
-use Rattle.circuits.specs.declared.Order.{Order}
-use Rattle.lookup.specs.declared.Fetched.the-variants.{At, Past}
-use Rattle.circuits.specs.Programs.{update-gates, rounds, adder, to-number, relu-program, slack-program, one-bit-program, exact-program, row-program, rows-program, sum-program, curve-exact, curve-one-bit}
-use Rattle.circuits.specs.Orders.{curve-program, kinds, program}
-use Rattle.circuits.specs.Costs.{program-cost}
-use Rattle.lookup.specs.Fetch.{fetched}
-use Rattle.circuits.proofs.Costs.{curve-exact-cost, curve-one-bit-cost}
+use Rattle.programs.specs.declared.Order.{Order}
+use Rattle.program_fetch.specs.declared.Fetched.the-variants.{At, Past}
+use Rattle.programs.specs.Programs.{update-gates, rounds, adder, to-number, relu-program, slack-program, one-bit-program, exact-program, row-program, rows-program, sum-program, curve-exact, curve-one-bit}
+use Rattle.programs.specs.Orders.{curve-program, kinds, program}
+use Rattle.programs.specs.Costs.{program-cost}
+use Rattle.program_fetch.specs.Fetch.{fetched}
+use Rattle.programs.proofs.Costs.{curve-exact-cost, curve-one-bit-cost}
 
 -- ---- the gate fetched is the first of those left
 

@@ -9,15 +9,15 @@ use Rattle.gates.specs.Parties.{on-mask}
 use Rattle.gates.specs.Speech.{shape}
 use Rattle.gates.specs.Meaning.{meaning, order-steps, job-steps}
 use Rattle.tables.specs.Table.{rows}
-use Rattle.circuits.specs.declared.Order.{Order}
-use Rattle.lookup.specs.declared.Fetched.{Fetched}
-use Rattle.lookup.specs.declared.Fetched.the-variants.{At, Past}
-use Rattle.circuits.specs.Orders.{program}
-use Rattle.lookup.specs.Fetch.{fetched}
+use Rattle.programs.specs.declared.Order.{Order}
+use Rattle.program_fetch.specs.declared.Fetched.{Fetched}
+use Rattle.program_fetch.specs.declared.Fetched.the-variants.{At, Past}
+use Rattle.programs.specs.Orders.{program}
+use Rattle.program_fetch.specs.Fetch.{fetched}
 use Rattle.jobs.specs.Job.{job-gates, steps-of}
 use Rattle.jobs.specs.Walk.{order-at}
 use Rattle.jobs.proofs.Orders.{orders-from, no-more}
-use Rattle.dealings.specs.Dealings.{Dealer, dealing}
+use Rattle.dealer_gate.specs.Dealings.{Dealer, dealing}
 use Rattle.dealer.specs.Preparation.{deal-all, Room}
 use Rattle.dealer.proofs.Dealers.{deal-append, room-first, room-after}
 use Rattle.dealer.proofs.Programs.{gate-left, none-left, steps-append}

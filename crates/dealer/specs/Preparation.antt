@@ -5,9 +5,9 @@ use Prim.Native.Nat.{ℕ, _+_, _≤_}
 use lib.ListN.{length}
 use Rattle.gates.specs.Steps.{Lane, Step}
 use Rattle.gates.specs.Costs.{cost}
-use Rattle.parties.specs.Calls as Calls
+use Rattle.calls.specs.Calls as Calls
 use Rattle.gates.specs.declared.Used.{Used}
-use Rattle.dealings.specs.Dealings.{Dealer, dealing}
+use Rattle.dealer_gate.specs.Dealings.{Dealer, dealing}
 use Rattle.dealer.specs.declared.Prepared.{Prepared}
 
 -- the code's answer, with the buffer as it leaves it

@@ -5,25 +5,25 @@ ghost use Prim.Native.Nat.{ℕ, _^_, _<_};
 ghost use lib.ListN.{length, take};
 ghost use Rattle.gates.specs.Meaning.{meaning, order-steps};
 ghost use Rattle.tables.specs.Table.{rows};
-ghost use Rattle.circuits.specs.Orders.{program};
+ghost use Rattle.programs.specs.Orders.{program};
 ghost use Rattle.jobs.specs.Job.{steps-of};
-ghost use Rattle.parties.specs.Scripts.{job-script};
-ghost use Rattle.parties.specs.Calls as Calls;
+ghost use Rattle.calls.specs.Scripts.{job-script};
+ghost use Rattle.calls.specs.Calls as Calls;
 ghost use Rattle.gates.specs.Steps.{Lane};
-ghost use Rattle.dealings.specs.Dealings.{dealer, dealing};
+ghost use Rattle.dealer_gate.specs.Dealings.{dealer, dealing};
 ghost use Rattle.dealer.specs.Preparation.{answer, outset, Counts, deal-all, Room};
 use crate::Masks;
 use crate::Prepared;
-use circuits::Order;
-use dealings::deal_gate;
+use programs::Order;
+use dealer_gate::deal_gate;
 use gates::Gate;
 use gates::Used;
-use lendings::check_dealer;
-use lendings::fresh;
-use lookup::Fetched;
-use lookup::fetch;
-use orders::order_at;
-use shapes::used_by;
+use call_check::check_dealer;
+use call_check::fresh;
+use program_fetch::Fetched;
+use program_fetch::fetch;
+use job_order::order_at;
+use gate_shape::used_by;
 
 // ---- the lanes: the registers, with temporaries behind them that are 0 at first
 

@@ -8,10 +8,10 @@ use crate::lists::part;
 use dealer::Masks;
 use dealer::Prepared;
 use dealer::prepare;
-use hosts::Answer;
-use hosts::Registers;
-use hosts::State;
-use hosts::start;
+use worker::Answer;
+use worker::Registers;
+use worker::State;
+use worker::start;
 use jobs::Checked;
 use jobs::Which;
 
@@ -124,13 +124,13 @@ fn unused_masks(c: Case, job: &[u32], table: &[u32]) -> u32 {
         _ => Which::ListB,
     };
     let mut said: u32 = 99;
-    let rest = leftovers::leftover(job, table, which, masks, &mut said);
+    let rest = job_leftover::leftover(job, table, which, masks, &mut said);
     let other_length = (rest.len() != masks.len()) as u32;
     (said ^ c.number) | other_length | changed(rest, 81, 0, c.masks)
 }
 
 fn checking(c: Case, job: &[u32], table: &[u32]) -> u32 {
-    match checks::check(job, table) {
+    match job_check::check(job, table) {
         Checked::Refused { number, index } => (number ^ c.number) | (index ^ c.index),
         Checked::Accepted {
             deals: _,

@@ -102,7 +102,7 @@ pub(crate) fn opening(o: Opening) -> i64 {
 
 // What a register opens on the three hosts' shares.
 pub(crate) fn opened(s: Trio, r: u32) -> i64 {
-    opening(openings::opened(s.masks, s.one.state, s.two.state, r as usize))
+    opening(trio_open::opened(s.masks, s.one.state, s.two.state, r as usize))
 }
 
 // 1 where a register beside the target opens something else than before.

@@ -8,7 +8,7 @@ use borrow.Author.Tests.{ltb-false, eqb-false}
 use lib.Dec.{eqb, ltb}
 use lib.ListN.{getD, length}
 use Rattle.tables.specs.Table.{keeps-rules}
-use Rattle.circuits.specs.declared.Order.{Order}
+use Rattle.programs.specs.declared.Order.{Order}
 use Rattle.jobs.specs.Job.{orders, ill-sized, unknown-kind, two-sources, unknown-register, no-shift, ill-fourths, ill-fourth, order-fault, fault-at, orders-fault, job-fault}
 
 -- ---- a test that is false, part by part

@@ -6,7 +6,7 @@ use Prim.Native.Nat.{ℕ, zero, suc, _%_, _≤_, _<_}
 use borrow.Author.Tests.{lt-ltb, le-ltb, ltb-false, eq-eqb, ne-eqb, eqb-true, not-false}
 use lib.Dec.{eqb, ltb}
 use lib.ListN.{length, getD}
-use Rattle.circuits.specs.declared.Order.{Order}
+use Rattle.programs.specs.declared.Order.{Order}
 use Rattle.jobs.specs.Job.{ill-sized, unknown-kind, two-sources, unknown-register, ill-fourths, ill-fourth, order-fault}
 use Rattle.jobs.proofs.Accepted.{or-false}
 

@@ -8,7 +8,7 @@ use native.Mathlib.Omega.{arith}
 use lib.Dec.{T}
 use lib.ListN.{length}
 use Rattle.tables.specs.Table.{keeps-rules}
-use Rattle.circuits.specs.declared.Order.{Order}
+use Rattle.programs.specs.declared.Order.{Order}
 use Rattle.jobs.specs.declared.Which.{Which}
 use Rattle.jobs.specs.Job.{Fault, orders, ill-sized, unknown-kind, unknown-register, ill-fourth, order-fault, fault-at, orders-fault, job-fault, job-cost}
 use Rattle.jobs.specs.Answers.{need, short, or-short, leftover-number, leftover-part}

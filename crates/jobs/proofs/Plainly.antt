@@ -10,7 +10,7 @@ use lib.ListN.{length, getD}
 use Rattle.tables.specs.Table.{keeps-rules, Rules}
 use Rattle.tables.proofs.Rows.{rules}
 use Rattle.gates.specs.Costs.{Cost}
-use Rattle.circuits.specs.declared.Order.{Order}
+use Rattle.programs.specs.declared.Order.{Order}
 use Rattle.jobs.specs.declared.Which.{Which}
 use Rattle.jobs.specs.declared.Which.the-variants.{ListA, ListB}
 use Rattle.jobs.specs.Job.{ill-sized, unknown-kind, two-sources, unknown-register, no-shift, ill-fourths, ill-fourth, short-a, short-b}

@@ -13,10 +13,10 @@ use Rattle.gates.specs.Steps.{Step}
 use Rattle.gates.specs.Meaning.{order-steps, job-steps}
 use Rattle.gates.specs.Costs.{Cost, cost-of, plus, step-cost, cost}
 use Rattle.gates.proofs.Needs.{cost-path}
-use Rattle.circuits.specs.declared.Order.{Order}
-use Rattle.circuits.specs.Orders.{curve-program, kinds, program}
-use Rattle.circuits.specs.Costs.{program-cost}
-use Rattle.circuits.proofs.Costs.{cost-0, cost-1, cost-2, cost-3, cost-4, cost-5, cost-6, cost-7, cost-8, cost-9, curve-exact-cost, curve-one-bit-cost}
+use Rattle.programs.specs.declared.Order.{Order}
+use Rattle.programs.specs.Orders.{curve-program, kinds, program}
+use Rattle.programs.specs.Costs.{program-cost}
+use Rattle.programs.proofs.Costs.{cost-0, cost-1, cost-2, cost-3, cost-4, cost-5, cost-6, cost-7, cost-8, cost-9, curve-exact-cost, curve-one-bit-cost}
 use Rattle.jobs.specs.Job.{orders, job-gates, steps-of, job-cost, order-fault}
 use Rattle.jobs.specs.Walk.{curve-cost, kind-costs, kind-cost}
 use Rattle.jobs.specs.CostTable.{table-counts}

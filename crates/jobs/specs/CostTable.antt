@@ -5,7 +5,7 @@ use Prim.Native.Nat.{ℕ, suc}
 use lib.ListN.{length}
 use Rattle.tables.specs.Table.{rows}
 use Rattle.gates.specs.Costs.{Cost, cost-of, plus}
-use Rattle.circuits.specs.declared.Order.{Order}
+use Rattle.programs.specs.declared.Order.{Order}
 use Rattle.jobs.specs.Job.{orders, job-cost}
 use Rattle.jobs.specs.Walk.{kind-cost}
 

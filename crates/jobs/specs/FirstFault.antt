@@ -6,7 +6,7 @@ use mathlib.Core.List.{List}
 use Prim.Native.Nat.{ℕ, _-_, _%_, _<_}
 use lib.ListN.{length, getD}
 use Rattle.tables.specs.Table.{Rules}
-use Rattle.circuits.specs.declared.Order.{Order}
+use Rattle.programs.specs.declared.Order.{Order}
 use Rattle.jobs.specs.Job.{orders}
 
 -- "2. The job has no words, more than 256, or a number of words not divisible by 4."

@@ -9,8 +9,8 @@ use Rattle.gates.specs.declared.Gate.{Gate}
 use Rattle.gates.specs.Steps.{Step}
 use Rattle.gates.specs.Meaning.{job-steps}
 use Rattle.gates.specs.Costs.{Cost, cost}
-use Rattle.circuits.specs.declared.Order.{Order}
-use Rattle.circuits.specs.Orders.{program}
+use Rattle.programs.specs.declared.Order.{Order}
+use Rattle.programs.specs.Orders.{program}
 
 -- "orders of four words: kind, target, first source, fourth word"
 unfoldable pub orders : List ℕ → List Order

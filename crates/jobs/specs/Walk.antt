@@ -4,7 +4,7 @@ use Prim.Native.Nat.{ℕ, zero, suc, _+_, _*_, _≤_}
 use lib.ListN.{getD}
 use Rattle.gates.specs.Steps.{at}
 use Rattle.gates.specs.Costs.{Cost, cost-of}
-use Rattle.circuits.specs.declared.Order.{Order}
+use Rattle.programs.specs.declared.Order.{Order}
 use Rattle.jobs.specs.declared.Counts.{Counts}
 
 -- the order at index i of a job's words; past the end stand zeros

@@ -6,8 +6,8 @@ use lib.ListN.{length}
 use Rattle.gates.specs.Steps.{origin}
 use Rattle.gates.specs.Parties.{Pair, of1, of2, joint1, joint2, Supplied}
 use Rattle.gates.proofs.Seen.{Always}
-use Rattle.parties.specs.Lent.{party1, party2, party-of}
-use Rattle.parties.specs.Calls.{State, Answer, fresh2, start-walk, start, found-of, hear}
+use Rattle.calls.specs.Lent.{party1, party2, party-of}
+use Rattle.calls.specs.Calls.{State, Answer, fresh2, start-walk, start, found-of, hear}
 use Rattle.runs.specs.Runs.{Stage, Spoken, Among, registers, lent1, lent2}
 use Rattle.runs.proofs.Ties.{shadow1, shadow2, Heard, Tied, Answered, start-answered, hear-answered}
 use Rattle.runs.proofs.Refusals.{start-none, hear-none}

@@ -7,8 +7,8 @@ use Rattle.gates.specs.Steps.{Step, Cursor, origin, past}
 use Rattle.gates.specs.Parties.{Pair, Triple, of0, act, dealt, deals}
 use Rattle.gates.proofs.Lanes.{of0-act}
 use Rattle.jobs.specs.Job.{Fault}
-use Rattle.parties.specs.Lent.{dealer-fault}
-use Rattle.parties.specs.Calls.{script-deals, prepare}
+use Rattle.calls.specs.Lent.{dealer-fault}
+use Rattle.calls.specs.Calls.{script-deals, prepare}
 use Rattle.runs.specs.Runs.{Stage, Spoken, Dealer, idle, ready, Side, World, world, Refuses, Call, preparation, Completes, prepares, starts1, starts2, hears1, hears2, Begins, given-out, Run, begin, buffer-of}
 use Rattle.runs.specs.Strict.{Calls, none, completes, refuses}
 use Rattle.runs.specs.Buffers.{defined-deals, deals-of, with-deals, Buffers}

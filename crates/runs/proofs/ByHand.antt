@@ -14,7 +14,7 @@ use Rattle.truncations.specs.Truncation.{bit-number, one-bit}
 use Rattle.shares.specs.Gates.{value}
 use Rattle.tables.specs.Table.{rows, slope, house}
 use Rattle.curves.specs.Curve.{relu, segments, scaled, slope-after, coefficient, relu-word, word-sum, word-curve}
-use Rattle.circuits.specs.Opens.{curve-value, values, order-value}
+use Rattle.programs.specs.Opens.{curve-value, values, order-value}
 use Rattle.runs.specs.Runs.{Setting, staged, World}
 use Rattle.runs.specs.Orders.{slot, before-order, mask-before, order-of, refresh-mask}
 use Rattle.runs.specs.Demand3.{reading, Y-of, Exact, opens, Finishes}

@@ -12,11 +12,11 @@ use Rattle.gates.specs.Walk.{Conf, mark, whole}
 use Rattle.gates.specs.Parties.{Triple, act}
 use Rattle.gates.specs.Costs.{Cost, plus, cost, step-cost}
 use Rattle.gates.proofs.Needs.{cost-path}
-use Rattle.circuits.specs.Costs.{program-cost}
-use Rattle.circuits.proofs.Gates.{Fits}
-use Rattle.circuits.proofs.Points.{Point, after, afters}
+use Rattle.programs.specs.Costs.{program-cost}
+use Rattle.programs.proofs.Gates.{Fits}
+use Rattle.programs.proofs.Points.{Point, after, afters}
 use Rattle.jobs.specs.Job.{orders, job-gates, steps-of}
-use Rattle.parties.specs.Scripts.{job-script, ends, Closed, Orderly}
+use Rattle.calls.specs.Scripts.{job-script, ends, Closed, Orderly}
 use Rattle.runs.proofs.Lists.{length-map}
 use Rattle.runs.specs.Orders.{first-counts}
 

@@ -9,10 +9,10 @@ use Rattle.gates.specs.Steps.{Exchange, Step, local, deal, exchange, end, Curso
 use Rattle.gates.specs.Walk.{far}
 use Rattle.gates.specs.Parties.{Pair}
 use Rattle.jobs.specs.Job.{Fault}
-use Rattle.parties.specs.Scripts.{Script}
-use Rattle.parties.specs.Places.{Found, found, seek}
-use Rattle.parties.specs.Lent.{Lent, party-of, dealer-fault}
-use Rattle.parties.specs.Calls.{State, Answer, Prepared, fresh, unless, start-walk, start, hear-walk, place-fault, found-of, resume, hear, script-deals, prepare-walk, prepared, prepare}
+use Rattle.calls.specs.Scripts.{Script}
+use Rattle.calls.specs.Places.{Found, found, seek}
+use Rattle.calls.specs.Lent.{Lent, party-of, dealer-fault}
+use Rattle.calls.specs.Calls.{State, Answer, Prepared, fresh, unless, start-walk, start, hear-walk, place-fault, found-of, resume, hear, script-deals, prepare-walk, prepared, prepare}
 use Rattle.runs.specs.Runs.{Among}
 use Rattle.runs.specs.Conditions.{Place, places-from}
 use Rattle.runs.specs.Completed.{walks-on, Located, Completed}

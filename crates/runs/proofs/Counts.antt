@@ -9,8 +9,8 @@ use Rattle.gates.specs.Walk.{Conf, conf, next, far}
 use Rattle.gates.specs.Parties.{Triple, act}
 use Rattle.gates.specs.Costs.{plus, step-cost, cost}
 use Rattle.gates.proofs.Needs.{far-used}
-use Rattle.parties.specs.Scripts.{ends, Closed}
-use Rattle.parties.specs.Calls.{word-at, spoken-at}
+use Rattle.calls.specs.Scripts.{ends, Closed}
+use Rattle.calls.specs.Calls.{word-at, spoken-at}
 use Rattle.runs.specs.Runs.{Spoken, Among}
 use Rattle.runs.specs.Demand2.{defined-words}
 use Rattle.runs.proofs.Places.{Halted, pos, ends-pos}

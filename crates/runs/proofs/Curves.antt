@@ -10,8 +10,8 @@ use Rattle.truncations.specs.Truncation.{slip}
 use Rattle.words.proofs.Words.{add-lt, sub-lt}
 use Rattle.shares.specs.Gates.{value, mask}
 use Rattle.tables.specs.Table.{rows, keeps-rules}
-use Rattle.circuits.specs.Opens.{curve-value, values, order-value}
-use Rattle.circuits.proofs.Calibration.{Promised, exact-curve, one-bit-curve}
+use Rattle.programs.specs.Opens.{curve-value, values, order-value}
+use Rattle.programs.proofs.Calibration.{Promised, exact-curve, one-bit-curve}
 use Rattle.jobs.specs.Job.{orders}
 use Rattle.jobs.proofs.Accepted.{curve-ruled}
 use Rattle.runs.specs.Runs.{Setting, staged, World}

@@ -8,10 +8,10 @@ use Rattle.jobs.specs.Job.{Fault, job-fault, job-gates, job-cost}
 use Rattle.jobs.specs.FirstFault.{Numbered, faultless}
 use Rattle.jobs.proofs.FirstFault.{job-number, number-0}
 use Rattle.jobs.proofs.CostTable.{cost-table}
-use Rattle.parties.specs.Scripts.{Script, job-script}
-use Rattle.parties.proofs.Scripts.{job-made}
-use Rattle.parties.specs.Lent.{Lent, lent, party-of, lent-fault, dealer-fault}
-use Rattle.parties.specs.Calls.{State, Answer, fresh, report, unless, given, start-walk, start, hear-walk, place-fault, found-of, resume, hear, prepared, prepare}
+use Rattle.calls.specs.Scripts.{Script, job-script}
+use Rattle.calls.proofs.Scripts.{job-made}
+use Rattle.calls.specs.Lent.{Lent, lent, party-of, lent-fault, dealer-fault}
+use Rattle.calls.specs.Calls.{State, Answer, fresh, report, unless, given, start-walk, start, hear-walk, place-fault, found-of, resume, hear, prepared, prepare}
 use Rattle.runs.specs.Conditions.{places-from, Single}
 use Rattle.runs.specs.Numbers.{Told}
 use Rattle.runs.specs.Demand1.{terms-of, job-terms, given-back, Demand1}

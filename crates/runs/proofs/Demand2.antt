@@ -8,11 +8,11 @@ use Rattle.gates.specs.Steps.{Exchange, Step, Cursor, origin}
 use Rattle.gates.specs.Parties.{Pair, Triple, of1, of2, joint1, joint2, Supplied}
 use Rattle.gates.proofs.Seen.{Always}
 use Rattle.gates.proofs.Needs.{deals-length}
-use Rattle.circuits.specs.Opens.{order-value}
+use Rattle.programs.specs.Opens.{order-value}
 use Rattle.jobs.specs.Job.{Fault}
-use Rattle.parties.specs.Scripts.{script-cost, Closed}
-use Rattle.parties.specs.Lent.{Party, party1, party2, dealer-fault}
-use Rattle.parties.specs.Calls.{State, Answer, fresh2, script-deals, prepared, prepare}
+use Rattle.calls.specs.Scripts.{script-cost, Closed}
+use Rattle.calls.specs.Lent.{Party, party1, party2, dealer-fault}
+use Rattle.calls.specs.Calls.{State, Answer, fresh2, script-deals, prepared, prepare}
 use Rattle.runs.specs.Runs.{Stage, Spoken, Among, Dealer, ready, Side, waiting, going, world, registers, Dealt}
 use Rattle.runs.specs.Orders.{order-of}
 use Rattle.runs.specs.Demand2.{words-of-1, words-of-2, Counted, Demand2}

@@ -23,12 +23,12 @@ use Rattle.curves.specs.Count.{count}
 use Rattle.curves.proofs.Curve.{exact-near, one-bit-near, scaled-level}
 use Rattle.curves.proofs.Counting.{slips-of-words}
 use Rattle.gates.specs.Steps.{at}
-use Rattle.circuits.specs.declared.Order.{Order}
-use Rattle.circuits.specs.Programs.{sum-program}
-use Rattle.circuits.specs.Costs.{program-cost}
-use Rattle.circuits.proofs.Calibration.{Promised, ranged, above}
+use Rattle.programs.specs.declared.Order.{Order}
+use Rattle.programs.specs.Programs.{sum-program}
+use Rattle.programs.specs.Costs.{program-cost}
+use Rattle.programs.proofs.Calibration.{Promised, ranged, above}
 use Rattle.jobs.specs.Job.{orders, job-gates, job-cost}
-use Rattle.parties.specs.Scripts.{orders-in}
+use Rattle.calls.specs.Scripts.{orders-in}
 use Rattle.runs.specs.Runs.{Stage, Setting, staged, World, Call, Completes, Run, Finished, buffer-of, Accepted}
 use Rattle.runs.specs.Orders.{Words, order-of, used-before, first-counts, refresh-mask}
 use Rattle.runs.specs.Demand3.{reading, Y-of, Exact, OneBit, opens, Finishes, refresh-place, with-word, eqZ, Alike, Demand3}

@@ -17,12 +17,12 @@ use Rattle.gates.specs.Walk.{Conf, whole, far}
 use Rattle.gates.specs.Parties.{Triple, act}
 use Rattle.gates.specs.Costs.{Cost, plus}
 use Rattle.gates.proofs.Needs.{far-used, whole-alike}
-use Rattle.circuits.specs.Programs.{sum-program, one-bit-program, curve-one-bit}
-use Rattle.circuits.specs.Orders.{curve-program, kinds, program}
-use Rattle.circuits.specs.Costs.{program-cost}
-use Rattle.circuits.proofs.Costs.{cost-after, end-cost}
+use Rattle.programs.specs.Programs.{sum-program, one-bit-program, curve-one-bit}
+use Rattle.programs.specs.Orders.{curve-program, kinds, program}
+use Rattle.programs.specs.Costs.{program-cost}
+use Rattle.programs.proofs.Costs.{cost-after, end-cost}
 use Rattle.jobs.specs.Job.{orders, job-gates, steps-of, job-cost}
-use Rattle.parties.proofs.Scripts.{job-made}
+use Rattle.calls.proofs.Scripts.{job-made}
 use Rattle.runs.specs.Runs.{Setting, staged}
 use Rattle.runs.specs.Orders.{Words, first, slot, before-order, order-of, used-before, refresh-mask}
 use Rattle.runs.specs.Demand3.{reading, OneBit, refresh-place, with-word}

@@ -15,13 +15,13 @@ use Rattle.gates.specs.Walk.{Conf, whole}
 use Rattle.gates.specs.Parties.{Triple, act}
 use Rattle.gates.specs.Costs.{Cost, cost, plus}
 use Rattle.gates.proofs.Needs.{whole-append, cost-append}
-use Rattle.circuits.specs.declared.Order.{Order}
-use Rattle.circuits.specs.Orders.{program}
+use Rattle.programs.specs.declared.Order.{Order}
+use Rattle.programs.specs.Orders.{program}
 use Rattle.jobs.specs.Job.{orders, job-gates, steps-of}
 use Rattle.jobs.specs.FirstFault.{order, IllSized, no-words, above-256, not-by-4, Meets, Faultless}
 use Rattle.jobs.proofs.FirstFault.{number-0}
-use Rattle.parties.specs.Scripts.{script-cost}
-use Rattle.parties.specs.Calls.{fresh}
+use Rattle.calls.specs.Scripts.{script-cost}
+use Rattle.calls.specs.Calls.{fresh}
 use Rattle.runs.specs.Runs.{Stage, Setting, staged, World, opened-after, Accepted}
 use Rattle.runs.specs.Orders.{first, trail, after-order, slot, order-of}
 use Rattle.runs.specs.Demand3.{opens, Finishes}

@@ -19,17 +19,17 @@ use Rattle.gates.specs.Walk.{whole}
 use Rattle.gates.specs.Parties.{Triple, act}
 use Rattle.gates.specs.Costs.{plus, cost, step-cost}
 use Rattle.gates.proofs.Needs.{Further, past-used}
-use Rattle.circuits.specs.declared.Order.{Order}
-use Rattle.circuits.specs.Programs.{sum-program}
-use Rattle.circuits.specs.Orders.{program}
-use Rattle.circuits.specs.Opens.{order-value}
-use Rattle.circuits.specs.Costs.{program-cost}
-use Rattle.circuits.proofs.Gates.{Fits}
-use Rattle.circuits.proofs.Points.{Point, after, afters, num, l1-of, l2-of}
-use Rattle.circuits.proofs.Opens.{new-mask, curve-mask, Sound, kind-opens, kind-keeps}
+use Rattle.programs.specs.declared.Order.{Order}
+use Rattle.programs.specs.Programs.{sum-program}
+use Rattle.programs.specs.Orders.{program}
+use Rattle.programs.specs.Opens.{order-value}
+use Rattle.programs.specs.Costs.{program-cost}
+use Rattle.programs.proofs.Gates.{Fits}
+use Rattle.programs.proofs.Points.{Point, after, afters, num, l1-of, l2-of}
+use Rattle.programs.proofs.Opens.{new-mask, curve-mask, Sound, kind-opens, kind-keeps}
 use Rattle.jobs.proofs.Accepted.{Good, exact-shift, curve-ruled}
-use Rattle.parties.specs.Scripts.{Orderly}
-use Rattle.parties.specs.Calls.{fresh}
+use Rattle.calls.specs.Scripts.{Orderly}
+use Rattle.calls.specs.Calls.{fresh}
 use Rattle.runs.proofs.Lists.{length-map}
 use Rattle.runs.specs.Runs.{Stage}
 use Rattle.runs.specs.Orders.{Words, first, trail, after-order, before-order, slot, first-counts, mask-behind}

@@ -10,9 +10,9 @@ use Rattle.gates.specs.Steps.{Exchange, Step, local, deal, exchange, end, Curso
 use Rattle.gates.specs.Walk.{Conf, conf, next}
 use Rattle.gates.specs.Parties.{Pair, Triple, of1, of2, act, joint1, joint2, Supplied}
 use Rattle.gates.proofs.Seen.{Always}
-use Rattle.parties.specs.Scripts.{orders-in, ends, Closed}
-use Rattle.parties.specs.Lent.{Party, party1, party2}
-use Rattle.parties.specs.Calls.{State, Answer, word-at}
+use Rattle.calls.specs.Scripts.{orders-in, ends, Closed}
+use Rattle.calls.specs.Lent.{Party, party1, party2}
+use Rattle.calls.specs.Calls.{State, Answer, word-at}
 use Rattle.runs.specs.Runs.{Stage, Spoken, utter, Among, Dealer, Side, waiting, going, World, world, Call, Completes, prepares, starts1, starts2, hears1, hears2, given-out, Run, begin, complete, refuse}
 use Rattle.runs.specs.Demand2.{defined-words}
 use Rattle.runs.specs.InOrder.{Before, Rising, InOrder}

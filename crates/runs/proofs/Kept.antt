@@ -12,9 +12,9 @@ use Rattle.gates.proofs.Seen.{through, Always, see-whole}
 use Rattle.gates.proofs.Lanes.{seen0}
 use Rattle.gates.proofs.Needs.{deals-length}
 use Rattle.jobs.specs.Job.{Fault}
-use Rattle.parties.specs.Scripts.{script-cost}
-use Rattle.parties.specs.Lent.{party1, party2, party-of, dealer-fault}
-use Rattle.parties.specs.Calls.{State, fresh, fresh2, start-walk, start, found-of, hear, script-deals, prepare-walk, prepared, prepare}
+use Rattle.calls.specs.Scripts.{script-cost}
+use Rattle.calls.specs.Lent.{party1, party2, party-of, dealer-fault}
+use Rattle.calls.specs.Calls.{State, fresh, fresh2, start-walk, start, found-of, hear, script-deals, prepare-walk, prepared, prepare}
 use Rattle.runs.specs.Runs.{Stage, Spoken, Among, Dealer, idle, ready, Side, waiting, going, World, world, registers, Refuses, dealer, dealer-later, dealer-elsewhere, dealer-later-elsewhere, one-waiting, two-waiting, one-going, two-going, Call, lent1, lent2, Dealt, preparation, started, stepped, Completes, prepares, starts1, starts2, hears1, hears2, given-out, Run, begin, complete, refuse}
 use Rattle.runs.proofs.Places.{pos}
 use Rattle.runs.proofs.Ties.{shadow1, shadow2, joint, Heard, Tied, tie-start, tie-hear}

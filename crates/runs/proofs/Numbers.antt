@@ -12,10 +12,10 @@ use Rattle.gates.specs.Parties.{Pair}
 use Rattle.gates.specs.Steps.{Step, origin}
 use Rattle.gates.specs.Costs.{Cost}
 use Rattle.jobs.specs.Job.{Fault, short-a, short-b, short-deals}
-use Rattle.parties.specs.Scripts.{Script, script-cost, ends, Orderly}
-use Rattle.parties.specs.Places.{Found}
-use Rattle.parties.specs.Lent.{Lent, party-of, or-else, lists-fault, lent-fault, dealer-lists-fault, dealer-fault}
-use Rattle.parties.specs.Calls.{State, Answer, report, unless, given, start-walk, start, hear-walk, place-fault, found-of, resume, hear, prepared, prepare}
+use Rattle.calls.specs.Scripts.{Script, script-cost, ends, Orderly}
+use Rattle.calls.specs.Places.{Found}
+use Rattle.calls.specs.Lent.{Lent, party-of, or-else, lists-fault, lent-fault, dealer-lists-fault, dealer-fault}
+use Rattle.calls.specs.Calls.{State, Answer, report, unless, given, start-walk, start, hear-walk, place-fault, found-of, resume, hear, prepared, prepare}
 use Rattle.runs.specs.Runs.{Among}
 use Rattle.runs.specs.Conditions.{Place, places-from, Terms, Single, PreparationIs, of-itself, of-lists, of-buffer, prepares-well, list-needed, StartIs, stranger, of-its-own, of-its-list, of-its-deals, starts-well, end-place, HearingIs, as-starting, misplaced, ended, hears-well}
 use Rattle.runs.specs.Numbers.{Told, Numbers}

@@ -13,12 +13,12 @@ use Rattle.tables.specs.Table.{Row, rows, keeps-rules}
 use Rattle.tables.proofs.Rows.{for-table}
 use Rattle.gates.specs.declared.Gate.{Gate}
 use Rattle.gates.specs.Meaning.{job-steps}
-use Rattle.circuits.specs.declared.Order.{Order}
-use Rattle.circuits.specs.Orders.{program}
-use Rattle.circuits.specs.Opens.{order-value}
+use Rattle.programs.specs.declared.Order.{Order}
+use Rattle.programs.specs.Orders.{program}
+use Rattle.programs.specs.Opens.{order-value}
 use Rattle.jobs.specs.Job.{orders, job-gates, job-fault}
 use Rattle.jobs.proofs.Accepted.{Good, accepted-orders}
-use Rattle.parties.proofs.Scripts.{job-made}
+use Rattle.calls.proofs.Scripts.{job-made}
 use Rattle.runs.proofs.Lists.{getD-map}
 use Rattle.runs.specs.Runs.{Setting, staged}
 use Rattle.runs.specs.Orders.{Words, trail, after-order, before-order, slot, order-of, used-before, refresh-mask}

@@ -11,9 +11,9 @@ use Rattle.gates.specs.declared.Gate.{Gate}
 use Rattle.gates.specs.declared.Gate.the-variants.{Add, Sub, Xor, Mul, And, Refresh, Scale, Plus, Up, Bit, Const, Public, Deal, DealBits}
 use Rattle.gates.specs.Steps.{Exchange, Step, local, deal, exchange, end, Cursor, past}
 use Rattle.gates.specs.Meaning.{meaning, order-steps, job-steps}
-use Rattle.parties.specs.Scripts.{ends, Closed}
-use Rattle.parties.specs.Places.{Found, nowhere, found, seek}
-use Rattle.parties.specs.Calls.{place-fault}
+use Rattle.calls.specs.Scripts.{ends, Closed}
+use Rattle.calls.specs.Places.{Found, nowhere, found, seek}
+use Rattle.calls.specs.Calls.{place-fault}
 use Rattle.runs.specs.Runs.{Among}
 use Rattle.runs.specs.Conditions.{Place, places-from, speaks, order-places, gate-places}
 

@@ -11,8 +11,8 @@ use lib.ListN.{length, length-append}
 use native.Mathlib.Numerals.{add-one}
 use native.Mathlib.Nat.{add-zero}
 use Rattle.gates.specs.Steps.{at, Step, local, deal, exchange, end, Cursor, origin, past}
-use Rattle.parties.specs.Places.{Found, nowhere, found, here, seek}
-use Rattle.parties.specs.Scripts.{ends}
+use Rattle.calls.specs.Places.{Found, nowhere, found, here, seek}
+use Rattle.calls.specs.Scripts.{ends}
 use Rattle.gates.specs.Walk.{Conf, conf, one, next, walk, whole, Exchanging}
 
 -- at an exchange or at the end

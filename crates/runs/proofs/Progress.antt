@@ -14,9 +14,9 @@ use Rattle.gates.specs.Parties.{Pair, Triple, of0, of1, of2, act, deals, joint1
 use Rattle.gates.specs.Costs.{Cost}
 use Rattle.gates.proofs.Seen.{Always}
 use Rattle.jobs.specs.Job.{Fault, short-a, short-b, short-deals}
-use Rattle.parties.specs.Scripts.{Script, script-cost, orders-in, ends}
-use Rattle.parties.specs.Lent.{Lent, party1, party2, party-of, or-else, lists-fault, lent-fault, dealer-lists-fault, dealer-fault}
-use Rattle.parties.specs.Calls.{State, Answer, report, unless, given, start-walk, start, found-of, resume, hear, prepared, prepare}
+use Rattle.calls.specs.Scripts.{Script, script-cost, orders-in, ends}
+use Rattle.calls.specs.Lent.{Lent, party1, party2, party-of, or-else, lists-fault, lent-fault, dealer-lists-fault, dealer-fault}
+use Rattle.calls.specs.Calls.{State, Answer, report, unless, given, start-walk, start, found-of, resume, hear, prepared, prepare}
 use Rattle.runs.specs.Runs.{Stage, Spoken, Dealer, going, World, world, registers, Call, lent1, lent2, Completes, prepares, starts1, starts2, hears1, hears2, Run, order1, order2, buffer-of, Accepted}
 use Rattle.runs.proofs.Places.{ends-pos, rest-later, exchange-or-end}
 use Rattle.runs.proofs.Ties.{shadow1, shadow2, joint, Tied, can-hear}

@@ -18,8 +18,8 @@ use Rattle.gates.specs.Steps.{at, Step}
 use Rattle.gates.specs.Parties.{Pair, of0, act}
 use Rattle.jobs.specs.Job.{orders}
 use Rattle.jobs.proofs.Accepted.{Good}
-use Rattle.parties.specs.Scripts.{orders-in}
-use Rattle.parties.proofs.Scripts.{job-made}
+use Rattle.calls.specs.Scripts.{orders-in}
+use Rattle.calls.proofs.Scripts.{job-made}
 use Rattle.runs.specs.Runs.{Stage, Setting, staged, World, Call, Run, trail0, order1, order2, Finished, opened-after}
 use Rattle.runs.specs.Orders.{first, trail, slot, after-order, before-order, Unwritten, order-of}
 use Rattle.runs.specs.Demand3.{reading, opens, Finishes}

@@ -9,9 +9,9 @@ use lib.ListN.{length, take, drop, replicate, take-append-drop, length-take}
 use lib.Seq.{take-append-le, take-all}
 use Rattle.gates.specs.Parties.{Pair}
 use Rattle.jobs.specs.Job.{Fault}
-use Rattle.parties.specs.Scripts.{Script}
-use Rattle.parties.specs.Lent.{Lent, party-of, lent-fault, dealer-fault}
-use Rattle.parties.specs.Calls.{State, Answer, fresh, report, unless, given, start-walk, start, place-fault, hear-walk, found-of, resume, hear, prepared, prepare}
+use Rattle.calls.specs.Scripts.{Script}
+use Rattle.calls.specs.Lent.{Lent, party-of, lent-fault, dealer-fault}
+use Rattle.calls.specs.Calls.{State, Answer, fresh, report, unless, given, start-walk, start, place-fault, hear-walk, found-of, resume, hear, prepared, prepare}
 use Rattle.runs.specs.Runs.{registers, Turned, at-start, at-hearing}
 
 -- an answer that is no refusal

@@ -19,9 +19,9 @@ use Rattle.gates.specs.Steps.{Lane, at, Step, local, deal, exchange, end, Curso
 use Rattle.gates.specs.Walk.{Conf, conf, whole, next}
 use Rattle.gates.specs.Parties.{Pair, Triple, of1, of2, act, joint1, joint2}
 use Rattle.jobs.specs.Job.{orders}
-use Rattle.parties.specs.Scripts.{orders-in, Closed}
-use Rattle.parties.proofs.Scripts.{job-made}
-use Rattle.parties.specs.Calls.{State, fresh}
+use Rattle.calls.specs.Scripts.{orders-in, Closed}
+use Rattle.calls.proofs.Scripts.{job-made}
+use Rattle.calls.specs.Calls.{State, fresh}
 use Rattle.runs.specs.Runs.{Stage, Setting, staged, Spoken, Dealer, Side, World, Call, Run, registers, order1, order2, Finished, opened-slot, opened-after}
 use Rattle.runs.specs.Orders.{Words, trail, after-order, slot, Unwritten, order-of}
 use Rattle.runs.specs.Demand3.{Finishes}

@@ -11,8 +11,8 @@ use Rattle.curves.specs.Curve.{line, Near}
 use Rattle.curves.specs.Count.{count}
 use Rattle.gates.specs.Steps.{Lane, at}
 use Rattle.jobs.specs.Job.{orders}
-use Rattle.parties.specs.Scripts.{orders-in}
-use Rattle.parties.specs.Calls.{given}
+use Rattle.calls.specs.Scripts.{orders-in}
+use Rattle.calls.specs.Calls.{given}
 use Rattle.runs.specs.Runs.{Setting, staged, World, Begins, given-out, begin, Accepted}
 use Rattle.runs.specs.Orders.{Words, order-of}
 use Rattle.runs.specs.Demand3.{reading, Y-of, OneBit, opens, Finishes, refresh-place, with-word, eqZ}

@@ -12,10 +12,10 @@ use Rattle.gates.specs.Walk.{Conf, Exchanging}
 use Rattle.gates.specs.Parties.{Pair, Triple, of1, of2, act, joint1, joint2, Supplied}
 use Rattle.gates.proofs.Seen.{through}
 use Rattle.jobs.specs.Job.{short-b, short-deals}
-use Rattle.parties.specs.Scripts.{script-cost}
-use Rattle.parties.specs.Places.{seek}
-use Rattle.parties.specs.Lent.{party2, party-of, or-else, lists-fault, lent-fault}
-use Rattle.parties.specs.Calls.{State, Answer, fresh2, word-at, spoken-at, state-of, start-walk, start, hear-walk, found-of, resume, hear}
+use Rattle.calls.specs.Scripts.{script-cost}
+use Rattle.calls.specs.Places.{seek}
+use Rattle.calls.specs.Lent.{party2, party-of, or-else, lists-fault, lent-fault}
+use Rattle.calls.specs.Calls.{State, Answer, fresh2, word-at, spoken-at, state-of, start-walk, start, hear-walk, found-of, resume, hear}
 use Rattle.runs.specs.Runs.{Stage, Spoken, utter, Among, ready, Side, waiting, going, World, world, registers, Call, starting1, starting2, hearing1, hearing2, lent1, lent2, started, stepped, Completes, prepares, starts1, starts2, hears1, hears2, Run, begin, complete, refuse}
 use Rattle.runs.specs.Strict.{Narrow, none, refuses, StrictRun, Strict}
 use Rattle.runs.proofs.Places.{Halted, one-halt}

@@ -14,9 +14,9 @@ use Rattle.gates.specs.Steps.{Lane, at, Exchange, Step, local, deal, exchange, 
 use Rattle.gates.specs.Walk.{Conf, conf, whole, next}
 use Rattle.gates.specs.Parties.{Pair, Triple, of1, of2, act, joint1, joint2}
 use Rattle.jobs.specs.Job.{orders}
-use Rattle.parties.specs.Scripts.{orders-in, ends, Closed}
-use Rattle.parties.proofs.Scripts.{job-made}
-use Rattle.parties.specs.Calls.{State}
+use Rattle.calls.specs.Scripts.{orders-in, ends, Closed}
+use Rattle.calls.proofs.Scripts.{job-made}
+use Rattle.calls.specs.Calls.{State}
 use Rattle.runs.specs.Runs.{Stage, Setting, staged, Spoken, Dealer, ready, Side, going, world, Call, Run}
 use Rattle.runs.specs.Orders.{first, trail, after-order, before-order, slot, Unwritten, order-of}
 use Rattle.runs.proofs.Places.{pos, ends-pos, trail-pos, trail-length}

@@ -9,8 +9,8 @@ use borrow.Author.Tests.{eqb-true, eqb-false, ltb-false}
 use lib.Dec.{eqb, ltb}
 use lib.ListN.{length}
 use Rattle.jobs.specs.Job.{Fault, short-a}
-use Rattle.parties.specs.Scripts.{script-cost}
-use Rattle.parties.specs.Lent.{or-else, lists-fault, lent-fault}
+use Rattle.calls.specs.Scripts.{script-cost}
+use Rattle.calls.specs.Lent.{or-else, lists-fault, lent-fault}
 use Rattle.runs.specs.Runs.{Stage, waiting, going, World, world, Refuses, dealer, dealer-later, dealer-elsewhere, dealer-later-elsewhere, one-waiting, two-waiting, one-going, two-going, Call, registers, lent1, Completes, prepares, starts1, starts2, hears1, hears2, given-out, Run, begin, complete, refuse, order1}
 use Rattle.runs.proofs.Refusals.{start-none}
 

@@ -11,10 +11,10 @@ use Rattle.gates.specs.Steps.{Lane, Exchange, Step, local, deal, exchange, end,
 use Rattle.gates.specs.Walk.{Conf, Exchanging}
 use Rattle.gates.specs.Parties.{Pair, Triple, of1, of2, act, joint1, joint2, Supplied}
 use Rattle.gates.proofs.Seen.{through, Always}
-use Rattle.parties.specs.Scripts.{orders-in}
-use Rattle.parties.specs.Places.{Found, nowhere, found, seek}
-use Rattle.parties.specs.Lent.{Lent, Party, party1, party2, party-of, lists-fault, lent-fault}
-use Rattle.parties.specs.Calls.{State, Answer, fresh, state-of, report, unless, given, start-walk, start, place-fault, found-of, resume, hear}
+use Rattle.calls.specs.Scripts.{orders-in}
+use Rattle.calls.specs.Places.{Found, nowhere, found, seek}
+use Rattle.calls.specs.Lent.{Lent, Party, party1, party2, party-of, lists-fault, lent-fault}
+use Rattle.calls.specs.Calls.{State, Answer, fresh, state-of, report, unless, given, start-walk, start, place-fault, found-of, resume, hear}
 use Rattle.runs.specs.Runs.{Stage, Spoken, Among, Dealer, idle, ready, Side, waiting, going, World, world, registers, Call, lent1, lent2, Completes, prepares, starts1, starts2, hears1, hears2, Begins, given-out, Run, begin, complete, refuse, Finished, buffer-of, Accepted}
 use Rattle.runs.specs.Strict.{Narrow, heard-by-1, heard-by-2, Calls, none, completes, refuses, StrictRun, Done}
 use Rattle.runs.proofs.Places.{Halted, steps-in, seek-pos, once, shrinks}

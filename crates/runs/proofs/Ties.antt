@@ -11,9 +11,9 @@ use Rattle.gates.specs.Walk.{Conf, conf, next, walk, Exchanging}
 use Rattle.gates.specs.Parties.{Pair, Triple, of1, of2, act, joint1, joint2, Supplied}
 use Rattle.gates.proofs.Seen.{through, Seen, quiet, Always, see-walk}
 use Rattle.gates.proofs.Lanes.{seen1, seen2, says1, says2, hears1, hears2}
-use Rattle.parties.specs.Places.{Found, found, seek}
-use Rattle.parties.specs.Lent.{Party, party1, party2}
-use Rattle.parties.specs.Calls.{State, Answer, fresh2, word-at, spoken-at, state-of, report, unless, hear-walk, place-fault, resume}
+use Rattle.calls.specs.Places.{Found, found, seek}
+use Rattle.calls.specs.Lent.{Party, party1, party2}
+use Rattle.calls.specs.Calls.{State, Answer, fresh2, word-at, spoken-at, state-of, report, unless, hear-walk, place-fault, resume}
 use Rattle.runs.specs.Runs.{Spoken, utter, Among}
 use Rattle.runs.proofs.Places.{Halted, pos, walk-reaches, seek-pos, same-place}
 

@@ -11,8 +11,8 @@ use Rattle.gates.specs.declared.Gate.the-variants.{Add, Sub, Xor, Mul, And, Ref
 use Rattle.gates.specs.Steps.{Step, local, deal, exchange, end, Cursor}
 use Rattle.gates.specs.Meaning.{meaning, order-steps, job-steps}
 use Rattle.gates.specs.Parties.{Triple, act}
-use Rattle.circuits.proofs.Points.{target}
-use Rattle.parties.specs.Scripts.{ends, Closed}
+use Rattle.programs.proofs.Points.{target}
+use Rattle.calls.specs.Scripts.{ends, Closed}
 use Rattle.runs.specs.Runs.{Stage}
 use Rattle.runs.specs.Orders.{slot, Unwritten}
 use Rattle.runs.specs.Returned.{UnwrittenFrom}

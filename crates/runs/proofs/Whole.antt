@@ -6,8 +6,8 @@ use Prim.Native.Nat.{ℕ, _<_}
 use native.Mathlib.Omega.{arith}
 use Rattle.gates.specs.Parties.{Pair}
 use Rattle.jobs.specs.Job.{job-fault}
-use Rattle.parties.specs.Scripts.{script-cost, orders-in}
-use Rattle.parties.specs.Calls.{State}
+use Rattle.calls.specs.Scripts.{script-cost, orders-in}
+use Rattle.calls.specs.Calls.{State}
 use Rattle.runs.specs.Runs.{Stage, Setting, staged, Spoken, idle, ready, waiting, going, World, world, Call, lent1, lent2, preparation, held, Completes, prepares, starts1, starts2, hears1, hears2, given-out, begin, Finished, Accepted}
 use Rattle.runs.specs.Conditions.{places-from, Terms, PreparationIs, of-itself, of-lists, of-buffer, prepares-well}
 use Rattle.runs.specs.Numbers.{Told}

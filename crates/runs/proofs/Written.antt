@@ -14,10 +14,10 @@ use Rattle.gates.specs.declared.Part.the-variants.{Field}
 use Rattle.gates.specs.declared.Dealt.the-variants.{OfNegated}
 use Rattle.gates.specs.declared.Gate.{Gate}
 use Rattle.gates.specs.declared.Gate.the-variants.{Add, Sub, Xor, Mul, Refresh, Scale, Plus, Bit, Const, Public, Deal}
-use Rattle.circuits.specs.declared.Order.{Order}
-use Rattle.circuits.specs.Programs.{update-gates, rounds, adder, to-number, relu-program, slack-program, one-bit-program, exact-program, row-program, rows-program, sum-program, curve-exact, curve-one-bit}
-use Rattle.circuits.specs.Orders.{curve-program, kinds, program}
-use Rattle.circuits.proofs.Points.{target, Other, other}
+use Rattle.programs.specs.declared.Order.{Order}
+use Rattle.programs.specs.Programs.{update-gates, rounds, adder, to-number, relu-program, slack-program, one-bit-program, exact-program, row-program, rows-program, sum-program, curve-exact, curve-one-bit}
+use Rattle.programs.specs.Orders.{curve-program, kinds, program}
+use Rattle.programs.proofs.Points.{target, Other, other}
 
 -- no gate writes slot i
 pub data Spares (i : ℕ) : List Gate → Type 0 where

@@ -6,8 +6,8 @@ use lib.IntN.{ℤ, pos, negℤ}
 use Rattle.words.specs.Signed.{floor, signed, wrap}
 use Rattle.tables.specs.Table.{rows, house}
 use Rattle.curves.specs.Curve.{scaled}
-use Rattle.circuits.specs.declared.Order.{Order}
-use Rattle.circuits.specs.Opens.{order-value}
+use Rattle.programs.specs.declared.Order.{Order}
+use Rattle.programs.specs.Opens.{order-value}
 use Rattle.runs.specs.Runs.{Setting, staged, World}
 use Rattle.runs.specs.Orders.{mask-before, order-of}
 use Rattle.runs.specs.Demand3.{reading, Exact, opens, Finishes}

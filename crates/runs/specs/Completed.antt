@@ -7,9 +7,9 @@ use lib.ListN.{length, take, drop, replicate}
 use Rattle.gates.specs.Steps.{Exchange, Step, exchange, Cursor, origin, past}
 use Rattle.gates.specs.Walk.{walk, whole, far}
 use Rattle.gates.specs.Parties.{Pair, act0, deals}
-use Rattle.parties.specs.Scripts.{Script}
-use Rattle.parties.specs.Lent.{Lent, party-of}
-use Rattle.parties.specs.Calls.{State, Answer, Prepared, report, start, hear, prepare}
+use Rattle.calls.specs.Scripts.{Script}
+use Rattle.calls.specs.Lent.{Lent, party-of}
+use Rattle.calls.specs.Calls.{State, Answer, Prepared, report, start, hear, prepare}
 use Rattle.runs.specs.Runs.{Among}
 use Rattle.runs.specs.Conditions.{places-from}
 

@@ -11,9 +11,9 @@ use Rattle.gates.specs.Costs.{Cost}
 use Rattle.jobs.specs.Job.{orders, job-gates, job-cost}
 use Rattle.jobs.specs.CostTable.{table-counts}
 use Rattle.jobs.specs.FirstFault.{Numbered}
-use Rattle.parties.specs.Scripts.{Script, job-script}
-use Rattle.parties.specs.Lent.{Lent, lent}
-use Rattle.parties.specs.Calls.{State, Answer, Prepared, start, hear, prepare}
+use Rattle.calls.specs.Scripts.{Script, job-script}
+use Rattle.calls.specs.Lent.{Lent, lent}
+use Rattle.calls.specs.Calls.{State, Answer, Prepared, start, hear, prepare}
 use Rattle.runs.specs.Conditions.{gate-places, Terms, Single, PreparationIs, StartIs, HearingIs}
 use Rattle.runs.specs.Numbers.{Told}
 

@@ -11,10 +11,10 @@ use Rattle.shares.specs.Gates.{value}
 use Rattle.tables.specs.Table.{rows}
 use Rattle.gates.specs.Steps.{Exchange, Step, local, deal, exchange, end, Cursor, origin, past}
 use Rattle.gates.specs.Parties.{Pair, Triple, act, joint1, joint2}
-use Rattle.circuits.specs.Opens.{order-value}
+use Rattle.programs.specs.Opens.{order-value}
 use Rattle.jobs.specs.Job.{orders}
-use Rattle.parties.specs.Scripts.{job-script, script-cost, orders-in, Orderly}
-use Rattle.parties.specs.Calls.{State, start, hear}
+use Rattle.calls.specs.Scripts.{job-script, script-cost, orders-in, Orderly}
+use Rattle.calls.specs.Calls.{State, start, hear}
 use Rattle.runs.specs.Runs.{Stage, Setting, staged, Spoken, Among, Dealer, ready, Side, waiting, going, World}
 use Rattle.runs.specs.Runs.{world, Call, lent1, lent2, Dealt, preparation, held, Run, opened-after}
 use Rattle.runs.specs.Orders.{first, slot, after-order, before-order, value-before, mask-before, Unwritten}

@@ -13,9 +13,9 @@ use Rattle.truncations.specs.Truncation.{slip}
 use Rattle.tables.specs.Table.{rows}
 use Rattle.curves.specs.Curve.{scaled, line, last-count, Near}
 use Rattle.curves.specs.Count.{count}
-use Rattle.circuits.specs.Programs.{sum-program}
-use Rattle.circuits.specs.Costs.{program-cost}
-use Rattle.parties.specs.Scripts.{orders-in}
+use Rattle.programs.specs.Programs.{sum-program}
+use Rattle.programs.specs.Costs.{program-cost}
+use Rattle.calls.specs.Scripts.{orders-in}
 use Rattle.runs.specs.Runs.{Stage, Setting, altered, staged, World, Call, Completes, Run, Finished, opened-after}
 use Rattle.runs.specs.Runs.{buffer-of, Accepted}
 use Rattle.runs.specs.Orders.{Words, value-before, order-of, used-before, refresh-mask}

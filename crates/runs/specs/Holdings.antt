@@ -10,8 +10,8 @@ use Rattle.shares.specs.Gates.{Share}
 use Rattle.gates.specs.Steps.{at}
 use Rattle.gates.specs.Parties.{Pair}
 use Rattle.jobs.specs.Job.{orders}
-use Rattle.parties.specs.Scripts.{orders-in, Orderly}
-use Rattle.parties.specs.Calls.{State}
+use Rattle.calls.specs.Scripts.{orders-in, Orderly}
+use Rattle.calls.specs.Calls.{State}
 use Rattle.runs.specs.Runs.{Stage, Setting, staged, Spoken, Dealer, ready, Side, going, world, Call, Run}
 use Rattle.runs.specs.Orders.{slot, before-order, Unwritten, order-of}
 

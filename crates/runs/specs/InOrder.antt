@@ -6,8 +6,8 @@ use mathlib.Core.List.{List, [], _∷_, reverse}
 use Prim.Native.Nat.{ℕ, _<_}
 use lib.ListN.{length, take}
 use Rattle.gates.specs.Parties.{Pair}
-use Rattle.parties.specs.Scripts.{orders-in, Orderly}
-use Rattle.parties.specs.Calls.{State}
+use Rattle.calls.specs.Scripts.{orders-in, Orderly}
+use Rattle.calls.specs.Calls.{State}
 use Rattle.runs.specs.Runs.{Stage, Spoken, Among, Dealer, Side, going, world, Call, Run}
 use Rattle.runs.specs.Demand2.{words-of-1, words-of-2}
 

@@ -6,9 +6,9 @@ use Prim.Native.Nat.{ℕ, suc}
 use Rattle.gates.specs.Parties.{Pair}
 use Rattle.gates.specs.Meaning.{job-steps}
 use Rattle.gates.specs.declared.Gate.{Gate}
-use Rattle.parties.specs.Scripts.{Script, script-cost, orders-in, Orderly}
-use Rattle.parties.specs.Lent.{Lent}
-use Rattle.parties.specs.Calls.{State, start, hear, prepare}
+use Rattle.calls.specs.Scripts.{Script, script-cost, orders-in, Orderly}
+use Rattle.calls.specs.Lent.{Lent}
+use Rattle.calls.specs.Calls.{State, start, hear, prepare}
 use Rattle.runs.specs.Conditions.{places-from, gate-places, Terms, Single, PreparationIs, StartIs, HearingIs}
 
 -- a script is what the terms say

@@ -14,12 +14,12 @@ use Rattle.gates.specs.Walk.{whole}
 use Rattle.gates.specs.Parties.{Triple, share, act}
 use Rattle.gates.specs.Costs.{Cost, cost-of, plus}
 use Rattle.gates.specs.declared.Gate.{Gate}
-use Rattle.circuits.specs.declared.Order.{Order}
-use Rattle.circuits.specs.Programs.{sum-program}
-use Rattle.circuits.specs.Costs.{program-cost}
+use Rattle.programs.specs.declared.Order.{Order}
+use Rattle.programs.specs.Programs.{sum-program}
+use Rattle.programs.specs.Costs.{program-cost}
 use Rattle.jobs.specs.Job.{orders, job-gates}
 use Rattle.jobs.specs.FirstFault.{order}
-use Rattle.parties.specs.Calls.{fresh}
+use Rattle.calls.specs.Calls.{fresh}
 use Rattle.runs.specs.Runs.{Stage, Setting}
 
 -- all that the run is lent and given are words

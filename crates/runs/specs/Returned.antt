@@ -9,7 +9,7 @@ use lib.IntN.{ℤ}
 use lib.ListN.{length}
 use Rattle.gates.specs.Parties.{Pair}
 use Rattle.jobs.specs.Job.{orders}
-use Rattle.parties.specs.Scripts.{orders-in, Orderly}
+use Rattle.calls.specs.Scripts.{orders-in, Orderly}
 use Rattle.runs.specs.Runs.{Stage, Setting, staged, Dealer, idle, ready, Side, waiting, going, World, world}
 use Rattle.runs.specs.Runs.{registers, Call, Run, Finished, opened-slot, opened-after}
 use Rattle.runs.specs.Orders.{Words, Unwritten, order-of}

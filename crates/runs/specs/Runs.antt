@@ -8,9 +8,9 @@ use lib.ListN.{getD, take, drop, length}
 use Rattle.shares.specs.Sharing.{Six, reconstruction}
 use Rattle.gates.specs.Steps.{Lane, at}
 use Rattle.gates.specs.Parties.{Pair}
-use Rattle.parties.specs.Scripts.{Script, job-script, script-cost}
-use Rattle.parties.specs.Lent.{Lent, party-of}
-use Rattle.parties.specs.Calls.{State, Prepared, start-walk, start, found-of, hear-walk, hear, prepare-walk, prepare}
+use Rattle.calls.specs.Scripts.{Script, job-script, script-cost}
+use Rattle.calls.specs.Lent.{Lent, party-of}
+use Rattle.calls.specs.Calls.{State, Prepared, start-walk, start, found-of, hear-walk, hear, prepare-walk, prepare}
 use lib.IntN.{ℤ}
 
 -- what every call of a run is lent, the script and the lists; and the registers that the hosts are given, which open:

@@ -3,7 +3,7 @@
 use mathlib.Core.Path.{_≡_}
 use mathlib.Core.List.{List, [], _∷_, _++_}
 use Prim.Native.Nat.{ℕ, _<_}
-use Rattle.parties.specs.Scripts.{orders-in}
+use Rattle.calls.specs.Scripts.{orders-in}
 use Rattle.runs.specs.Runs.{Stage, Spoken, Among, World, Refuses, Call, turned-down, Completes, prepares, starts1}
 use Rattle.runs.specs.Runs.{starts2, hears1, hears2, Begins, Run, Finished, buffer-of, Accepted}
 

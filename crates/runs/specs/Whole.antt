@@ -4,8 +4,8 @@ use mathlib.Core.Logic.{_↔_}
 use mathlib.Core.List.{List, []}
 use Prim.Native.Nat.{ℕ, _<_}
 use Rattle.gates.specs.Parties.{Pair}
-use Rattle.parties.specs.Scripts.{orders-in}
-use Rattle.parties.specs.Calls.{State}
+use Rattle.calls.specs.Scripts.{orders-in}
+use Rattle.calls.specs.Calls.{State}
 use Rattle.runs.specs.Runs.{Stage, Setting, staged, Spoken, idle, ready, waiting, going, World, world, Call}
 use Rattle.runs.specs.Runs.{preparation, held, Finished, Accepted}
 use Rattle.runs.specs.Conditions.{PreparationIs}

@@ -124,7 +124,7 @@ fn obey(code: u64, list: &[u32; 2048], count: usize, mut desk: Desk) -> Desk {
 pub(crate) fn take_line(desk: Desk) -> Desk {
     let mut words = [0u32; 2048];
     let line = desk.line;
-    let text = lines::front(&line, desk.length);
+    let text = text_lines::front(&line, desk.length);
     let keyword = keyword_of(text);
     let count = words_from(text, keyword.end, &mut words);
     if count < NO_WORDS && desk.length <= 4096 {

@@ -3,11 +3,11 @@ use crate::fronts::front;
 use crate::printing::put_line;
 use dealer::Masks;
 use dealer::prepare;
-use hosts::Answer;
-use hosts::Registers;
-use hosts::start;
-use masks::fill;
-use openings::opened;
+use worker::Answer;
+use worker::Registers;
+use worker::start;
+use sample_masks::fill;
+use trio_open::opened;
 use shares::Opening;
 
 // The longest accepted job is 64 exact curve orders on 16 rows. One of them needs 444 words of A, 204 of B and

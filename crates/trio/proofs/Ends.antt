@@ -11,9 +11,9 @@ use Rattle.gates.specs.Walk.{Conf, conf, whole, far, Exchanging}
 use Rattle.gates.specs.Parties.{Pair, Triple, of1, of2, act, joint1, joint2}
 use Rattle.gates.proofs.Needs.{far-used}
 use Rattle.gates.proofs.Seen.{through}
-use Rattle.parties.specs.Scripts.{script-cost, ends, orders-in, Closed}
-use Rattle.parties.specs.Places.{seek}
-use Rattle.parties.specs.Calls.{State, Answer, word-at, spoken-at, state-of, unless, given}
+use Rattle.calls.specs.Scripts.{script-cost, ends, orders-in, Closed}
+use Rattle.calls.specs.Places.{seek}
+use Rattle.calls.specs.Calls.{State, Answer, word-at, spoken-at, state-of, unless, given}
 use Rattle.runs.specs.Runs.{Stage}
 use Rattle.runs.proofs.Places.{Halted, steps-in, ends-pos, exchange-or-end, seek-pos, shrinks, whole-pos}
 use Rattle.runs.proofs.Counts.{far-at, stands}

@@ -13,8 +13,8 @@ use Rattle.gates.specs.Steps.{Step, Cursor, origin, past}
 use Rattle.gates.specs.Meaning.{meaning, order-steps, job-steps}
 use Rattle.gates.specs.Walk.{Conf, whole}
 use Rattle.gates.specs.Parties.{Pair, Triple, of1, of2, act}
-use Rattle.parties.specs.Scripts.{script-cost}
-use Rattle.parties.specs.Calls.{State, given}
+use Rattle.calls.specs.Scripts.{script-cost}
+use Rattle.calls.specs.Calls.{State, given}
 use Rattle.runs.specs.Runs.{Stage, ready, opened-slot}
 use Rattle.runs.specs.Orders.{slot, after-order, trail, first}
 use Rattle.runs.proofs.Chain.{mark-gate}

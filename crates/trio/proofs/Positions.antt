@@ -8,9 +8,9 @@ use Rattle.gates.specs.Walk.{Conf, Exchanging}
 use Rattle.gates.specs.Parties.{Pair, Triple, of0, of1, of2, act, deals, joint1, joint2, Supplied}
 use Rattle.gates.proofs.Seen.{through, Always}
 use Rattle.jobs.specs.Job.{Fault}
-use Rattle.parties.specs.Scripts.{Script, script-cost}
-use Rattle.parties.specs.Lent.{party1, party2, party-of, dealer-fault, lent-fault}
-use Rattle.parties.specs.Calls.{State, Answer, Prepared, spoken-at, state-of, report, unless, given, start-walk, start, found-of, resume, hear, prepared as Calls-prepared, prepare, word-at}
+use Rattle.calls.specs.Scripts.{Script, script-cost}
+use Rattle.calls.specs.Lent.{party1, party2, party-of, dealer-fault, lent-fault}
+use Rattle.calls.specs.Calls.{State, Answer, Prepared, spoken-at, state-of, report, unless, given, start-walk, start, found-of, resume, hear, prepared as Calls-prepared, prepare, word-at}
 use Rattle.runs.specs.Runs.{Stage, ready, lent1, lent2, preparation, Accepted}
 use Rattle.runs.proofs.Places.{Halted, one-halt}
 use Rattle.runs.proofs.Ties.{shadow1, shadow2, joint, words, Went, starts, hears-on}

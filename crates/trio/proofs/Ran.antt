@@ -10,8 +10,8 @@ use Rattle.gates.specs.Steps.{Cursor, origin}
 use Rattle.gates.specs.Parties.{Pair, of1, of2}
 use Rattle.gates.proofs.Needs.{far-used}
 use Rattle.jobs.specs.Job.{Fault}
-use Rattle.parties.specs.Scripts.{Script, script-cost, orders-in, Orderly}
-use Rattle.parties.specs.Calls.{State, Answer, refused, fresh, unless, given, prepared as Calls-prepared, prepare}
+use Rattle.calls.specs.Scripts.{Script, script-cost, orders-in, Orderly}
+use Rattle.calls.specs.Calls.{State, Answer, refused, fresh, unless, given, prepared as Calls-prepared, prepare}
 use Rattle.runs.specs.Runs.{Stage, staged, Spoken, Dealer, going, world, held, Begins, given-out, begin, Finished}
 use Rattle.runs.specs.Whole.{WholeRun, outset}
 use Rattle.runs.proofs.Demand1.{demand1}

@@ -7,10 +7,10 @@ use native.Mathlib.Omega.{arith}
 use lib.ListN.{length}
 use Rattle.gates.specs.Steps.{Lane}
 use Rattle.gates.specs.Parties.{Pair, Triple, of0, of1, of2}
-use Rattle.hosts.proofs.Jobs.{order-count, sized}
-use Rattle.parties.specs.Calls.{State, Answer, Prepared, fresh, unless, given, start, hear}
-use Rattle.parties.specs.Scripts.{job-script, orders-in, Closed}
-use Rattle.parties.specs.Lent.{dealer-fault}
+use Rattle.worker.proofs.Jobs.{order-count, sized}
+use Rattle.calls.specs.Calls.{State, Answer, Prepared, fresh, unless, given, start, hear}
+use Rattle.calls.specs.Scripts.{job-script, orders-in, Closed}
+use Rattle.calls.specs.Lent.{dealer-fault}
 use Rattle.runs.specs.Runs.{Stage}
 use Rattle.runs.proofs.Chain.{job-orders}
 use Rattle.runs.proofs.Started.{or-else-none}

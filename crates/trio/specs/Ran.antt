@@ -5,9 +5,9 @@ use mathlib.Core.Logic.{_≢_}
 use mathlib.Core.List.{List, reverse}
 use Prim.Native.Nat.{ℕ, suc}
 use lib.ListN.{length}
-use Rattle.parties.specs.Scripts.{Orderly}
+use Rattle.calls.specs.Scripts.{Orderly}
 use Rattle.gates.specs.Parties.{Pair}
-use Rattle.parties.specs.Calls.{State, Answer}
+use Rattle.calls.specs.Calls.{State, Answer}
 use Rattle.runs.specs.Runs.{Stage, Setting, staged, World, preparation, held, buffer-of, Accepted}
 use Rattle.runs.specs.Conditions.{PreparationIs}
 use Rattle.runs.specs.Demand1.{job-terms, given-back}

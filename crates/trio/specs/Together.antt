@@ -7,10 +7,10 @@ use lib.ListN.{length}
 use Rattle.gates.specs.Steps.{origin}
 use Rattle.gates.specs.Walk.{whole}
 use Rattle.gates.specs.Parties.{Pair, Triple, of0, of1, of2, act}
-use Rattle.parties.specs.Scripts.{Script, script-cost, orders-in}
-use Rattle.parties.specs.Lent.{Lent}
-use Rattle.parties.specs.Calls.{Answer, Prepared, fresh, given, unless, start, hear, prepare}
-use Rattle.hosts.specs.Answers.{answer-of}
+use Rattle.calls.specs.Scripts.{Script, script-cost, orders-in}
+use Rattle.calls.specs.Lent.{Lent}
+use Rattle.calls.specs.Calls.{Answer, Prepared, fresh, given, unless, start, hear, prepare}
+use Rattle.worker.specs.Answers.{answer-of}
 use Rattle.trio.specs.declared.Trio.{Trio as Trio′}
 use Rattle.trio.specs.declared.Shared.{Shared}
 

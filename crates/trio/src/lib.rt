@@ -1,17 +1,17 @@
 // The three hosts in one place: preparation, both startings, and every spoken word carried to the other host.
 ghost use mathlib.Core.Path.{_≡_};
-ghost use Rattle.parties.specs.Calls as Calls;
-ghost use Rattle.parties.specs.Scripts.{job-script};
-ghost use Rattle.parties.specs.Lent.{lent};
-ghost use Rattle.hosts.specs.Answers.{answer-of, lanes-of};
+ghost use Rattle.calls.specs.Calls as Calls;
+ghost use Rattle.calls.specs.Scripts.{job-script};
+ghost use Rattle.calls.specs.Lent.{lent};
+ghost use Rattle.worker.specs.Answers.{answer-of, lanes-of};
 ghost use Rattle.trio.specs.Together.{trio-of, shared, Full, lending, begun, heard, together};
 use dealer::Masks;
 use dealer::prepare;
-use hosts::Answer;
-use hosts::Registers;
-use hosts::State;
-use hosts::start;
-use lendings::fresh;
+use worker::Answer;
+use worker::Registers;
+use worker::State;
+use worker::start;
+use call_check::fresh;
 
 // A share of every register, on which the three hosts agree.
 pub struct Shared {

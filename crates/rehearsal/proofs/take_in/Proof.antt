@@ -1,7 +1,7 @@
 -- The measure is what is left to cut of the chunk.
 use borrow.Author.Needs.{needs}
-use Rattle.lines.specs.Answers.{held, piece}
-use Rattle.lines.proofs.Chunks.{left, less-left}
+use Rattle.text_lines.specs.Answers.{held, piece}
+use Rattle.text_lines.proofs.Chunks.{left, less-left}
 use Rattle.rehearsal.proofs.take_in.Statement.{statement}
 use Rattle.rehearsal.proofs.take_in.Tie as tie
 

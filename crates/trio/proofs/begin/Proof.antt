@@ -1,7 +1,7 @@
 use mathlib.Core.Path.{refl}
 use denote.Ref.{now}
 use native.Mathlib.Omega.{arith}
-use Rattle.parties.specs.Scripts.{job-script}
+use Rattle.calls.specs.Scripts.{job-script}
 use Rattle.trio.specs.Together.{lending, preparation}
 use Rattle.trio.proofs.Turns.{begins}
 use borrow.Author.Needs.{needs}

@@ -4,8 +4,8 @@ use Prim.Native.Nat.{_/_, _≤_}
 use lib.ListN.{length}
 use borrow.Author.Needs.{needs}
 use denote.Ref.{now}
-use Rattle.parties.specs.Scripts.{job-script}
-use Rattle.hosts.specs.Answers.{state-of}
+use Rattle.calls.specs.Scripts.{job-script}
+use Rattle.worker.specs.Answers.{state-of}
 use Rattle.runs.proofs.Chain.{job-closed}
 use Rattle.trio.specs.Together.{lending, trio-of, shared}
 use Rattle.trio.proofs.Ends.{ahead}

@@ -5,7 +5,7 @@ use borrow.Author.Needs.{needs}
 use denote.Ref.{now}
 use lib.ListN.{length}
 use Rattle.jobs.specs.Job.{steps-of}
-use Rattle.dealings.specs.Dealings.{dealer}
+use Rattle.dealer_gate.specs.Dealings.{dealer}
 use Rattle.dealer.specs.Preparation.{outset}
 use Rattle.dealer.proofs.Turns.{Going, begins, orders-left, order-room, order-done, job-done}
 use Rattle.dealer.proofs.preparing.deal_job.Statement.{statement}

@@ -7,8 +7,8 @@ use denote.Ref.{now}
 use lib.ListN.{length}
 use Rattle.tables.specs.Table.{rows}
 use Rattle.gates.specs.Meaning.{meaning, order-steps}
-use Rattle.circuits.specs.Orders.{program}
-use Rattle.dealings.specs.Dealings.{dealer, dealing}
+use Rattle.programs.specs.Orders.{program}
+use Rattle.dealer_gate.specs.Dealings.{dealer, dealing}
 use Rattle.dealer.specs.Preparation.{Room}
 use Rattle.dealer.proofs.Dealers.{joined}
 use Rattle.dealer.proofs.Programs.{gate-inside, few}

@@ -3,8 +3,8 @@ use native.Mathlib.Omega.{arith}
 use denote.Ref.{now}
 use Rattle.gates.specs.Costs.{Cost}
 use Rattle.jobs.specs.Job.{Fault, job-cost}
-use Rattle.parties.specs.Scripts.{job-script}
-use Rattle.parties.proofs.Faults.{no-fault-passed}
+use Rattle.calls.specs.Scripts.{job-script}
+use Rattle.calls.proofs.Faults.{no-fault-passed}
 use Rattle.dealer.proofs.Answers.{room-outset, refused, dealt-count, finished}
 use borrow.Author.Needs.{needs}
 use Rattle.dealer.proofs.preparing.prepare.Statement.{statement}

@@ -4,7 +4,7 @@ use native.Mathlib.Omega.{arith}
 use mathlib.Core.List.{List}
 use lib.ListN.{getD, set, replicate}
 use Rattle.words.proofs.Copying.{copied, copy-more}
-use Rattle.parties.proofs.Lists.{copied-front}
+use Rattle.calls.proofs.Lists.{copied-front}
 use Rattle.dealer.proofs.preparing.registers.Statement.{statement}
 use Rattle.dealer.proofs.preparing.registers.Tie as tie
 

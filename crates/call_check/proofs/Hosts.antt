@@ -1,0 +1,59 @@
+-- The one check of a job and its lists, as each host's own. Assumes nothing.
+use mathlib.Core.Path.{_≡_, refl, sym, ap, _∙_}
+use mathlib.Core.Bool.{Bool, true, false, _||_, cond}
+use mathlib.Core.List.{List}
+use Prim.Native.Nat.{ℕ, zero, suc, _*_, _≤_, _<_}
+use native.Mathlib.Omega.{arith}
+use borrow.Author.Tests.{le-ltb}
+use lib.Dec.{ltb}
+use lib.ListN.{length, take}
+use lib.Seq.{take-all}
+use Rattle.gates.specs.Costs.{Cost, cost-of}
+use Rattle.jobs.specs.Job.{Fault, job-fault, job-cost, short-a, short-b, short-deals}
+use Rattle.jobs.specs.Walk.{counted}
+use Rattle.jobs.specs.Answers.{check-job}
+use Rattle.calls.specs.Scripts.{job-script}
+use Rattle.calls.specs.Lent.{lists, lent, or-else, lists-fault, lent-fault, passed, dealer-lists-fault}
+use Rattle.calls.proofs.Faults.{accepted-tells, or-accepted, no-host, none-passed}
+use Rattle.call_check.specs.declared.lending.Lending.{Lending}
+use Rattle.call_check.specs.Faults.{fault-of, needs-of}
+
+-- an accepted job has the lists' number
+pub lists-tell : (J T A B D : List ℕ) (h x : ℕ) (k need : Cost) → record { accepted = true; number = 0; index = 0; counts = k } ≡ check-job 32 J T → need ≡ needs-of h k
+    → x ≡ dealer-lists-fault need A B D → (x, 0) ≡ or-else (job-fault 32 J T) (dealer-lists-fault (needs-of h (job-cost 32 J T)) A B D)
+lists-tell J T A B D h x k need e en ex =
+    let t = accepted-tells J T k e in
+    ap {B = Fault} (λ (y : ℕ). (y, 0)) (ex ∙ ap (λ (q : Cost). dealer-lists-fault q A B D) (en ∙ ap (needs-of h) (sym (t .1)))) ∙ or-accepted J T _ (t .0)
+
+-- host 1 needs nothing of B and no deals, host 2 nothing of A
+module _ (k : Cost) (M D : List ℕ) where
+  lists-1 : dealer-lists-fault (needs-of 1 k) M M D ≡ lists-fault k (lists 1 M D)
+  unfolding dealer-lists-fault needs-of lists-fault short-a short-b short-deals
+  lists-1 = rw (le-ltb (length M) 0 (omega arith), le-ltb (length D) 0 (omega arith)) (go (ltb (length M) (k .a)))
+    where
+      go : (b : Bool) → cond {A = ℕ} (b || false) 6 0 ≡ cond b 6 0
+      go true = refl
+      go false = refl
+
+  lists-2 : dealer-lists-fault (needs-of 2 k) M M D ≡ lists-fault k (lists 2 M D)
+  unfolding dealer-lists-fault needs-of lists-fault short-a short-b short-deals
+  lists-2 = rw (le-ltb (length M) 0 (omega arith))
+
+pub of-host : (h : ℕ) (J T M D : List ℕ) (f : Fault) → 1 ≤ h → h < 3 → f ≡ or-else (job-fault 32 J T) (dealer-lists-fault (needs-of h (job-cost 32 J T)) M M D)
+    → f ≡ lent-fault (lent h (job-script 32 J T) M D)
+unfolding lent-fault lists-fault job-cost
+of-host zero J T M D f l u e = absurd (omega arith)
+of-host (suc zero) J T M D f l u e = e ∙ ap (or-else (job-fault 32 J T)) (lists-1 (job-cost 32 J T) M D)
+of-host (suc (suc zero)) J T M D f l u e = e ∙ ap (or-else (job-fault 32 J T)) (lists-2 (job-cost 32 J T) M D)
+of-host (suc (suc (suc h))) J T M D f l u e = absurd (omega arith)
+
+pub other-host : (h : ℕ) (J T M D : List ℕ) → (1 ≤ h → h < 3 → ⊥) → (1, 0) ≡ lent-fault (lent h (job-script 32 J T) M D)
+other-host h J T M D n = no-host h (job-script 32 J T) M D (λ (z : h ≡ 1). n (omega arith) (omega arith)) (λ (z : h ≡ 2). n (omega arith) (omega arith))
+
+-- a call that is turned down has no counts
+pub none-counted : (r : Lending) (n i : ℕ) (k : Cost) → (fault-of r ≡ (n, i)) × (counted (r .counts) ≡ cost-of 0 0 0 0) → (n ≡ 0 → ⊥) → counted (r .counts) ≡ passed (r .number) k
+none-counted r n i k t ne = t .1 ∙ none-passed (r .number) k (λ z. ne (sym (ap (λ (f : Fault). f .0) (t .0)) ∙ z))
+
+-- no order stands after as many places as the job has words
+pub all-before : (n : ℕ) (J T : List ℕ) → passed n (job-cost 32 (take (length J * 4) J) T) ≡ passed n (job-cost 32 J T)
+all-before n J T = ap (λ (l : List ℕ). passed n (job-cost 32 l T)) (take-all (length J * 4) J (omega arith))

@@ -1,0 +1,98 @@
+-- Checks 1 to 7 of what a call is lent, by the tests that the code makes. Assumes nothing.
+use mathlib.Core.Path.{_≡_, refl, sym, ap, _∙_}
+use mathlib.Core.Bool.{Bool, true, false, _||_, cond}
+use mathlib.Core.List.{List}
+use Prim.Native.Nat.{ℕ, zero, suc, _*_, _≤_, _<_}
+use native.Mathlib.Omega.{arith}
+use borrow.Author.Tests.{eq-eqb, ne-eqb, lt-ltb, le-ltb}
+use lib.Dec.{eqb}
+use lib.ListN.{length, take}
+use Rattle.gates.specs.Costs.{Cost, cost-of}
+use Rattle.jobs.specs.Job.{Fault, job-fault, job-cost, short-a, short-b, short-deals}
+use Rattle.jobs.specs.Answers.{Verdict, refusal, judged, check-job, counts-before}
+use Rattle.calls.specs.Scripts.{Script, script-cost}
+use Rattle.calls.specs.Lent.{lent, or-else, lists-fault, lent-fault, dealer-lists-fault, passed}
+
+-- ---- from the job's verdict, whatever number the lists have
+
+module _ (J T : List ℕ) where
+  pub or-refused : (x n i : ℕ) → refusal (n, i) ≡ check-job 32 J T → (n ≡ 0 → ⊥) → (n, i) ≡ or-else (job-fault 32 J T) x
+  unfolding check-job judged or-else
+  or-refused x n i e ne = go (job-fault 32 J T .0) (job-fault 32 J T) refl e
+    where
+      go : (m : ℕ) (f : Fault) → f .0 ≡ m → refusal (n, i) ≡ judged m f (job-cost 32 J T) → (n, i) ≡ cond (eqb (f .0) 0) (x, 0) f
+      go zero f q p = absurd (ne (ap (λ (v : Verdict). v .number) p))
+      go (suc m) f q p = rw (ne-eqb (f .0) 0 (λ z. omega arith)) (λ t. (p t .number, p t .index))
+
+  pub accepted-tells : (k : Cost) → record { accepted = true; number = 0; index = 0; counts = k } ≡ check-job 32 J T → (job-fault 32 J T .0 ≡ 0) × (job-cost 32 J T ≡ k)
+  unfolding check-job judged
+  accepted-tells k e = go (job-fault 32 J T .0) (job-fault 32 J T) refl e
+    where
+      go : (m : ℕ) (f : Fault) → f .0 ≡ m → record { accepted = true; number = 0; index = 0; counts = k } ≡ judged m f (job-cost 32 J T) → (m ≡ 0) × (job-cost 32 J T ≡ k)
+      go zero f q p = (refl, sym (ap (λ (v : Verdict). v .counts) p))
+      go (suc m) f q p = let z : 0 ≡ f .0 = ap (λ (v : Verdict). v .number) p in absurd (omega arith)
+
+  pub or-accepted : (x : ℕ) → job-fault 32 J T .0 ≡ 0 → (x, 0) ≡ or-else (job-fault 32 J T) x
+  unfolding or-else
+  or-accepted x e = rw (eq-eqb (job-fault 32 J T .0) 0 e)
+
+-- ---- the counts of the orders before a place
+
+pub none-passed : (n : ℕ) (k : Cost) → (n ≡ 0 → ⊥) → cost-of 0 0 0 0 ≡ passed n k
+unfolding passed
+none-passed zero k h = absurd (h refl)
+none-passed (suc n) k h = refl
+
+pub no-fault-passed : (n : ℕ) (k : Cost) → n ≡ 0 → passed n k ≡ k
+unfolding passed
+no-fault-passed zero k e = refl
+no-fault-passed (suc n) k e = absurd (omega arith)
+
+pub all-passed : (k : Cost) → k ≡ passed 0 k
+unfolding passed
+all-passed k = refl
+
+pub counts-passed : (J T : List ℕ) (place : ℕ) (k : Cost) → record { accepted = true; number = 0; index = 0; counts = k } ≡ check-job 32 J T
+    → counts-before 32 J T place ≡ job-cost 32 (take (place * 4) J) T
+unfolding counts-before judged
+counts-passed J T place k e = ap (λ (m : ℕ). judged m (job-fault 32 J T) (job-cost 32 (take (place * 4) J) T) .counts) (accepted-tells J T k e .0)
+
+-- ---- the lists
+
+-- by the tests of the three lengths; the counts' words play no part
+module _ (n m i j : ℕ) (A B D : List ℕ) where
+  pub short-list-a : length A < i → 6 ≡ dealer-lists-fault (cost-of n m i j) A B D
+  unfolding dealer-lists-fault short-a
+  short-list-a h = rw (lt-ltb (length A) i h)
+
+  pub short-list-b : i ≤ length A → length B < j → 6 ≡ dealer-lists-fault (cost-of n m i j) A B D
+  unfolding dealer-lists-fault short-a short-b
+  short-list-b g h = rw (le-ltb (length A) i g, lt-ltb (length B) j h)
+
+  pub short-buffer : i ≤ length A → j ≤ length B → length D < n → 7 ≡ dealer-lists-fault (cost-of n m i j) A B D
+  unfolding dealer-lists-fault short-a short-b short-deals
+  short-buffer f g h = rw (le-ltb (length A) i f, le-ltb (length B) j g, lt-ltb (length D) n h)
+
+  pub long-enough : i ≤ length A → j ≤ length B → n ≤ length D → 0 ≡ dealer-lists-fault (cost-of n m i j) A B D
+  unfolding dealer-lists-fault short-a short-b short-deals
+  long-enough f g h = rw (le-ltb (length A) i f, le-ltb (length B) j g, le-ltb (length D) n h)
+
+-- ---- the host
+
+module _ (h : ℕ) (σ : Script) (M D : List ℕ) where
+  pub no-host : (h ≡ 1 → ⊥) → (h ≡ 2 → ⊥) → (1, 0) ≡ lent-fault (lent h σ M D)
+  unfolding lent-fault
+  no-host p q = rw (ne-eqb h 1 p, ne-eqb h 2 q)
+
+  -- none is left where the number is 0
+  pub no-fault : lent-fault (lent h σ M D) .0 ≡ 0 → σ .fault .0 ≡ 0
+  unfolding lent-fault or-else
+  no-fault e = go (eqb h 1 || eqb h 2) e
+    where
+      none : (m j n : ℕ) → or-else (m, j) n .0 ≡ 0 → m ≡ 0
+      none zero j n p = refl
+      none (suc m) j n p = rw (ne-eqb (suc m) 0 (λ z. omega arith)) at p
+
+      go : (t : Bool) → cond t (or-else (σ .fault) (lists-fault (script-cost σ) (lent h σ M D))) (1, 0) .0 ≡ 0 → σ .fault .0 ≡ 0
+      go true p = none (σ .fault .0) (σ .fault .1) _ p
+      go false p = absurd (omega arith)

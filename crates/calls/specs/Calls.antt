@@ -1,0 +1,148 @@
+-- Document 01, "Stepping": preparation, starting and hearing, each with its whole answer. Assumes nothing.
+use mathlib.Core.List.{List, [], _∷_, _++_}
+use Prim.Native.Nat.{ℕ, zero, suc}
+use lib.ListN.{take, drop, replicate, length}
+use Rattle.gates.specs.Steps.{Lane, Exchange, Step, local, deal, exchange, end, Cursor, origin, past}
+use Rattle.gates.specs.Walk.{Conf, walk, whole}
+use Rattle.gates.specs.Parties.{Pair, act0, deals}
+use Rattle.jobs.specs.Job.{Fault}
+use Rattle.calls.specs.Places.{Found, nowhere, found, seek}
+use Rattle.calls.specs.Scripts.{Script}
+use Rattle.calls.specs.Lent.{Lent, Party, party-of, lent-fault, dealer-fault}
+
+-- "A host's state is sixteen registers, the words kept between gates, and a place": the lanes m and mask, registers in
+-- slots 0 to 15 and temporaries behind
+pub record State : Type 0 where
+  pub m : Lane
+  pub mask : Lane
+  pub order : ℕ
+  pub turn : ℕ
+
+-- the answer of starting and hearing: the number, 0 for none, and the order's index; the words spoken so far, the word
+-- given, and the state
+pub record Answer : Type 0 where
+  pub number : ℕ
+  pub index : ℕ
+  pub spoken : ℕ
+  pub word : ℕ
+  pub state : State
+
+-- "every other number in a refused answer is 0"
+abbrev pub refused : Fault → State → Answer
+refused f s = record { number = f .0; index = f .1; spoken = 0; word = 0; state = s }
+
+-- what is given, for a job sixteen registers, with eight slots behind it that are 0
+unfoldable pub fresh : Lane → Lane
+fresh r = r ++ replicate 8 0
+
+abbrev pub fresh2 : Pair → Pair
+fresh2 r = (fresh (r .0), fresh (r .1))
+
+-- ---- where a walk halts
+
+-- the word given there: at the end 0
+unfoldable pub word-at : {S : Type 0} → (Exchange → Cursor → S → ℕ) → List Step → Cursor → S → ℕ
+word-at say [] c s = 0
+word-at say (local d m l ∷ ss) c s = 0
+word-at say (deal d f ∷ ss) c s = 0
+word-at say (exchange d e ∷ ss) c s = say e c s
+word-at say (end ∷ ss) c s = 0
+
+-- the words spoken so far: one at each product and refresh passed, which is as many as words of B used, and the word
+-- just given
+unfoldable pub spoken-at : List Step → Cursor → ℕ
+spoken-at [] c = c .b
+spoken-at (local d m l ∷ ss) c = c .b
+spoken-at (deal d f ∷ ss) c = c .b
+spoken-at (exchange d e ∷ ss) c = suc (c .b)
+spoken-at (end ∷ ss) c = c .b
+
+abbrev pub state-of : Conf Pair → State
+state-of p = record { m = p .state .0; mask = p .state .1; order = p .cur .order; turn = p .cur .turn }
+
+abbrev pub report : Party → Conf Pair → Answer
+report P p =
+    record {
+      number = 0;
+      index = 0;
+      spoken = spoken-at (p .rest) (p .cur);
+      word = word-at (P .say) (p .rest) (p .cur) (p .state);
+      state = state-of p;
+    }
+
+-- the fault's refusal, or the answer where there is none
+unfoldable pub unless : ℕ → Fault → State → Answer → Answer
+unless zero f s a = a
+unless (suc n) f s a = refused f s
+
+-- ---- starting: "runs to its first product or refresh and gives the word it speaks"
+
+unfoldable pub start-walk : Lent → Pair → Conf Pair
+start-walk L r = walk (party-of L .act) (L .script .steps) origin (fresh2 r) []
+
+-- "Refused starting gives back the registers it was given"
+unfoldable pub given : Pair → State
+given r = record { m = fresh (r .0); mask = fresh (r .1); order = 0; turn = 0 }
+
+unfoldable pub start : Lent → (registers : Pair) → Answer
+start L r = unless (lent-fault L .0) (lent-fault L) (given r) (report (party-of L) (start-walk L r))
+
+-- ---- hearing: "takes the other's word and runs to the next, or to the end, where the word given is 0"
+
+-- the walk from the product or refresh that was found, the word heard
+unfoldable pub hear-walk : Party → State → ℕ → Found → Conf Pair
+hear-walk P s v nowhere = walk (P .act) [] origin (s .m, s .mask) []
+hear-walk P s v (found [] c) = walk (P .act) [] c (s .m, s .mask) []
+hear-walk P s v (found (local d m l ∷ ss) c) = walk (P .act) [] c (s .m, s .mask) []
+hear-walk P s v (found (deal d f ∷ ss) c) = walk (P .act) [] c (s .m, s .mask) []
+hear-walk P s v (found (exchange d e ∷ ss) c) = walk (P .act) ss (past (exchange d e) c)
+    (P .hear d e c (s .m, s .mask) v) []
+hear-walk P s v (found (end ∷ ss) c) = walk (P .act) [] c (s .m, s .mask) []
+
+-- "8. The state's place is neither the end nor a product or refresh of this job." "9. Hearing is called at the end."
+unfoldable pub place-fault : Found → ℕ
+place-fault nowhere = 8
+place-fault (found [] c) = 9
+place-fault (found (local d m l ∷ ss) c) = 8
+place-fault (found (deal d f ∷ ss) c) = 8
+place-fault (found (exchange d e ∷ ss) c) = 0
+place-fault (found (end ∷ ss) c) = 8
+
+unfoldable pub found-of : Lent → State → Found
+found-of L s = seek (s .order) (s .turn) (L .script .steps) origin
+
+unfoldable pub resume : Party → State → ℕ → Found → Answer
+resume P s v f = unless (place-fault f) (place-fault f, 0) s (report P (hear-walk P s v f))
+
+unfoldable pub hear : Lent → State → (heard : ℕ) → Answer
+hear L s v = unless (lent-fault L .0) (lent-fault L) s (resume (party-of L) s v (found-of L s))
+
+-- ---- preparation: "writes exactly its deals, in gate order, and gives back its masks of all registers; later words of
+-- its buffer keep their content"
+
+pub record Prepared : Type 0 where
+  pub number : ℕ
+  pub index : ℕ
+  pub deals : ℕ
+  pub masks : Pair
+  pub buffer : List ℕ
+
+unfoldable pub prepare-walk : Script → (A B : List ℕ) → Pair → Conf Pair
+prepare-walk σ A B r = whole (act0 A B) (σ .steps) origin (fresh2 r) []
+
+unfoldable pub script-deals : Script → (A B : List ℕ) → Pair → List ℕ
+script-deals σ A B r = deals A B (σ .steps) origin (fresh2 r)
+
+unfoldable pub prepared : ℕ → Fault → Script → (A B buffer : List ℕ) → Pair → Prepared
+prepared zero f σ A B buf r =
+    record {
+      number = 0;
+      index = 0;
+      deals = length (script-deals σ A B r);
+      masks = (take (σ .slots) (prepare-walk σ A B r .state .0), take (σ .slots) (prepare-walk σ A B r .state .1));
+      buffer = script-deals σ A B r ++ drop (length (script-deals σ A B r)) buf;
+    }
+prepared (suc n) f σ A B buf r = record { number = f .0; index = f .1; deals = 0; masks = r; buffer = buf }
+
+unfoldable pub prepare : Script → (A B buffer : List ℕ) (masks : Pair) → Prepared
+prepare σ A B buf r = prepared (dealer-fault σ A B buf .0) (dealer-fault σ A B buf) σ A B buf r

@@ -1,0 +1,90 @@
+use Rattle.gates.proofs.Others.{silent}
+use Rattle.gates.proofs.Spoken.{product-said2, and-said2, refresh-said2}
+use borrow.Author.Needs.{needs}
+use Rattle.gate_speak.proofs.word2.Statement.{statement}
+use Rattle.gate_speak.proofs.word2.Tie as tie
+
+enum-known-g : tie.Need-enum-known-g
+enum-known-g c = search needs
+
+at-requires : tie.Need-at-requires
+at-requires c κs = search needs
+
+at-requires-2 : tie.Need-at-requires-2
+at-requires-2 c κs = search needs
+
+at-requires-3 : tie.Need-at-requires-3
+at-requires-3 c κs = search needs
+
+at-requires-4 : tie.Need-at-requires-4
+at-requires-4 c κs = search needs
+
+product-word2-requires : tie.Need-product-word2-requires
+product-word2-requires c κs = search needs
+
+enum-known-g-2 : tie.Need-enum-known-g-2
+enum-known-g-2 c = search needs
+
+at-requires-5 : tie.Need-at-requires-5
+at-requires-5 c κs = search needs
+
+at-requires-6 : tie.Need-at-requires-6
+at-requires-6 c κs = search needs
+
+at-requires-7 : tie.Need-at-requires-7
+at-requires-7 c κs = search needs
+
+at-requires-8 : tie.Need-at-requires-8
+at-requires-8 c κs = search needs
+
+and-word2-requires : tie.Need-and-word2-requires
+and-word2-requires c κs = search needs
+
+enum-known-g-3 : tie.Need-enum-known-g-3
+enum-known-g-3 c = search needs
+
+at-requires-9 : tie.Need-at-requires-9
+at-requires-9 c κs = search needs
+
+refresh-word2-requires : tie.Need-refresh-word2-requires
+refresh-word2-requires c κs = search needs
+
+returns : tie.Need-returns
+returns c =
+    product-said2 _ _ _ _ _ _ _ _ (c .before .before .before .before .before .before .g .given .1) (c .before .before .before .before .at .ensures) (c .before .before .before .at2 .ensures) (c .before .before .at3 .ensures) (c .before .at4 .ensures)
+    (c .product-word2 .ensures)
+
+returns-2 : tie.Need-returns-2
+returns-2 c =
+    and-said2 _ _ _ _ _ _ _ _ (c .before .before .before .before .before .before .g2 .given .1) (c .before .before .before .before .at5 .ensures) (c .before .before .before .at6 .ensures) (c .before .before .at7 .ensures) (c .before .at8 .ensures)
+    (c .and-word2 .ensures)
+
+returns-3 : tie.Need-returns-3
+returns-3 c = refresh-said2 _ _ _ _ _ _ _ (c .before .before .before .g3 .given .1) (c .before .at9 .ensures) (c .refresh-word2 .ensures)
+
+returns-4 : tie.Need-returns-4
+returns-4 c = silent (c .before .args .g) (c .match .keys4) .second _ _ _ _
+
+pub word2-spec : {M : Type 1} → statement M
+word2-spec =
+    tie.close
+    (tie.spec
+    enum-known-g
+    at-requires
+    at-requires-2
+    at-requires-3
+    at-requires-4
+    product-word2-requires
+    enum-known-g-2
+    at-requires-5
+    at-requires-6
+    at-requires-7
+    at-requires-8
+    and-word2-requires
+    enum-known-g-3
+    at-requires-9
+    refresh-word2-requires
+    returns
+    returns-2
+    returns-3
+    returns-4)

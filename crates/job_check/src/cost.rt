@@ -1,0 +1,79 @@
+// The counts of an order, from document 01's table of costs, and their sums.
+ghost use mathlib.Core.Path.{_≡_};
+ghost use mathlib.Core.Bool.{cond};
+ghost use Prim.Native.Nat.{_+_, _≤_};
+ghost use lib.ListN.{length};
+ghost use Rattle.tables.specs.Table.{rows, keeps-rules};
+ghost use Rattle.gates.specs.Costs.{cost-of, plus};
+ghost use Rattle.jobs.specs.Walk.{counted, Small, kind-cost};
+use programs::Order;
+use jobs::Counts;
+
+pub(crate) fn count_of(deals: u32, words: u32, a: u32, b: u32) -> Counts
+    ensures { λ r. ⌜ counted r ≡ cost-of deals words a b ⌝ }
+{
+    Counts { deals, words, a, b }
+}
+
+pub(crate) fn none() -> Counts
+    ensures { λ r. ⌜ counted r ≡ cost-of 0 0 0 0 ⌝ }
+{
+    count_of(0, 0, 0, 0)
+}
+
+// Both keep far below a word: no job comes near it.
+pub(crate) fn plus(x: Counts, y: Counts) -> Counts
+    requires { ⌜ Small x × Small y ⌝ }
+    ensures { λ r. ⌜ counted r ≡ plus (counted x) (counted y) ⌝ }
+{
+    Counts {
+        deals: x.deals + y.deals,
+        words: x.words + y.words,
+        a: x.a + y.a,
+        b: x.b + y.b,
+    }
+}
+
+// The rows of a table that keeps its rules; without one no curve is counted.
+pub(crate) fn rows_of(table: &[u32], ruled: bool) -> u32
+    requires { ⌜ ruled ≡ keeps-rules (now table) ⌝ }
+    ensures { λ n. ⌜ n ≡ cond ruled (length (rows (now (table .entry)))) 0 ⌝ }
+{
+    if ruled { (table.len() / 2) as u32 } else { 0 }
+}
+
+// A curve: one kind 9 for each row, then a kind 8, or a kind 5 and a kind 7.
+fn curve_counts(mode: u32, rows: u32) -> Counts
+    requires { ⌜ rows ≤ 16 ⌝ }
+    ensures { λ r. ⌜ counted r ≡ kind-cost 10 mode rows ⌝ }
+{
+    if mode == 0 {
+        count_of(
+            14 * rows + 16,
+            24 * rows + 24,
+            26 * rows + 28,
+            12 * rows + 12,
+        )
+    } else {
+        count_of(14 * rows + 3, 24 * rows + 4, 26 * rows + 5, 12 * rows + 2)
+    }
+}
+
+// The counts of an order, with a table of so many rows.
+pub(crate) fn order_counts(o: Order, rows: u32) -> Counts
+    requires { ⌜ rows ≤ 16 ⌝ }
+    ensures { λ r. ⌜ counted r ≡ kind-cost (o .kind) (o .fourth) rows ⌝ }
+{
+    let kind = o.kind;
+    let fourth = o.fourth;
+    match kind {
+        4 => count_of(1, 2, 2, 1),
+        5 => count_of(0, 2, 1, 1),
+        6 => count_of(1, 0, 1, 0),
+        7 => count_of(3, 2, 4, 1),
+        8 => count_of(16, 24, 28, 12),
+        9 => count_of(14, 24, 26, 12),
+        10 => curve_counts(fourth, rows),
+        _ => none(),
+    }
+}

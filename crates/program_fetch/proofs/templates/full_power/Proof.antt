@@ -1,0 +1,20 @@
+use mathlib.Core.Path.{_∙_}
+use borrow.Author.Needs.{needs}
+use Rattle.program_fetch.proofs.Packing.{full}
+use Rattle.program_fetch.proofs.templates.full_power.Statement.{statement}
+use Rattle.program_fetch.proofs.templates.full_power.Tie as tie
+
+sub-power : tie.Need-sub-power
+sub-power c = search needs
+
+power-requires : tie.Need-power-requires
+power-requires c κs = search needs
+
+returns : tie.Need-returns
+returns c = simp (c .match .keys1)
+
+returns-2 : tie.Need-returns-2
+returns-2 c = c .power .ensures ∙ full _ (c .before .match .rest .1)
+
+pub full-power-spec : {M : Type 1} → statement M
+full-power-spec = tie.close (tie.spec sub-power power-requires returns returns-2)

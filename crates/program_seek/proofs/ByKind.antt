@@ -1,0 +1,53 @@
+-- The kinds without an exchange, which a search by kind leaves over, and those of a single one. Assumes nothing.
+use mathlib.Core.Path.{_≡_, refl}
+use mathlib.Core.List.{List, [], _∷_}
+use Prim.Native.Nat.{ℕ, zero, suc}
+use lib.ListN.{getD}
+use Rattle.gates.specs.declared.Gate.the-variants.{Mul, Refresh}
+use Rattle.gates.specs.Meaning.{meaning}
+use Rattle.gates.specs.Speech.{shape}
+use Rattle.tables.specs.Table.{Row}
+use Rattle.programs.specs.declared.Order.{Order}
+use Rattle.programs.specs.Programs.{slack-program}
+use Rattle.programs.specs.Orders.{kinds, program}
+use Rattle.program_seek.specs.declared.Sought.{Sought}
+use Rattle.program_seek.specs.declared.Sought.the-variants.{Found, Nowhere}
+use Rattle.program_seek.specs.Seek.{sought-at, sought}
+
+-- neither a product, a refresh, a truncation nor a ReLU
+abbrev pub Quiet : ℕ → Type 0
+Quiet k = ((((((Unit {0} × (k ≡ 4 → ⊥)) × (k ≡ 5 → ⊥)) × (k ≡ 7 → ⊥)) × (k ≡ 8 → ⊥)) × (k ≡ 9 → ⊥)) × (k ≡ 10 → ⊥))
+
+module _ (ps : List Row) (d a c n : ℕ) where
+  quiet : (k : ℕ) → Quiet k → Nowhere ≡ sought 32 (getD (kinds 32 ps d a c) k []) n 0 0 0
+  unfolding kinds slack-program sought sought-at meaning shape
+  quiet zero h = refl
+  quiet (suc zero) h = refl
+  quiet (suc (suc zero)) h = refl
+  quiet (suc (suc (suc zero))) h = refl
+  quiet (suc (suc (suc (suc zero)))) h = absurd (h .0 .0 .0 .0 .0 .1 refl)
+  quiet (suc (suc (suc (suc (suc zero))))) h = absurd (h .0 .0 .0 .0 .1 refl)
+  quiet (suc (suc (suc (suc (suc (suc zero)))))) h = refl
+  quiet (suc (suc (suc (suc (suc (suc (suc zero))))))) h = absurd (h .0 .0 .0 .1 refl)
+  quiet (suc (suc (suc (suc (suc (suc (suc (suc zero)))))))) h = absurd (h .0 .0 .1 refl)
+  quiet (suc (suc (suc (suc (suc (suc (suc (suc (suc zero))))))))) h = absurd (h .0 .1 refl)
+  quiet (suc (suc (suc (suc (suc (suc (suc (suc (suc (suc zero)))))))))) h = absurd (h .1 refl)
+  quiet (suc (suc (suc (suc (suc (suc (suc (suc (suc (suc (suc k))))))))))) h = refl
+
+pub no-exchange : (ps : List Row) (o : Order) (n : ℕ) → Quiet (o .kind) → Nowhere ≡ sought 32 (program 32 ps o) n 0 0 0
+unfolding program
+no-exchange ps o n h = quiet ps (o .target) (o .source) (o .fourth) n (o .kind) h
+
+-- ---- a program of one exchange
+
+abbrev Once : Sought → ℕ → Type 0
+Once s n = ((d x y : ℕ) → s ≡ sought 32 (Mul d x y ∷ []) n 0 0 0) × ((d x : ℕ) → s ≡ sought 32 (Refresh d x ∷ []) n 0 0 0)
+
+pub once : (n : ℕ) → n ≡ 0 → Once (Found 0 0 0) n
+unfolding sought sought-at meaning shape
+once n z = (λ d x y. rw z, λ d x. rw z)
+
+pub not-once : (n : ℕ) → (n ≡ 0 → ⊥) → Once Nowhere n
+unfolding sought sought-at meaning shape
+not-once zero f = absurd (f refl)
+not-once (suc n) f = (λ d x y. refl, λ d x. refl)

@@ -1,0 +1,48 @@
+-- The place of a program's n-th product or refresh. Assumes nothing.
+use mathlib.Core.Path.{_≡_}
+use mathlib.Core.Bool.{cond}
+use mathlib.Core.List.{List, [], _∷_}
+use Prim.Native.Nat.{ℕ, zero, suc, _+_}
+use lib.Dec.{ltb}
+use Rattle.gates.specs.declared.Gate.{Gate}
+use Rattle.gates.specs.declared.Shape.{Shape}
+use Rattle.gates.specs.declared.Shape.the-variants.{Local, Dealing, Product, Refreshing}
+use Rattle.gates.specs.Meaning.{meaning}
+use Rattle.gates.specs.Speech.{shape}
+use Rattle.programs.specs.Costs.{program-cost}
+use Rattle.program_seek.specs.declared.Sought.{Sought}
+use Rattle.program_seek.specs.declared.Sought.the-variants.{Found, Nowhere}
+
+-- with the shape of the gate at index i, before which a words of A and k deals are used: on to the gates behind it,
+-- or found
+unfoldable pub sought-at : Shape → (n i a k : ℕ) → (ℕ → ℕ → ℕ → ℕ → Sought) → Sought
+sought-at Local n i a k go = go n (suc i) a k
+sought-at (Dealing d) n i a k go = go n (suc i) (suc a) (suc k)
+sought-at (Product d) zero i a k go = Found i a k
+sought-at (Product d) (suc n) i a k go = go n (suc i) (2 + a) (suc k)
+sought-at (Refreshing d) zero i a k go = Found i a k
+sought-at (Refreshing d) (suc n) i a k go = go n (suc i) (suc a) k
+
+-- the n-th product or refresh, from 0
+unfoldable pub sought : (w : ℕ) → List Gate → (n i a k : ℕ) → Sought
+sought w [] n i a k = Nowhere
+sought w (g ∷ gs) n i a k = sought-at (shape (meaning w g)) n i a k (sought w gs)
+
+-- ---- the answer
+
+pub record Position : Type 0 where
+  pub number : ℕ
+  pub gate : ℕ
+  pub a : ℕ
+  pub deals : ℕ
+
+-- the paper's number and values for each answer: 8 is "neither the end nor a product or refresh of this job"
+abbrev pub placing : Sought → Position
+placing (Found i a k) = record { number = 0; gate = i; a = a; deals = k }
+placing Nowhere = record { number = 8; gate = 0; a = 0; deals = 0 }
+
+-- the answer s for the n-th product or refresh, from 0; its number is 8 where the program has no such one: each uses a
+-- word of B, and nothing else does
+pub record Seeks (w : ℕ) (gs : List Gate) (n : ℕ) (s : Sought) : Type 0 where
+  pub is : s ≡ sought w gs n 0 0 0
+  pub number : placing s .number ≡ cond (ltb n (program-cost w gs .b)) 0 8

@@ -1,0 +1,153 @@
+use mathlib.Core.Path.{_∙_}
+use denote.Ref.{now}
+use native.Mathlib.Omega.{arith}
+use Prim.Native.Nat.{_+_}
+use Rattle.jobs.specs.Job.{job-gates, steps-of}
+use Rattle.jobs.specs.Walk.{counted}
+use Rattle.calls.specs.Scripts.{job-script}
+use Rattle.calls.proofs.Scripts.{job-made}
+use Rattle.worker.specs.Answers.{state-of}
+use Rattle.worker.proofs.Jobs.{gates-count, gates-drop, sized}
+use Rattle.worker.proofs.Heard.{steps-at}
+use Rattle.worker.proofs.Finding.{There, hear-refused, at-nowhere, at-exchange, past-orders, accepted, none-there, found-there}
+use borrow.Author.Needs.{needs}
+use Rattle.worker.proofs.State.hear.Statement.{statement}
+use Rattle.worker.proofs.State.hear.Tie as tie
+
+-- the place that was found, with the words and deals that the orders before it use
+there : (c : tie.After-used)
+    → let k = c .before .before .before .before .before .before .before .before in
+    let a = k .before .before .before .before .before .before .before .before .args in
+    let f = c .before .before .gate .given .0 in
+    let u = k .before .before .check-lent .result .counts in
+    There (now (a .job)) (now (a .table)) (a .self .order) (a .self .turn) (f .0) (u .a + f .1 .0) (u .b + a .self .turn) (u .deals + f .1 .1 .0)
+there c =
+    let q = c .before .before .before .before in
+    let k = q .before .before .before .before in
+    let a = k .before .before .before .before .before .before .before .before .args in
+    let u = k .before .before .check-lent in
+    found-there (a .host) (now (a .job)) (now (a .table)) (now (a .masks)) (now (a .deals)) _ _ (k .before .before .check-lent .ensures .0) (k .if1 .left) (a .self .order) (a .self .turn)
+    (q .before .before .if2 .left) _ (q .before .order-at .ensures) _ (q .seek .ensures .is) _ _ _ (c .before .before .gate .given .1) (counted (u .result .counts)) (u .ensures .1)
+
+cast-order : tie.Need-cast-order
+cast-order c = search needs
+
+check-lent-requires : tie.Need-check-lent-requires
+check-lent-requires c κs = search needs
+
+refused-requires : tie.Need-refused-requires
+refused-requires c κs = search needs
+
+returns : tie.Need-returns
+returns c =
+    let a = c .before .before .before .before .before .before .before .before .before .args in
+    c .refused .ensures ∙ hear-refused (a .host) (job-script 32 (now (a .job)) (now (a .table))) (now (a .masks)) (now (a .deals)) (state-of (a .self)) (a .heard) _ _ (c .before .before .before .check-lent .ensures .0) (c .before .if1 .taken)
+
+cast-turn : tie.Need-cast-turn
+cast-turn c = search needs
+
+end-fault-requires : tie.Need-end-fault-requires
+end-fault-requires c κs = search needs
+
+refused-requires-2 : tie.Need-refused-requires-2
+refused-requires-2 c κs = search needs
+
+returns-2 : tie.Need-returns-2
+returns-2 c =
+    let k = c .before .before .before .before in
+    let a = k .before .before .before .before .before .before .before .before .args in
+    c .refused2 .ensures ∙ past-orders (a .host) (job-script 32 (now (a .job)) (now (a .table))) (now (a .masks)) (now (a .deals)) (state-of (a .self)) (a .heard) _ _ (k .before .before .check-lent .ensures .0) (k .if1 .left) (job-gates 32 (now (a .job)) (now (a .table))) (job-made 32 (now (a .job)) (now (a .table))) _ (gates-count 32 (now (a .job)) (now (a .table))) _ (c .before .before .if2 .taken) (c .before .end-fault .ensures)
+
+order-at-requires : tie.Need-order-at-requires
+order-at-requires c κs = search needs
+
+seek-requires : tie.Need-seek-requires
+seek-requires c κs = search needs
+
+enum-told : tie.Need-enum-told
+enum-told c = search needs
+
+refused-requires-3 : tie.Need-refused-requires-3
+refused-requires-3 c κs = search needs
+
+enum-known-gate : tie.Need-enum-known-gate
+enum-known-gate c = search needs
+
+cast-t25 : tie.Need-cast-t25
+cast-t25 c = search needs
+
+add-t26 : tie.Need-add-t26
+add-t26 c = omega (arith, there (c .before) .few-a)
+
+cast-t27 : tie.Need-cast-t27
+cast-t27 c = search needs
+
+add-t28 : tie.Need-add-t28
+add-t28 c = omega (arith, there (c .before .before) .few-k)
+
+cast-b : tie.Need-cast-b
+cast-b c = search needs
+
+add-b : tie.Need-add-b
+add-b c = search needs
+
+resume-requires : tie.Need-resume-requires
+resume-requires c κs =
+    let k = c .before .before .before .before .before .before .before .before .before .before .before in
+    let a = k .before .before .before .before .before .before .before .before .args in
+    let h = there (c .before .before .before) in (
+      sized (now (a .job)) (now (a .table)) (accepted (a .host) (now (a .job)) (now (a .table)) (now (a .masks)) (now (a .deals)) _ _ (k .before .before .check-lent .ensures .0) (k .if1 .left)),
+      h .standing,
+      h .few-gates,
+      h .few-turns,
+      h .few-a,
+      h .few-k,
+      h .few-b,
+    )
+
+returns-3 : tie.Need-returns-3
+unfolding steps-of
+returns-3 c =
+    let q = c .before .before .before in
+    let k = q .before .before .before .before in
+    let a = k .before .before .before .before .before .before .before .before .args in
+    c .refused3 .ensures
+    ∙ at-nowhere (a .host) (job-script 32 (now (a .job)) (now (a .table))) (now (a .masks)) (now (a .deals)) (state-of (a .self)) (a .heard) _ _ (k .before .before .check-lent .ensures .0) (k .if1 .left)
+    (none-there (a .host) (now (a .job)) (now (a .table)) (now (a .masks)) (now (a .deals)) _ _ (k .before .before .check-lent .ensures .0) (k .if1 .left) (a .self .order) (a .self .turn) (q .before .before .if2 .left) _ (q .before .order-at .ensures) _ (q .seek .ensures .is) (c .before .enum-told .given .1))
+
+returns-4 : tie.Need-returns-4
+unfolding steps-of
+returns-4 c =
+    let k = c .before .before .before .before .before .before .before .before .before .before .before .before in
+    let a = k .before .before .before .before .before .before .before .before .args in
+    let h = there (c .before .before .before .before) in
+    let s = h .standing in
+    c .resume .ensures
+    ∙ at-exchange (a .host) (job-script 32 (now (a .job)) (now (a .table))) (now (a .masks)) (now (a .deals)) (state-of (a .self)) (a .heard) _ _ (k .before .before .check-lent .ensures .0) (k .if1 .left) _ _ _ _ (s .speaks) (steps-at (a .host) (now (a .masks)) (now (a .deals)) (job-gates 32 (now (a .job)) (now (a .table))) (a .self .order) _ _ (gates-drop 32 (now (a .job)) (now (a .table)) (a .self .order) (s .in-job)) (s .held) (s .there)) (h .is)
+
+pub hear-spec : {M : Type 1} → statement M
+hear-spec =
+    tie.close
+    (tie.spec
+    cast-order
+    check-lent-requires
+    refused-requires
+    returns
+    cast-turn
+    end-fault-requires
+    refused-requires-2
+    returns-2
+    order-at-requires
+    seek-requires
+    enum-told
+    refused-requires-3
+    enum-known-gate
+    cast-t25
+    add-t26
+    cast-t27
+    add-t28
+    cast-b
+    add-b
+    resume-requires
+    returns-3
+    returns-4)

@@ -1,0 +1,170 @@
+use mathlib.Core.Path.{_≡_, refl, sym, subst, _∙_}
+use denote.Ref.{now}
+use borrow.Author.Needs.{needs}
+use native.Mathlib.Omega.{arith}
+use Prim.Native.Nat.{_*_, _/_, _+_, _-_, _^_, _<_, _≤_}
+use lib.ListN.{length, drop}
+use Rattle.tables.specs.Table.{rows}
+use Rattle.programs.specs.Orders.{program}
+use Rattle.programs.specs.declared.Order.{Order}
+use Rattle.jobs.specs.Job.{job-gates}
+use Rattle.worker_gate.specs.Exchanges.{cursor, host-of}
+use Rattle.worker.specs.Walks.{steps-from, reported}
+use Rattle.worker.proofs.Jobs.{order-there, gates-over}
+use Rattle.worker.proofs.Advancing.{finished, halted, next-order}
+use Rattle.worker.proofs.walk.advance.Statement.{statement}
+use Rattle.worker.proofs.walk.advance.Tie as tie
+
+abbrev Inv-loop : tie.InvT-loop
+Inv-loop host job table masks deals b n m₀ mask₀ order₀ turn₀ at₀ m mask order turn at =
+    (n ≡ length job / 4) × (at .gate ≤ 1000) × (order < 2 ^ 32) × (at .a ≤ 2 ^ 40 + 1000 * order) × (at .k ≤ 2 ^ 40 + 1000 * order)
+    × (reported (host-of host masks deals) (steps-from 32 (at .gate) (drop order (job-gates 32 job table))) (cursor order turn (at .a) b (at .k)) (m, mask)
+    ≡ reported (host-of host masks deals) (steps-from 32 (at₀ .gate) (drop order₀ (job-gates 32 job table))) (cursor order₀ turn₀ (at₀ .a) b (at₀ .k)) (m₀, mask₀))
+
+abbrev μ-loop : tie.MeasureT-loop
+μ-loop host job table masks deals b n m₀ mask₀ order₀ turn₀ at₀ m mask order turn at = n - order
+
+cast-order : tie.Need-cast-order Inv-loop μ-loop
+cast-order c = search needs
+
+loop-holds : tie.Need-loop-holds Inv-loop μ-loop
+loop-holds c =
+    let p = c .before .before .before .before .before .before .before .pre in
+    (refl, p .1, omega (arith, c .struct-known .given), omega (arith, p), omega (arith, p), refl)
+
+order-at-requires : tie.Need-order-at-requires Inv-loop μ-loop
+order-at-requires c κs = search needs
+
+walk-order-requires : tie.Need-walk-order-requires Inv-loop μ-loop
+walk-order-requires c κs =
+    let t = c .before .before .before .before in
+    let l = t .loop in
+    let a = t .before .before .before .before .before .before .before .before .args in
+    let p = t .before .before .before .before .before .before .before .before .pre in
+    let h : l .order < length (now (a .job)) / 4 = omega (arith, c .before .before .before .loop-test .taken, l .inv .0) in (
+      subst (λ (o : Order). length (program 32 (rows (now (a .table))) o) ≤ 1000) (sym (c .before .before .order-at .ensures)) (p .0 .few-gates (l .order) h),
+      l .inv .1,
+      omega (arith, l .inv .3, h, p .0 .few-words),
+      omega (arith, l .inv .4, h, p .0 .few-words),
+    )
+
+fetch-requires : tie.Need-fetch-requires Inv-loop μ-loop
+fetch-requires c κs = search needs
+
+enum-known-g : tie.Need-enum-known-g Inv-loop μ-loop
+enum-known-g c = search needs
+
+say-requires : tie.Need-say-requires Inv-loop μ-loop
+say-requires c κs =
+    let t = c .before .before .before .before .before .before .before .before .before .before .before in
+    let l = t .loop in
+    let p = t .before .before .before .before .before .before .before .before .pre in
+    let w = c .before .before .before .before .before .before .walk-order .ensures in
+    omega (arith, c .before .before .before .before .before .before .before .before .before .before .loop-test .taken, l .inv .0, w .few, w .few-a, l .inv .3, p .0 .few-words)
+
+cast-answered : tie.Need-cast-answered Inv-loop μ-loop
+cast-answered c =
+    let t = c .before .before .before .before .before .before .before .before .before .before .before .before in
+    let l = t .loop in
+    let p = t .before .before .before .before .before .before .before .before .pre in
+    omega (arith, p .4)
+
+add-answered : tie.Need-add-answered Inv-loop μ-loop
+add-answered c =
+    let t = c .before .before .before .before .before .before .before .before .before .before .before .before in
+    let l = t .loop in
+    let p = t .before .before .before .before .before .before .before .before .pre in
+    omega (arith, p .4)
+
+cast-answered-2 : tie.Need-cast-answered-2 Inv-loop μ-loop
+cast-answered-2 c =
+    let t = c .before .before .before .before .before .before .before .before .before .before .before .before in
+    let p = t .before .before .before .before .before .before .before .before .pre in
+    omega (arith, t .loop .inv .0, p .0 .few-words)
+
+answered-requires : tie.Need-answered-requires Inv-loop μ-loop
+answered-requires c κs = search needs
+
+returns : tie.Need-returns Inv-loop μ-loop
+returns c =
+    let t = c .before .before .before .before .before .before .before .before .before .before .before .before .before in
+    let l = t .loop in
+    let a = t .before .before .before .before .before .before .before .before .args in
+    let p = t .before .before .before .before .before .before .before .before .pre in
+    let w = c .before .before .before .before .before .before .before in
+    let h : l .order < length (now (a .job)) / 4 = omega (arith, c .before .before .before .before .before .before .before .before .before .before .before .before .loop-test .taken, l .inv .0) in
+    c .answered .ensures
+    ∙ sym (halted (a .host) (now (a .masks)) (now (a .deals)) (job-gates 32 (now (a .job)) (now (a .table))) (l .order) (l .turn) (l .at .gate) (l .at .a) (a .b) (l .at .k) (l .m, l .mask) _ (order-there 32 (now (a .job)) (now (a .table)) (l .order) h _ (w .before .before .before .before .order-at .ensures)) _ _ _ _ _ (w .before .walk-order .ensures) _ (w .fetch .ensures) _ _ (c .before .before .before .before .before .g .given .1) (c .before .say .ensures)) ∙ l .inv .5
+
+enum-told : tie.Need-enum-told Inv-loop μ-loop
+enum-told c = search needs
+
+add-order : tie.Need-add-order Inv-loop μ-loop
+add-order c = omega arith
+
+loop-less : tie.Need-loop-less Inv-loop μ-loop
+loop-less c = omega arith
+
+loop-again : tie.Need-loop-again Inv-loop μ-loop
+loop-again c =
+    let t = c .before .before .before .before .before .before .before .before in
+    let l = t .loop in
+    let a = t .before .before .before .before .before .before .before .before .args in
+    let p = t .before .before .before .before .before .before .before .before .pre in
+    let w = c .before .before .before .walk-order .ensures in
+    let h : l .order < length (now (a .job)) / 4 = omega (arith, c .before .before .before .before .before .before .before .loop-test .taken, l .inv .0) in (
+      l .inv .0,
+      omega arith,
+      omega (arith, h, p .0 .few-words),
+      omega (arith, w .few, w .few-a, l .inv .3),
+      omega (arith, w .few, w .few-k, l .inv .4),
+      sym (next-order (a .host) (now (a .masks)) (now (a .deals)) (job-gates 32 (now (a .job)) (now (a .table))) (l .order) (l .turn) (l .at .gate) (l .at .a) (a .b) (l .at .k) (l .m, l .mask) _ (order-there 32 (now (a .job)) (now (a .table)) (l .order) h _ (c .before .before .before .before .before .before .order-at .ensures)) _ _ _ _ _ w _ (c .before .before .fetch .ensures) (c .enum-told .given .1)) ∙ l .inv .5,
+    )
+
+cast-answered-3 : tie.Need-cast-answered-3 Inv-loop μ-loop
+cast-answered-3 c =
+    let t = c .before in
+    let l = t .loop in
+    let p = t .before .before .before .before .before .before .before .before .pre in
+    omega (arith, p .4)
+
+cast-answered-4 : tie.Need-cast-answered-4 Inv-loop μ-loop
+cast-answered-4 c = omega arith
+
+answered-requires-2 : tie.Need-answered-requires-2 Inv-loop μ-loop
+answered-requires-2 c κs = search needs
+
+returns-2 : tie.Need-returns-2 Inv-loop μ-loop
+returns-2 c =
+    let t = c .before .before in
+    let l = t .loop in
+    let a = t .before .before .before .before .before .before .before .before .args in
+    let p = t .before .before .before .before .before .before .before .before .pre in
+    c .answered2 .ensures ∙ sym (finished (a .host) (now (a .masks)) (now (a .deals)) (job-gates 32 (now (a .job)) (now (a .table))) (l .order) (l .turn) (l .at .gate) (l .at .a) (a .b) (l .at .k) (l .m, l .mask) (gates-over 32 (now (a .job)) (now (a .table)) (l .order) (omega (arith, c .before .loop-test .left, l .inv .0)))) ∙ l .inv .5
+
+pub advance-spec : {M : Type 1} → statement M
+advance-spec =
+    tie.close
+    (tie.spec
+    Inv-loop
+    μ-loop
+    cast-order
+    loop-holds
+    order-at-requires
+    walk-order-requires
+    fetch-requires
+    enum-known-g
+    say-requires
+    cast-answered
+    add-answered
+    cast-answered-2
+    answered-requires
+    returns
+    enum-told
+    add-order
+    loop-less
+    loop-again
+    cast-answered-3
+    cast-answered-4
+    answered-requires-2
+    returns-2)

@@ -1,0 +1,51 @@
+// Starting host 1 or 2: from its registers to the first product or refresh, or to the end.
+ghost use mathlib.Core.Path.{_≡_};
+ghost use Rattle.calls.specs.Calls as Calls;
+ghost use Rattle.calls.specs.Scripts.{job-script};
+ghost use Rattle.calls.specs.Lent.{lent};
+ghost use Rattle.worker.specs.Answers.{answer-of, lanes-of};
+use crate::Answer;
+use crate::Registers;
+use crate::State;
+use crate::answering::refused;
+use crate::walk::advance;
+use worker_gate::Reach;
+use call_check::check_lent;
+use call_check::fresh;
+
+// Checks 1 to 7 come first, and a refusal gives the registers back.
+pub fn start(
+    host: u32,
+    job: &[u32],
+    table: &[u32],
+    masks: &[u32],
+    deals: &[u32],
+    registers: Registers,
+) -> Answer
+    ensures { λ r.
+        ⌜ answer-of r
+        ≡ Calls.start
+        (lent host (job-script 32 (now (job .entry)) (now (table .entry))) (now (masks .entry)) (now (deals .entry)))
+        (lanes-of registers) ⌝ }
+{
+    let m = registers.m;
+    let mask = registers.mask;
+    let fresh_m = fresh(m);
+    let fresh_mask = fresh(mask);
+    let s = State {
+        m: fresh_m,
+        mask: fresh_mask,
+        order: 0,
+        turn: 0,
+    };
+    let lent = check_lent(host, job, table, masks, deals, 0);
+    if lent.number != 0 {
+        return refused(lent.number, lent.index, s);
+    }
+    let from = Reach {
+        gate: 0,
+        a: 0,
+        k: 0,
+    };
+    advance(host, job, table, masks, deals, s, from, 0)
+}
