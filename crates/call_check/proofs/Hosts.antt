@@ -12,8 +12,8 @@ use Rattle.gates.specs.Costs.{Cost, cost-of}
 use Rattle.jobs.specs.Job.{Fault, job-fault, job-cost, short-a, short-b, short-deals}
 use Rattle.jobs.specs.Walk.{counted}
 use Rattle.jobs.specs.Answers.{check-job}
-use Rattle.calls.specs.Scripts.{job-script}
-use Rattle.calls.specs.Lent.{lists, lent, or-else, lists-fault, lent-fault, passed, dealer-lists-fault}
+use Rattle.calls.specs.Scripts.{Script, job-script}
+use Rattle.calls.specs.Lent.{lent, or-else, lists-fault, lent-fault, passed, dealer-lists-fault}
 use Rattle.calls.proofs.Faults.{accepted-tells, or-accepted, no-host, none-passed}
 use Rattle.call_check.specs.declared.lending.Lending.{Lending}
 use Rattle.call_check.specs.Faults.{fault-of, needs-of}
@@ -26,8 +26,8 @@ lists-tell J T A B D h x k need e en ex =
     ap {B = Fault} (λ (y : ℕ). (y, 0)) (ex ∙ ap (λ (q : Cost). dealer-lists-fault q A B D) (en ∙ ap (needs-of h) (sym (t .1)))) ∙ or-accepted J T _ (t .0)
 
 -- host 1 needs nothing of B and no deals, host 2 nothing of A
-module _ (k : Cost) (M D : List ℕ) where
-  lists-1 : dealer-lists-fault (needs-of 1 k) M M D ≡ lists-fault k (lists 1 M D)
+module _ (σ : Script) (k : Cost) (M D : List ℕ) where
+  lists-1 : dealer-lists-fault (needs-of 1 k) M M D ≡ lists-fault k (lent 1 σ M D)
   unfolding dealer-lists-fault needs-of lists-fault short-a short-b short-deals
   lists-1 = rw (le-ltb (length M) 0 (omega arith), le-ltb (length D) 0 (omega arith)) (go (ltb (length M) (k .a)))
     where
@@ -35,7 +35,7 @@ module _ (k : Cost) (M D : List ℕ) where
       go true = refl
       go false = refl
 
-  lists-2 : dealer-lists-fault (needs-of 2 k) M M D ≡ lists-fault k (lists 2 M D)
+  lists-2 : dealer-lists-fault (needs-of 2 k) M M D ≡ lists-fault k (lent 2 σ M D)
   unfolding dealer-lists-fault needs-of lists-fault short-a short-b short-deals
   lists-2 = rw (le-ltb (length M) 0 (omega arith))
 
@@ -43,8 +43,8 @@ pub of-host : (h : ℕ) (J T M D : List ℕ) (f : Fault) → 1 ≤ h → h < 3 �
     → f ≡ lent-fault (lent h (job-script 32 J T) M D)
 unfolding lent-fault lists-fault job-cost
 of-host zero J T M D f l u e = absurd (omega arith)
-of-host (suc zero) J T M D f l u e = e ∙ ap (or-else (job-fault 32 J T)) (lists-1 (job-cost 32 J T) M D)
-of-host (suc (suc zero)) J T M D f l u e = e ∙ ap (or-else (job-fault 32 J T)) (lists-2 (job-cost 32 J T) M D)
+of-host (suc zero) J T M D f l u e = e ∙ ap (or-else (job-fault 32 J T)) (lists-1 (job-script 32 J T) (job-cost 32 J T) M D)
+of-host (suc (suc zero)) J T M D f l u e = e ∙ ap (or-else (job-fault 32 J T)) (lists-2 (job-script 32 J T) (job-cost 32 J T) M D)
 of-host (suc (suc (suc h))) J T M D f l u e = absurd (omega arith)
 
 pub other-host : (h : ℕ) (J T M D : List ℕ) → (1 ≤ h → h < 3 → ⊥) → (1, 0) ≡ lent-fault (lent h (job-script 32 J T) M D)

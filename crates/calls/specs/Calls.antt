@@ -4,11 +4,11 @@ use Prim.Native.Nat.{ℕ, zero, suc}
 use lib.ListN.{take, drop, replicate, length}
 use Rattle.gates.specs.Steps.{Lane, Exchange, Step, local, deal, exchange, end, Cursor, origin, past}
 use Rattle.gates.specs.Walk.{Conf, walk, whole}
-use Rattle.gates.specs.Parties.{Pair, act0, deals}
+use Rattle.gates.specs.Hosts.{Pair, act0, deals}
 use Rattle.jobs.specs.Job.{Fault}
 use Rattle.calls.specs.Places.{Found, nowhere, found, seek}
 use Rattle.calls.specs.Scripts.{Script}
-use Rattle.calls.specs.Lent.{Lent, Party, party-of, lent-fault, dealer-fault}
+use Rattle.calls.specs.Lent.{Lent, Worker, lent-fault, dealer-fault, worker-of}
 
 -- "A host's state is sixteen registers, the words kept between gates, and a place": the lanes m and mask, registers in
 -- slots 0 to 15 and temporaries behind
@@ -60,7 +60,7 @@ spoken-at (end ∷ ss) c = c .b
 abbrev pub state-of : Conf Pair → State
 state-of p = record { m = p .state .0; mask = p .state .1; order = p .cur .order; turn = p .cur .turn }
 
-abbrev pub report : Party → Conf Pair → Answer
+abbrev pub report : Worker → Conf Pair → Answer
 report P p =
     record {
       number = 0;
@@ -78,19 +78,19 @@ unless (suc n) f s a = refused f s
 -- ---- starting: "runs to its first product or refresh and gives the word it speaks"
 
 unfoldable pub start-walk : Lent → Pair → Conf Pair
-start-walk L r = walk (party-of L .act) (L .script .steps) origin (fresh2 r) []
+start-walk L r = walk (worker-of L .act) (L .script .steps) origin (fresh2 r) []
 
 -- "Refused starting gives back the registers it was given"
 unfoldable pub given : Pair → State
 given r = record { m = fresh (r .0); mask = fresh (r .1); order = 0; turn = 0 }
 
 unfoldable pub start : Lent → (registers : Pair) → Answer
-start L r = unless (lent-fault L .0) (lent-fault L) (given r) (report (party-of L) (start-walk L r))
+start L r = unless (lent-fault L .0) (lent-fault L) (given r) (report (worker-of L) (start-walk L r))
 
 -- ---- hearing: "takes the other's word and runs to the next, or to the end, where the word given is 0"
 
 -- the walk from the product or refresh that was found, the word heard
-unfoldable pub hear-walk : Party → State → ℕ → Found → Conf Pair
+unfoldable pub hear-walk : Worker → State → ℕ → Found → Conf Pair
 hear-walk P s v nowhere = walk (P .act) [] origin (s .m, s .mask) []
 hear-walk P s v (found [] c) = walk (P .act) [] c (s .m, s .mask) []
 hear-walk P s v (found (local d m l ∷ ss) c) = walk (P .act) [] c (s .m, s .mask) []
@@ -111,11 +111,11 @@ place-fault (found (end ∷ ss) c) = 8
 unfoldable pub found-of : Lent → State → Found
 found-of L s = seek (s .order) (s .turn) (L .script .steps) origin
 
-unfoldable pub resume : Party → State → ℕ → Found → Answer
+unfoldable pub resume : Worker → State → ℕ → Found → Answer
 resume P s v f = unless (place-fault f) (place-fault f, 0) s (report P (hear-walk P s v f))
 
 unfoldable pub hear : Lent → State → (heard : ℕ) → Answer
-hear L s v = unless (lent-fault L .0) (lent-fault L) s (resume (party-of L) s v (found-of L s))
+hear L s v = unless (lent-fault L .0) (lent-fault L) s (resume (worker-of L) s v (found-of L s))
 
 -- ---- preparation: "writes exactly its deals, in gate order, and gives back its masks of all registers; later words of
 -- its buffer keep their content"

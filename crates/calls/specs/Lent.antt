@@ -4,10 +4,10 @@ use mathlib.Core.List.{List}
 use Prim.Native.Nat.{ℕ, zero, suc}
 use lib.Dec.{eqb}
 use Rattle.gates.specs.Steps.{Step, Exchange, Cursor}
-use Rattle.gates.specs.Parties.{Pair, act1, word-of1, hear1, act2, word-of2, hear2}
+use Rattle.gates.specs.Hosts.{Pair, act1, word-of1, hear1, act2, word-of2, hear2}
 use Rattle.gates.specs.Costs.{Cost, cost-of}
 use Rattle.jobs.specs.Job.{Fault, short-a, short-b, short-deals}
-use Rattle.calls.specs.Scripts.{Script, blank, script-cost}
+use Rattle.calls.specs.Scripts.{Script, script-cost}
 
 -- starting and hearing: the host's number, what it is to run, the host's own mask list (host 1: A; host 2: B), and the
 -- deals, of which host 1 takes no notice
@@ -20,25 +20,24 @@ pub record Lent : Type 0 where
 abbrev pub lent : (host : ℕ) → Script → (masks deals : List ℕ) → Lent
 lent h σ M D = record { host = h; script = σ; masks = M; deals = D }
 
--- the host's number and its lists alone
-abbrev pub lists : (host : ℕ) (masks deals : List ℕ) → Lent
-lists h M D = lent h blank M D
-
--- a host's steps, its word at a product or refresh, and its lanes when it has heard the other's
-pub record Party : Type 0 where
+-- host 1 or 2, a worker: its steps, its word at a product or refresh, and its lanes when it has heard the other's
+pub record Worker : Type 0 where
   pub act : Step → Cursor → Pair → Pair
   pub say : Exchange → Cursor → Pair → ℕ
   pub hear : ℕ → Exchange → Cursor → Pair → ℕ → Pair
 
-abbrev pub party1 : (A : List ℕ) → Party
-party1 A = record { act = act1 A; say = word-of1 A; hear = hear1 A }
+abbrev pub worker1 : (A : List ℕ) → Worker
+worker1 A = record { act = act1 A; say = word-of1 A; hear = hear1 A }
 
-abbrev pub party2 : (B D : List ℕ) → Party
-party2 B D = record { act = act2 B D; say = word-of2 B D; hear = hear2 B D }
+abbrev pub worker2 : (B D : List ℕ) → Worker
+worker2 B D = record { act = act2 B D; say = word-of2 B D; hear = hear2 B D }
 
--- by the host's number
-unfoldable pub party-of : Lent → Party
-party-of L = cond (eqb (L .host) 1) (party1 (L .masks)) (party2 (L .masks) (L .deals))
+-- by the host's number, with its lists
+unfoldable pub worker-with : (host : ℕ) (masks deals : List ℕ) → Worker
+worker-with h M D = cond (eqb h 1) (worker1 M) (worker2 M D)
+
+abbrev pub worker-of : Lent → Worker
+worker-of L = worker-with (L .host) (L .masks) (L .deals)
 
 -- ---- the checks
 

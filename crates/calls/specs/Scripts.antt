@@ -18,10 +18,6 @@ pub record Script : Type 0 where
 abbrev pub job-script : (w : ℕ) (job table : List ℕ) → Script
 job-script w job table = record { fault = job-fault w job table; slots = 16; steps = steps-of w job table }
 
--- no orders
-abbrev pub blank : Script
-blank = record { fault = (0, 0); slots = 16; steps = [] }
-
 -- its counts: the sums over its orders' gates
 abbrev pub script-cost : Script → Cost
 script-cost σ = cost (σ .steps)

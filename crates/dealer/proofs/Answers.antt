@@ -8,7 +8,7 @@ use lib.ListN.{length, take, drop}
 use lib.Seq.{sets, sets-eq}
 use Rattle.gates.specs.Steps.{Lane, origin}
 use Rattle.gates.specs.Walk.{far}
-use Rattle.gates.specs.Parties.{Pair, deals}
+use Rattle.gates.specs.Hosts.{Pair, deals}
 use Rattle.gates.proofs.Needs.{far-used, deals-length}
 use Rattle.jobs.specs.Job.{Fault}
 use Rattle.calls.specs.Scripts.{Script, script-cost}

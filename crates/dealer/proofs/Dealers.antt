@@ -8,7 +8,7 @@ use lib.ListN.{length, length-set}
 use lib.Seq.{sets}
 use Rattle.gates.specs.Steps.{Lane, at, product, refresh, Step, local, deal, exchange, end, new-at, past-deal, emit, Cursor, past}
 use Rattle.gates.specs.Walk.{whole, far}
-use Rattle.gates.specs.Parties.{Pair, on-mask, act0, dealt, deals}
+use Rattle.gates.specs.Hosts.{Pair, on-mask, act0, dealt, deals}
 use Rattle.gates.specs.Speech.{dealt-word, shape}
 use Rattle.gates.specs.Costs.{Cost, plus, step-cost, used-at, cost}
 use Rattle.gates.proofs.Needs.{cost-append}

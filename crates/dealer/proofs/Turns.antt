@@ -5,7 +5,7 @@ use Prim.Native.Nat.{ℕ, _+_, _*_, _/_, _≤_}
 use lib.ListN.{length, drop, length-set}
 use Rattle.gates.specs.declared.Gate.{Gate}
 use Rattle.gates.specs.Steps.{product, refresh, Step, local, deal, exchange, end}
-use Rattle.gates.specs.Parties.{on-mask}
+use Rattle.gates.specs.Hosts.{on-mask}
 use Rattle.gates.specs.Speech.{shape}
 use Rattle.gates.specs.Meaning.{meaning, order-steps, job-steps}
 use Rattle.tables.specs.Table.{rows}

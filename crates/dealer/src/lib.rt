@@ -1,4 +1,4 @@
-// Party 0: preparation.
+// Host 0: preparation.
 
 mod preparing;
 

@@ -1,4 +1,4 @@
-// Party 0's preparation of a job: its deals, in gate order, and its masks of all registers.
+// Host 0's preparation of a job: its deals, in gate order, and its masks of all registers.
 ghost use mathlib.Core.Path.{_≡_};
 ghost use mathlib.Core.List.{List, [], _∷_};
 ghost use Prim.Native.Nat.{ℕ, _^_, _<_};

@@ -6,7 +6,7 @@ use lib.ListN.{set}
 use Rattle.gates.specs.declared.Shape.{Shape}
 use Rattle.gates.specs.declared.Shape.the-variants.{Local, Dealing, Product, Refreshing}
 use Rattle.gates.specs.Steps.{Lane, at, Step}
-use Rattle.gates.specs.Parties.{on-mask}
+use Rattle.gates.specs.Hosts.{on-mask}
 use Rattle.gates.specs.Speech.{dealt-word, shape}
 use Rattle.gates.specs.declared.Used.{Used}
 

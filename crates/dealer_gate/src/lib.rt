@@ -14,7 +14,7 @@ use word_lists::word_after;
 use word_lists::word_at;
 
 // What host 0 writes at a gate, with so many words and deals used before it. x is the first mask of a deal or a refresh, and
-// g1 of a product, whose new masks come from A after it and from B. Party 2 knows a deal's second mask from the deal alone.
+// g1 of a product, whose new masks come from A after it and from B. Host 2 knows a deal's second mask from the deal alone.
 pub fn deal_gate(
     g: Gate,
     a: &[u32],

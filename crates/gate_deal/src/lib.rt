@@ -16,7 +16,7 @@ fn negated(x: u32) -> u32
     std::num::wrapping_sub_u32(0, x)
 }
 
-// What party 0 deals of the masks l1 and l2.
+// What host 0 deals of the masks l1 and l2.
 fn dealt_number(f: Dealt, l1: u32, l2: u32) -> u32
     ensures { λ r. ⌜ r ≡ dealt-of 32 f l1 l2 ⌝ }
 {
@@ -50,7 +50,7 @@ fn and_deal(a1: u32, a2: u32, b1: u32, b2: u32, g1: u32) -> u32
     ((a1 ^ a2) & (b1 ^ b2)) ^ g1
 }
 
-// Party 0's deal; x is the A word of the first mask, or g1 of a product.
+// Host 0's deal; x is the A word of the first mask, or g1 of a product.
 pub fn deal_word(g: Gate, x: u32, l1: &[u32; 24], l2: &[u32; 24]) -> u32
     ensures { λ r. ⌜ r ≡ dealt-word (meaning 32 g) x (now (l1 .entry)) (now (l2 .entry)) ⌝ }
 {

@@ -1,7 +1,7 @@
 // What a gate writes on a lane before any word is exchanged: one slot, in place. The walks of all three hosts go through
 // `step_mask` and `step_m`.
 ghost use mathlib.Core.Path.{_≡_};
-ghost use Rattle.gates.specs.Parties.{on-m, on-mask};
+ghost use Rattle.gates.specs.Hosts.{on-m, on-mask};
 ghost use Rattle.gates.specs.Meaning.{meaning};
 ghost use Rattle.gate_local.specs.Writes.{written};
 use gates::Gate;
@@ -37,7 +37,7 @@ fn on_mask(g: Gate, v: u32, l: &[u32; 24]) -> Written
     }
 }
 
-// On the lane m of parties 1 and 2, where a constant and a known value enter; after a deal m is 0. Every other gate
+// On the lane m of hosts 1 and 2, where a constant and a known value enter; after a deal m is 0. Every other gate
 // does here what it does on a mask.
 fn on_m(g: Gate, m: &[u32; 24]) -> Written
     ensures { λ r. ⌜ written r (now (m .entry)) ≡ on-m (meaning 32 g) (now (m .entry)) ⌝ }

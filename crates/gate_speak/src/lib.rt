@@ -58,7 +58,7 @@ fn and_word2(ma: u32, mb: u32, a2: u32, b2: u32, g2: u32, l2: u32) -> u32
 
 // ---- the gates
 
-// The word that party 1 speaks, with its part g1 of a product and its new mask.
+// The word that host 1 speaks, with its part g1 of a product and its new mask.
 pub fn word1(g: Gate, m: &[u32; 24], l: &[u32; 24], g1: u32, l1: u32) -> u32
     ensures { λ r. ⌜ r ≡ spoken1 (meaning 32 g) (now (m .entry)) (now (l .entry)) g1 l1 ⌝ }
 {
@@ -70,7 +70,7 @@ pub fn word1(g: Gate, m: &[u32; 24], l: &[u32; 24], g1: u32, l1: u32) -> u32
     }
 }
 
-// The word that party 2 speaks, with the deal g2 and its new mask.
+// The word that host 2 speaks, with the deal g2 and its new mask.
 pub fn word2(g: Gate, m: &[u32; 24], l: &[u32; 24], g2: u32, l2: u32) -> u32
     ensures { λ r. ⌜ r ≡ spoken2 (meaning 32 g) (now (m .entry)) (now (l .entry)) g2 l2 ⌝ }
 {
@@ -82,7 +82,7 @@ pub fn word2(g: Gate, m: &[u32; 24], l: &[u32; 24], g2: u32, l2: u32) -> u32
     }
 }
 
-// The new m of an exchange: the sum of party 1's word and party 2's.
+// The new m of an exchange: the sum of host 1's word and host 2's.
 pub fn met_word(g: Gate, v: u32, w: u32) -> u32
     ensures { λ r. ⌜ r ≡ met (meaning 32 g) v w ⌝ }
 {

@@ -7,7 +7,7 @@ use native.Mathlib.Omega.{arith}
 use lib.ListN.{length}
 use Rattle.gates.specs.Steps.{Exchange, product, refresh, Step, local, deal, exchange, end, Cursor, past}
 use Rattle.gates.specs.Walk.{whole}
-use Rattle.gates.specs.Parties.{Pair, Triple, of0, of1, of2, on-m, on-mask, act0, deals, act1, word-of1, act2, word-of2, joint1, joint2, act, Supplied}
+use Rattle.gates.specs.Hosts.{Pair, Triple, of0, of1, of2, on-m, on-mask, act0, deals, act1, word-of1, act2, word-of2, joint1, joint2, act, Supplied}
 use Rattle.gates.specs.Duet.{duet, utter, words, words1, words2, of12}
 use Rattle.gates.specs.Costs.{Cost, cost, step-cost, plus}
 use Rattle.gates.proofs.Seen.{through, Seen, Any, see-whole}

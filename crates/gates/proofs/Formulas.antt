@@ -12,7 +12,7 @@ use Rattle.gates.specs.Steps as Steps
 use Rattle.gates.specs.Steps.{Lane, at, Step, local, exchange, end, Cursor, past}
 use Rattle.gates.specs.Steps.{say1, say2, meet, part2, new-at, past-deal, emit}
 use Rattle.gates.specs.Meaning.{meaning}
-use Rattle.gates.specs.Parties.{Triple, of0, share, Slot, dealt, joint1, joint2, act}
+use Rattle.gates.specs.Hosts.{Triple, of0, share, Slot, dealt, joint1, joint2, act}
 use Rattle.gates.specs.Duet.{utter}
 use Rattle.gates.specs.Costs.{Cost, cost-of, step-cost}
 use Rattle.gates.specs.Formulas.{Effect, a-product, a-refresh, alone, Has, Formulas}

@@ -1,9 +1,9 @@
--- The three parties' steps are the joint walk's, lane by lane, and their words at an exchange are its words. Assumes nothing.
+-- The three hosts' steps are the joint walk's, lane by lane, and their words at an exchange are its words. Assumes nothing.
 use mathlib.Core.Path.{_≡_, refl}
 use mathlib.Core.List.{List, _∷_}
 use Prim.Native.Nat.{ℕ}
 use Rattle.gates.specs.Steps.{Lane, at, Exchange, product, refresh, Step, local, deal, exchange, end, say2, past-deal, emit, Cursor, past}
-use Rattle.gates.specs.Parties.{on-m, on-mask, Triple, of0, of1, of2, act0, dealt, deals, act1, word-of1, hear1, act2, word-of2, hear2, joint1, joint2, act, Starts, Supplied}
+use Rattle.gates.specs.Hosts.{on-m, on-mask, Triple, of0, of1, of2, act0, dealt, deals, act1, word-of1, hear1, act2, word-of2, hear2, joint1, joint2, act, Starts, Supplied}
 use Rattle.gates.proofs.Seen.{Seen, quiet, Always, Any}
 
 module _ (A B : List ℕ) where

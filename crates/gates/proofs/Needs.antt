@@ -10,7 +10,7 @@ use Rattle.gates.specs.Steps.{at, Exchange, product, refresh, Step, loca
 use Rattle.gates.specs.Costs.{Cost, plus, step-cost, cost}
 use Rattle.gates.specs.Duet.{utter, words}
 use Rattle.gates.specs.Walk.{whole, far}
-use Rattle.gates.specs.Parties.{Pair, Triple, of0, act0, dealt, deals, act, joint1, joint2}
+use Rattle.gates.specs.Hosts.{Pair, Triple, of0, act0, dealt, deals, act, joint1, joint2}
 use Rattle.gates.proofs.Lanes.{of0-act}
 
 pub whole-cursor : {S : Type 0} (f : Step → Cursor → S → S) (ss : List Step) (c : Cursor) (s : S) (t : List S) → whole f ss c s t .cur ≡ far ss c

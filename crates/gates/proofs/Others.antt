@@ -10,7 +10,7 @@ use Rattle.gates.specs.declared.Gate.the-variants.{Add, Sub, Xor, Mul, A
 use Rattle.gates.specs.declared.Shape.the-variants.{Local}
 use Rattle.gates.specs.Steps.{Lane, Step, local, deal, part2}
 use Rattle.gates.specs.Meaning.{meaning}
-use Rattle.gates.specs.Parties.{on-m, on-mask}
+use Rattle.gates.specs.Hosts.{on-m, on-mask}
 use Rattle.gates.specs.Speech.{dealt-word, spoken1, spoken2, met, shape}
 
 abbrev Among : List ℕ → Gate → Type 0

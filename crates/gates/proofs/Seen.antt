@@ -1,4 +1,4 @@
--- A walk seen through a function of its state: a party's walk as the lanes of the joint walk. Assumes nothing.
+-- A walk seen through a function of its state: a host's walk as the lanes of the joint walk. Assumes nothing.
 use mathlib.Core.Path.{_≡_, refl, ap}
 use mathlib.Core.List.{List, [], _∷_, _++_, map}
 use Rattle.gates.specs.Steps.{Step, local, deal, exchange, end, Cursor, past}

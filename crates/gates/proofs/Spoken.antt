@@ -11,7 +11,7 @@ use Rattle.gates.specs.Steps.{Lane, at, say1, say2, part2}
 use Rattle.gates.specs.Meaning.{dealt-of, meaning}
 use Rattle.gates.specs.Speech.{dealt-word, spoken1, spoken2}
 
--- ---- party 0's deal, of the masks L1 and L2
+-- ---- host 0's deal, of the masks L1 and L2
 
 module _ (g : Gate) (d a : ℕ) (x : ℕ) (l1 l2 : Lane) {r p q : ℕ} where
   module _ (b : ℕ) {s t : ℕ} where
@@ -34,7 +34,7 @@ module _ (g : Gate) (d a : ℕ) (x : ℕ) (l1 l2 : Lane) {r p q : ℕ} where
   unfolding add meaning dealt-word
   dealt-bits e h i j k = rw (e, k, j, h, i)
 
--- ---- the word that party 1 speaks, from its lanes m and l
+-- ---- the word that host 1 speaks, from its lanes m and l
 
 module _ (g : Gate) (d a : ℕ) (m l : Lane) (g1 l1 : ℕ) {r p s : ℕ} where
   module _ (b : ℕ) {q t : ℕ} where
@@ -50,7 +50,7 @@ module _ (g : Gate) (d a : ℕ) (m l : Lane) (g1 l1 : ℕ) {r p s : ℕ} where
   unfolding meaning spoken1 say1
   refresh-said1 e h i j = rw (e, j, h, i)
 
--- ---- the word that party 2 speaks
+-- ---- the word that host 2 speaks
 
 module _ (g : Gate) (d a : ℕ) (m l : Lane) (g2 l2 : ℕ) {r s : ℕ} where
   module _ (b : ℕ) {p q t : ℕ} where

@@ -18,7 +18,7 @@ use Rattle.gates.specs.declared.Gate.the-variants.{Add, Sub, Xor, Mul, A
 use Rattle.gates.specs.declared.Gate.the-variants.{Const, Public, Deal, DealBits}
 use Rattle.gates.specs.Steps.{Step, end, Cursor, origin, past}
 use Rattle.gates.specs.Meaning.{part, dealt-of, meaning}
-use Rattle.gates.specs.Parties.{Triple, share, Slot, of0, dealt, joint1, joint2, act, Starts}
+use Rattle.gates.specs.Hosts.{Triple, share, Slot, of0, dealt, joint1, joint2, act, Starts}
 use Rattle.gates.specs.Duet.{utter}
 use Rattle.gates.specs.Costs.{step-cost, cost}
 

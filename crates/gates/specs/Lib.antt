@@ -1,7 +1,7 @@
 pub mod Steps
 pub mod Meaning
 pub mod Walk
-pub mod Parties
+pub mod Hosts
 pub mod Speech
 pub mod Costs
 pub mod Duet

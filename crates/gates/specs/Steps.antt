@@ -5,7 +5,7 @@ use lib.ListN.{getD}
 use Rattle.words.specs.Ring.{Ops}
 use Rattle.shares.specs.Gates.{product-deal, product-word1, product-word2, refresh-word1, refresh-word2}
 
--- a party's words of one kind, m or a mask: slots 0 to 15 are the registers, 16 to 23 the temporaries ("the words kept between gates")
+-- a host's words of one kind, m or a mask: slots 0 to 15 are the registers, 16 to 23 the temporaries ("the words kept between gates")
 abbrev pub Lane : Type 0
 Lane = List ℕ
 

@@ -1,5 +1,5 @@
 // The gates of a program on shares: definitions and laws of what a gate writes on a lane, deals and speaks (the code:
-// crates `slots`, `parts`, `shapes`, `lanes`, `deals`, `speech`). A lane is a party's words of one kind, the masked values m or one of the masks:
+// crates `slots`, `parts`, `shapes`, `lanes`, `deals`, `speech`). A lane is a host's words of one kind, the masked values m or one of the masks:
 // slots 0 to 15 are the registers, 16 to 23 the temporaries (document 01's kept words).
 
 // A part of a word.
@@ -10,7 +10,7 @@ pub enum Part {
     Signed { k: u32 },
 }
 
-// What party 0 deals of a value's masks: a part of L = L1 + L2, a part of -L, or the mask L1 xor L2 of a bit share.
+// What host 0 deals of a value's masks: a part of L = L1 + L2, a part of -L, or the mask L1 xor L2 of a bit share.
 pub enum Dealt {
     OfSum { part: Part },
     OfNegated { part: Part },
@@ -36,11 +36,11 @@ pub enum Gate {
     // one bit
     Bit { d: u32, a: u32, n: u32 },
     Const { d: u32, n: u32 },
-    // a known value of parties 1 and 2: a part of a's m
+    // a known value of hosts 1 and 2: a part of a's m
     Public { d: u32, a: u32, part: Part },
-    // a number of a's masks, dealt by party 0
+    // a number of a's masks, dealt by host 0
     Deal { d: u32, a: u32, dealt: Dealt },
-    // the bits of -L, dealt by party 0
+    // the bits of -L, dealt by host 0
     DealBits { d: u32, a: u32 },
 }
 

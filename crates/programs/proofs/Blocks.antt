@@ -20,7 +20,7 @@ use Rattle.gates.specs.declared.Gate.{Gate}
 use Rattle.gates.specs.declared.Gate.the-variants.{Sub, Xor, Mul, And, Bit, Const, Public, DealBits}
 use Rattle.gates.specs.Steps.{at}
 use Rattle.gates.specs.Meaning.{part, dealt-of, meaning}
-use Rattle.gates.specs.Parties.{share, act}
+use Rattle.gates.specs.Hosts.{share, act}
 use Rattle.programs.specs.Programs.{update-gates, rounds, adder, to-number, relu-program}
 use Rattle.programs.proofs.Gates.{Fits}
 use Rattle.programs.proofs.Points.{target, Point, after, afters, afters-append, num, bin, m-of, l1-of, l2-of, keep-m, keep-share, keep-num, keep-bin}

@@ -8,7 +8,7 @@ use Rattle.words.proofs.Below.{Carrier, solve-below}
 use Rattle.shares.specs.Gates as S
 use Rattle.shares.specs.Gates.{Share, value}
 use Rattle.gates.specs.Steps.{Lane, at}
-use Rattle.gates.specs.Parties.{Triple}
+use Rattle.gates.specs.Hosts.{Triple}
 
 -- every word of a lane is below 2^w
 abbrev pub Fits : ℕ → Lane → Type 0

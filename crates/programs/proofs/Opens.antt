@@ -19,7 +19,7 @@ use Rattle.gates.specs.declared.Gate.{Gate}
 use Rattle.gates.specs.declared.Gate.the-variants.{Add, Sub, Mul, Refresh, Scale, Plus}
 use Rattle.gates.specs.Steps.{at, new-at}
 use Rattle.gates.specs.Meaning.{meaning}
-use Rattle.gates.specs.Parties.{share, act}
+use Rattle.gates.specs.Hosts.{share, act}
 use Rattle.tables.specs.Table.{Row}
 use Rattle.curves.specs.Curve.{relu-word, word-curve}
 use Rattle.programs.specs.Programs.{relu-program, slack-program, one-bit-program, exact-program, sum-program, curve-exact, curve-one-bit}

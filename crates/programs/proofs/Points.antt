@@ -26,7 +26,7 @@ use Rattle.gates.specs.declared.Gate.{Gate}
 use Rattle.gates.specs.declared.Gate.the-variants.{Add, Sub, Xor, Mul, And, Refresh, Scale, Plus, Up, Bit, Const, Public, Deal, DealBits}
 use Rattle.gates.specs.Steps.{Lane, at, say1, say2, meet, part2, new-at, Cursor, past}
 use Rattle.gates.specs.Meaning.{part, dealt-of, meaning}
-use Rattle.gates.specs.Parties.{Triple, share, Slot, joint1, joint2, act}
+use Rattle.gates.specs.Hosts.{Triple, share, Slot, joint1, joint2, act}
 use Rattle.gates.proofs.Formulas.{share-path}
 use Rattle.programs.proofs.Gates.{Fits, FitsAll}
 

@@ -19,7 +19,7 @@ use Rattle.gates.specs.declared.Dealt.{Dealt}
 use Rattle.gates.specs.declared.Gate.the-variants.{Add, Sub, Xor, Mul, And, Refresh, Scale, Plus, Up, Bit, Const, Public, Deal, DealBits}
 use Rattle.gates.specs.Steps.{at, say1, say2, meet, part2, new-at, Cursor}
 use Rattle.gates.specs.Meaning.{part, dealt-of, meaning}
-use Rattle.gates.specs.Parties.{Triple, share, Slot, joint1, joint2, act}
+use Rattle.gates.specs.Hosts.{Triple, share, Slot, joint1, joint2, act}
 use Rattle.programs.proofs.Gates.{Fits, FitsAll, sum-opens, difference-opens, scale-opens, plus-opens, known-opens, deal-opens, product-opens, refresh-opens}
 use Rattle.programs.proofs.Points.{part-lt, dealt-lt, Point, after, num, bin, m-of, l1-of, l2-of}
 

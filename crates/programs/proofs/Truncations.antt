@@ -16,7 +16,7 @@ use Rattle.gates.specs.declared.Dealt.the-variants.{OfNegated}
 use Rattle.gates.specs.declared.Gate.{Gate}
 use Rattle.gates.specs.declared.Gate.the-variants.{Add, Sub, Scale, Plus, Bit, Public, Deal}
 use Rattle.gates.specs.Meaning.{part, dealt-of}
-use Rattle.gates.specs.Parties.{share}
+use Rattle.gates.specs.Hosts.{share}
 use Rattle.programs.specs.Programs.{adder, to-number, slack-program, one-bit-program, exact-program}
 use Rattle.programs.proofs.Gates.{Fits}
 use Rattle.programs.proofs.Points.{Other, target, Point, after, afters, afters-append, num, bin, m-of, l1-of, l2-of, keep-m, keep-l1, keep-l2, keep-share, keep-num, keep-bin}

@@ -36,7 +36,7 @@ use Rattle.runs.specs.Orders.{Words, slot, first, before-order, after-order, or
 use Rattle.runs.proofs.Opened.{order-leaves}
 use Rattle.sample_masks.specs.Masks.{multiples}
 use Rattle.sample_masks.proofs.Multiples.{multiples-length, multiples-at, multiples-fit}
-use Rattle.gates.specs.Parties.{Triple}
+use Rattle.gates.specs.Hosts.{Triple}
 use Rattle.trio.specs.Together.{Trio, left}
 use Rattle.trio.proofs.Positions.{prepare-number, lent-of, given-of, P}
 use Rattle.trio.proofs.Leaves.{left-one, register-opens, words-spoken, deals-dealt}

@@ -4,7 +4,7 @@ use mathlib.Core.List.{List, [], _∷_, _++_}
 use Prim.Native.Nat.{ℕ}
 use lib.ListN.{length, drop}
 use Rattle.gates.specs.Steps.{Step, Cursor, origin, past}
-use Rattle.gates.specs.Parties.{Pair, Triple, of0, act, dealt, deals}
+use Rattle.gates.specs.Hosts.{Pair, Triple, of0, act, dealt, deals}
 use Rattle.gates.proofs.Lanes.{of0-act}
 use Rattle.jobs.specs.Job.{Fault}
 use Rattle.calls.specs.Lent.{dealer-fault}

@@ -6,13 +6,13 @@ use Prim.Native.Nat.{ℕ, zero, suc, _+_, _*_, _<_}
 use native.Mathlib.Omega.{arith}
 use Rattle.gates.specs.Steps.{Exchange, product, refresh, Step, local, deal, exchange, end, Cursor, origin}
 use Rattle.gates.specs.Walk.{Conf, conf, next, far}
-use Rattle.gates.specs.Parties.{Triple, act}
+use Rattle.gates.specs.Hosts.{Triple, act}
 use Rattle.gates.specs.Costs.{plus, step-cost, cost}
 use Rattle.gates.proofs.Needs.{far-used}
 use Rattle.calls.specs.Scripts.{ends, Closed}
 use Rattle.calls.specs.Calls.{word-at, spoken-at}
 use Rattle.runs.specs.Runs.{Spoken, Among}
-use Rattle.runs.specs.Demand2.{defined-words}
+use Rattle.runs.specs.InOrder.{defined-words}
 use Rattle.runs.proofs.Places.{Halted, pos, ends-pos}
 use Rattle.runs.proofs.Ties.{joint, spoken}
 

@@ -16,7 +16,7 @@ use Rattle.gates.specs.declared.Gate.{Gate}
 use Rattle.gates.specs.Steps.{Step, Lane, at, end, origin, past}
 use Rattle.gates.specs.Meaning.{meaning, order-steps, job-steps}
 use Rattle.gates.specs.Walk.{whole}
-use Rattle.gates.specs.Parties.{Triple, act}
+use Rattle.gates.specs.Hosts.{Triple, act}
 use Rattle.gates.specs.Costs.{plus, cost, step-cost}
 use Rattle.gates.proofs.Needs.{Further, past-used}
 use Rattle.programs.specs.declared.Order.{Order}

@@ -7,13 +7,13 @@ use lib.ListN.{length, take, drop, replicate, length-set, length-append, take-ap
 use lib.Seq.{take-append-le, take-all}
 use Rattle.gates.specs.Steps.{Lane, at, Exchange, Step, local, deal, exchange, end, Cursor, origin}
 use Rattle.gates.specs.Walk.{Conf, conf, whole, next}
-use Rattle.gates.specs.Parties.{Pair, Triple, of0, of1, of2, act, act0, deals, joint1, joint2, Starts, Supplied}
+use Rattle.gates.specs.Hosts.{Pair, Triple, of0, of1, of2, act, act0, deals, joint1, joint2, Starts, Supplied}
 use Rattle.gates.proofs.Seen.{through, Always, see-whole}
 use Rattle.gates.proofs.Lanes.{seen0}
 use Rattle.gates.proofs.Needs.{deals-length}
 use Rattle.jobs.specs.Job.{Fault}
 use Rattle.calls.specs.Scripts.{script-cost}
-use Rattle.calls.specs.Lent.{party1, party2, party-of, dealer-fault}
+use Rattle.calls.specs.Lent.{worker1, worker2, dealer-fault, worker-with}
 use Rattle.calls.specs.Calls.{State, fresh, fresh2, start-walk, start, found-of, hear, script-deals, prepare-walk, prepared, prepare}
 use Rattle.runs.specs.Runs.{Stage, Spoken, Among, Dealer, idle, ready, Side, waiting, going, World, world, registers, Refuses, dealer, dealer-later, dealer-elsewhere, dealer-later-elsewhere, one-waiting, two-waiting, one-going, two-going, Call, lent1, lent2, Dealt, preparation, started, stepped, Completes, prepares, starts1, starts2, hears1, hears2, given-out, Run, begin, complete, refuse}
 use Rattle.runs.proofs.Places.{pos}
@@ -148,31 +148,31 @@ module _ (S : Stage) where
       (ap (λ (c : Conf Pair). c .trail) v)
 
   start1-ok : (D : List ℕ) (s : State) → registers n s ≡ (S .rm, S .r1) → start (lent1 S D) (registers n s) .number ≡ 0 → OneOk (started S (lent1 S D) s)
-  unfolding party-of start-walk
+  unfolding worker-with start-walk
   start1-ok D s h e =
       rw (start-none (lent1 S D) (registers n s) e .1)
-      (go1 (tie-start A B all j₀ (party1 A) of1 (joint1 A B) (joint2 A B) Always (shadow1 A B) tt (registers n s) (ap {B = Pair} (λ (p : Pair). fresh2 p) h)))
+      (go1 (tie-start A B all j₀ (worker1 A) of1 (joint1 A B) (joint2 A B) Always (shadow1 A B) tt (registers n s) (ap {B = Pair} (λ (p : Pair). fresh2 p) h)))
 
   start2-ok : (D : List ℕ) (s : State) → Supplied A B D all origin j₀ → registers n s ≡ (S .rm, S .r2) → start (lent2 S D) (registers n s) .number ≡ 0
       → TwoOk (started S (lent2 S D) s)
-  unfolding party-of start-walk
+  unfolding worker-with start-walk
   start2-ok D s g h e =
       rw (start-none (lent2 S D) (registers n s) e .1)
-      (go2 (tie-start A B all j₀ (party2 B D) of2 (joint2 A B) (joint1 A B) (Supplied A B D) (shadow2 A B D) g (registers n s) (ap {B = Pair} (λ (p : Pair). fresh2 p) h)))
+      (go2 (tie-start A B all j₀ (worker2 B D) of2 (joint2 A B) (joint1 A B) (Supplied A B D) (shadow2 A B D) g (registers n s) (ap {B = Pair} (λ (p : Pair). fresh2 p) h)))
 
   hear1-ok : (D : List ℕ) (s : State) (t : List Pair) (said said2 : List Spoken) (k v : ℕ) → Tied A B all j₀ of1 (joint1 A B) s t said → Heard A B all j₀ (joint2 A B) k said2
       → Among (s .order, s .turn, v) said2 → hear (lent1 S D) s v .number ≡ 0 → OneOk (stepped S (lent1 S D) s v t said)
-  unfolding party-of found-of
+  unfolding worker-with found-of
   hear1-ok D s t said said2 k v Z H m e =
       let q = hear-none (lent1 S D) s v e .1 in
-      rw q (go1 (tie-hear A B all j₀ (party1 A) of1 (joint1 A B) (joint2 A B) Always (shadow1 A B) tt s t said said2 k v Z H m (rw q at e)))
+      rw q (go1 (tie-hear A B all j₀ (worker1 A) of1 (joint1 A B) (joint2 A B) Always (shadow1 A B) tt s t said said2 k v Z H m (rw q at e)))
 
   hear2-ok : (D : List ℕ) (s : State) (t : List Pair) (said said1 : List Spoken) (k v : ℕ) → Supplied A B D all origin j₀ → Tied A B all j₀ of2 (joint2 A B) s t said
       → Heard A B all j₀ (joint1 A B) k said1 → Among (s .order, s .turn, v) said1 → hear (lent2 S D) s v .number ≡ 0 → TwoOk (stepped S (lent2 S D) s v t said)
-  unfolding party-of found-of
+  unfolding worker-with found-of
   hear2-ok D s t said said1 k v g Z H m e =
       let q = hear-none (lent2 S D) s v e .1 in
-      rw q (go2 (tie-hear A B all j₀ (party2 B D) of2 (joint2 A B) (joint1 A B) (Supplied A B D) (shadow2 A B D) g s t said said1 k v Z H m (rw q at e)))
+      rw q (go2 (tie-hear A B all j₀ (worker2 B D) of2 (joint2 A B) (joint1 A B) (Supplied A B D) (shadow2 A B D) g s t said said1 k v Z H m (rw q at e)))
 
   completes-ok : {c : Call} {v v′ : World} → Completes S c v v′ → Ok v → Ok v′
   completes-ok (prepares {r = r} {buf = buf} e) (ok (not-yet h) one two a) = ok (prepares-ok r buf h e) one two tt

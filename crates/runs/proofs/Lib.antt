@@ -11,15 +11,8 @@ pub mod Opened
 pub mod Opening
 pub mod Progress
 pub mod Started
-pub mod Curves
-pub mod Family
-pub mod Demand3
-pub mod Placed
-pub mod Numbers
-pub mod Demand1
-pub mod Completed
+pub mod InJob
 pub mod Counts
-pub mod Demand2
 pub mod Written
 pub mod Unwritten
 pub mod Returned
@@ -28,10 +21,5 @@ pub mod Holdings
 pub mod InOrder
 pub mod Strict
 pub mod Buffers
-pub mod Whole
-pub mod ReturnedCurves
 pub mod Readings
-pub mod ByKind
 pub mod Same
-pub mod ByHand
-pub mod Fronts

@@ -10,7 +10,7 @@ use Rattle.words.specs.Signed.{signed}
 use Rattle.shares.specs.Gates.{value}
 use Rattle.shares.proofs.RoundTrip.{share-opens}
 use Rattle.gates.specs.Steps.{Exchange, Cursor}
-use Rattle.gates.specs.Parties.{Pair, Triple, of0, of1, of2, act, joint1, joint2}
+use Rattle.gates.specs.Hosts.{Pair, Triple, of0, of1, of2, act, joint1, joint2}
 use Rattle.calls.specs.Calls.{State}
 use Rattle.runs.proofs.Lists.{getD-map}
 use Rattle.runs.specs.Runs.{Stage, Spoken, World, Call, Run, order1, order2, Finished, opened-after}

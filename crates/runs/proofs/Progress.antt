@@ -10,12 +10,12 @@ use borrow.Author.Tests.{le-ltb, eq-eqb}
 use lib.ListN.{length}
 use Rattle.gates.specs.Steps.{origin}
 use Rattle.gates.specs.Walk.{Conf, Exchanging}
-use Rattle.gates.specs.Parties.{Pair, Triple, of0, of1, of2, act, deals, joint1, joint2, Supplied}
+use Rattle.gates.specs.Hosts.{Pair, Triple, of0, of1, of2, act, deals, joint1, joint2, Supplied}
 use Rattle.gates.specs.Costs.{Cost}
 use Rattle.gates.proofs.Seen.{Always}
 use Rattle.jobs.specs.Job.{Fault, short-a, short-b, short-deals}
 use Rattle.calls.specs.Scripts.{Script, script-cost, orders-in, ends}
-use Rattle.calls.specs.Lent.{Lent, party1, party2, party-of, or-else, lists-fault, lent-fault, dealer-lists-fault, dealer-fault}
+use Rattle.calls.specs.Lent.{Lent, worker1, worker2, or-else, lists-fault, lent-fault, dealer-lists-fault, dealer-fault, worker-with, worker-of}
 use Rattle.calls.specs.Calls.{State, Answer, report, unless, given, start-walk, start, found-of, resume, hear, prepared, prepare}
 use Rattle.runs.specs.Runs.{Stage, Spoken, Dealer, going, World, world, registers, Call, lent1, lent2, Completes, prepares, starts1, starts2, hears1, hears2, Run, order1, order2, buffer-of, Accepted}
 use Rattle.runs.proofs.Places.{ends-pos, rest-later, exchange-or-end}
@@ -60,11 +60,11 @@ module _ (S : Stage) where
 
     start-zero : (L : Lent) (r : Pair) → lent-fault L .0 ≡ 0 → start L r .number ≡ 0
     unfolding start
-    start-zero L r e = ap (λ (a : Answer). a .number) (unless-zero (lent-fault L .0) (lent-fault L) (given r) (report (party-of L) (start-walk L r)) e)
+    start-zero L r e = ap (λ (a : Answer). a .number) (unless-zero (lent-fault L .0) (lent-fault L) (given r) (report (worker-of L) (start-walk L r)) e)
 
-    hear-zero : (L : Lent) (s : State) (v : ℕ) → lent-fault L .0 ≡ 0 → resume (party-of L) s v (found-of L s) .number ≡ 0 → hear L s v .number ≡ 0
+    hear-zero : (L : Lent) (s : State) (v : ℕ) → lent-fault L .0 ≡ 0 → resume (worker-of L) s v (found-of L s) .number ≡ 0 → hear L s v .number ≡ 0
     unfolding hear
-    hear-zero L s v e h = ap (λ (a : Answer). a .number) (unless-zero (lent-fault L .0) (lent-fault L) s (resume (party-of L) s v (found-of L s)) e) ∙ h
+    hear-zero L s v e h = ap (λ (a : Answer). a .number) (unless-zero (lent-fault L .0) (lent-fault L) s (resume (worker-of L) s v (found-of L s)) e) ∙ h
 
   -- both hosts' places are the end
   pub record Ended (v : World) : Type 0 where
@@ -92,18 +92,18 @@ module _ (S : Stage) where
         }
 
     move : Onward (world z buf (going s t said) (going s2 t2 said2)) ⊎ Ended (world z buf (going s t said) (going s2 t2 said2))
-    unfolding party-of found-of
+    unfolding worker-with found-of
     move = go (decLe (X .n) (Y .n)) (exchange-or-end (act (S .A) (S .B)) (all S) (j₀ S) _ (X .halts)) (exchange-or-end (act (S .A) (S .B)) (all S) (j₀ S) _ (Y .halts))
       where
         go : Dec (X .n ≤ Y .n) → Exchanging (at-n (X .n) .rest) ⊎ (at-n (X .n) .rest ≡ []) → Exchanging (at-n (Y .n) .rest) ⊎ (at-n (Y .n) .rest ≡ [])
             → Onward (world z buf (going s t said) (going s2 t2 said2)) ⊎ Ended (world z buf (going s t said) (going s2 t2 said2))
         go (yes l) (inl x) y =
-            let c = can-hear (S .A) (S .B) (all S) (j₀ S) (party1 (S .A)) of1 (joint1 (S .A) (S .B)) (joint2 (S .A) (S .B)) Always (shadow1 (S .A) (S .B)) tt s t said said2 (suc (Y .n)) X x (Y .heard) (omega arith) in
+            let c = can-hear (S .A) (S .B) (all S) (j₀ S) (worker1 (S .A)) of1 (joint1 (S .A) (S .B)) (joint2 (S .A) (S .B)) Always (shadow1 (S .A) (S .B)) tt s t said said2 (suc (Y .n)) X x (Y .heard) (omega arith) in
             inl (_, _, hears1 [] (c .word) (c .among) (hear-zero buf acc (lent1 S []) s (c .word) (lent1-zero buf acc []) (c .completes)))
         go (yes l) (inr e) y = inr (both-ended (rest-later (act (S .A) (S .B)) (all S) (j₀ S) (X .n) (Y .n) l e) e)
         go (no l) x (inl y) =
             let h : Supplied (S .A) (S .B) buf (all S) origin (j₀ S) = supplied S buf post buf g refl in
-            let c = can-hear (S .A) (S .B) (all S) (j₀ S) (party2 (S .B) buf) of2 (joint2 (S .A) (S .B)) (joint1 (S .A) (S .B)) (Supplied (S .A) (S .B) buf) (shadow2 (S .A) (S .B) buf) h s2 t2 said2 said (suc (X .n)) Y y (X .heard) (omega arith) in
+            let c = can-hear (S .A) (S .B) (all S) (j₀ S) (worker2 (S .B) buf) of2 (joint2 (S .A) (S .B)) (joint1 (S .A) (S .B)) (Supplied (S .A) (S .B) buf) (shadow2 (S .A) (S .B) buf) h s2 t2 said2 said (suc (X .n)) Y y (X .heard) (omega arith) in
             inl (_, _, hears2 buf refl (c .word) (c .among) (hear-zero buf acc (lent2 S buf) s2 (c .word) (lent2-zero buf acc buf (acc .deals)) (c .completes)))
         go (no l) x (inr e) =
             let p : at-n (X .n) ≡ at-n (Y .n) = sym (rest-later (act (S .A) (S .B)) (all S) (j₀ S) (Y .n) (X .n) (omega arith) e) in

@@ -15,14 +15,14 @@ use Rattle.shares.specs.Gates.{Share, value, mask}
 use Rattle.shares.proofs.RoundTrip.{share-opens}
 use Rattle.tables.specs.Table.{rows, keeps-rules}
 use Rattle.gates.specs.Steps.{at, Step}
-use Rattle.gates.specs.Parties.{Pair, of0, act}
+use Rattle.gates.specs.Hosts.{Pair, of0, act}
 use Rattle.jobs.specs.Job.{orders}
 use Rattle.jobs.proofs.Accepted.{Good}
 use Rattle.calls.specs.Scripts.{orders-in}
 use Rattle.calls.proofs.Scripts.{job-made}
 use Rattle.runs.specs.Runs.{Stage, Setting, staged, World, Call, Run, trail0, order1, order2, Finished, opened-after}
 use Rattle.runs.specs.Orders.{first, trail, slot, after-order, before-order, Unwritten, order-of}
-use Rattle.runs.specs.Demand3.{reading, opens, Finishes}
+use Rattle.runs.specs.Orders.{reading, opens, Finishes}
 use Rattle.runs.specs.Returned.{opened-given}
 use Rattle.runs.specs.Readings.{reading-of, mask-of, mask-after, mask-given, UnwrittenBetween, UntargetedBetween, Origin, of-order, of-given, Readings}
 use Rattle.runs.proofs.Lists.{getD-map}
@@ -33,7 +33,7 @@ use Rattle.runs.proofs.Chain.{gates-length}
 use Rattle.runs.proofs.Spared.{slot-kept}
 use Rattle.runs.proofs.Opened.{gates, gates-is, order-good}
 use Rattle.runs.proofs.Opening.{finished-order, finished-opens}
-use Rattle.runs.proofs.Curves.{in-job, checked}
+use Rattle.runs.proofs.InJob.{in-job, checked}
 use Rattle.runs.proofs.Written.{spares-program}
 use Rattle.runs.proofs.Unwritten.{unwritten-gates}
 use Rattle.runs.proofs.Returned.{start, start-is, Last, writer, nobody, last-of, unequal, target-is}
@@ -72,7 +72,7 @@ module _ (S : Stage) where
       go _ (ok (not-yet h) (go1 X) (go2 Y) a) l k n = absurd a
       go _ (ok (dealt-all d g h e) (go1 X) (go2 Y) a) l k n = rw e (getD-map of0 (last S .trail) p (first S) ([], []) n)
 
-  module _ (q : ℕ) (v : World) (F : Finishes S q v) where
+  module _ (q : ℕ) (v : World) (F : Finishes 32 S q v) where
     abbrev read : Share ℕ → ℕ × ℤ
     read x = (0, signed 32 (value (numbers 32) x))
 
@@ -110,9 +110,9 @@ untargeted S p q i hi u n a b =
     let k : n < length (orders (S .job)) = rw (gates-length 32 (S .job) (S .table)) at h in
     rw (gates-is 32 S n k) (spares-program 32 (rows (S .table)) (order-of S n) i hi (u n a b))))
 
-module _ (S : Setting) (q : ℕ) (v : World) (F : Finishes (staged 32 S) q v) where
+module _ (S : Setting) (q : ℕ) (v : World) (F : Finishes 32 (staged 32 S) q v) where
   -- register i, that order p wrote
-  written-by : (p i : ℕ) → p < q → i < 16 → order-of S p .target ≡ i → UntargetedBetween S (suc p) q i → opens S v p ≡ (0, reading-of (staged 32 S) q i)
+  written-by : (p i : ℕ) → p < q → i < 16 → order-of S p .target ≡ i → UntargetedBetween S (suc p) q i → opens 32 S v p ≡ (0, reading-of (staged 32 S) q i)
   written-by p i l hi e u = ap (opened-after 32 v p) e ∙ written (staged 32 S) q v F p i l (untargeted S (suc p) q i hi u)
 
   given-to : (i : ℕ) → i < 16 → UntargetedBetween S 0 q i → opened-given 32 (staged 32 S) i ≡ (0, reading-of (staged 32 S) q i)
@@ -130,21 +130,21 @@ module _ (S : Setting) (q : ℕ) (v : World) (F : Finishes (staged 32 S) q v) wh
           of-given n (given-to i hi n) (mask-kept (staged 32 S) q v F i hi (untargeted S 0 q i hi n))
 
   abbrev good : Good 32 (keeps-rules (S .table)) (order-of S q)
-  good = order-good 32 S (F .words) (lit≤ tt) (lit< tt) (checked S q v F .script) q (in-job S q v F)
+  good = order-good 32 S (F .words) (lit≤ tt) (lit< tt) (checked 32 S q v F .script) q (in-job 32 S q v F)
 
   source-low : order-of S q .source < 16
   source-low = good .source
 
-  source-written : (p : ℕ) → p < q → order-of S p .target ≡ order-of S q .source → UntargetedBetween S (suc p) q (order-of S q .source) → opens S v p ≡ (0, reading S q)
+  source-written : (p : ℕ) → p < q → order-of S p .target ≡ order-of S q .source → UntargetedBetween S (suc p) q (order-of S q .source) → opens 32 S v p ≡ (0, reading 32 S q)
   unfolding reading reading-of
   source-written p l e u = written-by p (order-of S q .source) l source-low e u
 
-  source-given : UntargetedBetween S 0 q (order-of S q .source) → opened-given 32 (staged 32 S) (order-of S q .source) ≡ (0, reading S q)
+  source-given : UntargetedBetween S 0 q (order-of S q .source) → opened-given 32 (staged 32 S) (order-of S q .source) ≡ (0, reading 32 S q)
   unfolding reading reading-of
   source-given u = given-to (order-of S q .source) source-low u
 
   -- a run that finishes order q finishes the orders before it
-  finishes : (p : ℕ) → p < q → Finishes (staged 32 S) p v
+  finishes : (p : ℕ) → p < q → Finishes 32 (staged 32 S) p v
   finishes p l = record { words = F .words; calls = F .calls; run = F .run; finished = earlier (staged 32 S) q v F p l }
 
 pub readings : Readings

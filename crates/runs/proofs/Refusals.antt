@@ -7,10 +7,10 @@ use native.Mathlib.Nat.{min-eq-left}
 use native.Mathlib.Omega.{arith}
 use lib.ListN.{length, take, drop, replicate, take-append-drop, length-take}
 use lib.Seq.{take-append-le, take-all}
-use Rattle.gates.specs.Parties.{Pair}
+use Rattle.gates.specs.Hosts.{Pair}
 use Rattle.jobs.specs.Job.{Fault}
 use Rattle.calls.specs.Scripts.{Script}
-use Rattle.calls.specs.Lent.{Lent, party-of, lent-fault, dealer-fault}
+use Rattle.calls.specs.Lent.{Lent, lent-fault, dealer-fault, worker-of}
 use Rattle.calls.specs.Calls.{State, Answer, fresh, report, unless, given, start-walk, start, place-fault, hear-walk, found-of, resume, hear, prepared, prepare}
 use Rattle.runs.specs.Runs.{registers, Turned, at-start, at-hearing}
 
@@ -26,23 +26,23 @@ unfolding unless
 unless-state zero f s a e h k = k h
 unless-state (suc n) f s a e h k = refl
 
-pub start-none : (L : Lent) (r : Pair) → start L r .number ≡ 0 → (lent-fault L .0 ≡ 0) × (start L r ≡ report (party-of L) (start-walk L r))
+pub start-none : (L : Lent) (r : Pair) → start L r .number ≡ 0 → (lent-fault L .0 ≡ 0) × (start L r ≡ report (worker-of L) (start-walk L r))
 unfolding start
-start-none L r h = unless-none (lent-fault L .0) (lent-fault L) (given r) (report (party-of L) (start-walk L r)) refl h
+start-none L r h = unless-none (lent-fault L .0) (lent-fault L) (given r) (report (worker-of L) (start-walk L r)) refl h
 
 pub start-state : (L : Lent) (r : Pair) → start L r .number ≢ 0 → start L r .state ≡ given r
 unfolding start
-start-state L r h = unless-state (lent-fault L .0) (lent-fault L) (given r) (report (party-of L) (start-walk L r)) refl h (λ k. absurd (k refl))
+start-state L r h = unless-state (lent-fault L .0) (lent-fault L) (given r) (report (worker-of L) (start-walk L r)) refl h (λ k. absurd (k refl))
 
-pub hear-none : (L : Lent) (s : State) (v : ℕ) → hear L s v .number ≡ 0 → (lent-fault L .0 ≡ 0) × (hear L s v ≡ resume (party-of L) s v (found-of L s))
+pub hear-none : (L : Lent) (s : State) (v : ℕ) → hear L s v .number ≡ 0 → (lent-fault L .0 ≡ 0) × (hear L s v ≡ resume (worker-of L) s v (found-of L s))
 unfolding hear
-hear-none L s v h = unless-none (lent-fault L .0) (lent-fault L) s (resume (party-of L) s v (found-of L s)) refl h
+hear-none L s v h = unless-none (lent-fault L .0) (lent-fault L) s (resume (worker-of L) s v (found-of L s)) refl h
 
 pub hear-state : (L : Lent) (s : State) (v : ℕ) → hear L s v .number ≢ 0 → hear L s v .state ≡ s
 unfolding hear resume
 hear-state L s v h =
     let f = found-of L s in
-    let P = party-of L in
+    let P = worker-of L in
     unless-state (lent-fault L .0) (lent-fault L) s (unless (place-fault f) (place-fault f, 0) s (report P (hear-walk P s v f))) refl h
     (λ k. unless-state (place-fault f) (place-fault f, 0) s (report P (hear-walk P s v f)) refl k (λ z. absurd (z refl)))
 

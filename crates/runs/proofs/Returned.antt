@@ -17,21 +17,21 @@ use Rattle.shares.proofs.RoundTrip.{share-opens}
 use Rattle.tables.specs.Table.{rows}
 use Rattle.gates.specs.Steps.{Lane, at, Step, local, deal, exchange, end, Cursor, origin, past}
 use Rattle.gates.specs.Walk.{Conf, conf, whole, next}
-use Rattle.gates.specs.Parties.{Pair, Triple, of1, of2, act, joint1, joint2}
+use Rattle.gates.specs.Hosts.{Pair, Triple, of1, of2, act, joint1, joint2}
 use Rattle.jobs.specs.Job.{orders}
 use Rattle.calls.specs.Scripts.{orders-in, Closed}
 use Rattle.calls.proofs.Scripts.{job-made}
 use Rattle.calls.specs.Calls.{State, fresh}
 use Rattle.runs.specs.Runs.{Stage, Setting, staged, Spoken, Dealer, Side, World, Call, Run, registers, order1, order2, Finished, opened-slot, opened-after}
 use Rattle.runs.specs.Orders.{Words, trail, after-order, slot, Unwritten, order-of}
-use Rattle.runs.specs.Demand3.{Finishes}
+use Rattle.runs.specs.Orders.{Finishes}
 use Rattle.runs.specs.Returned.{dealer-holds, side-holds, opened-now, opened-given, UnwrittenFrom, Holds, by-order, by-given, UntargetedFrom, JobHolds, of-order, of-given, Returned}
 use Rattle.runs.proofs.Places.{pos, trail-pos, trail-length, whole-pos}
 use Rattle.runs.proofs.Ties.{joint, Tied}
 use Rattle.runs.proofs.Kept.{all, j₀, last, DealerOk, not-yet, dealt-all, OneOk, wait1, go1, TwoOk, wait2, go2, Ok, ok, kept}
 use Rattle.runs.proofs.Chain.{gates-length}
 use Rattle.runs.proofs.Opened.{gates, gates-is, order-good}
-use Rattle.runs.proofs.Curves.{in-job, checked}
+use Rattle.runs.proofs.InJob.{in-job, checked}
 use Rattle.runs.proofs.Opening.{finished-order, finished-opens}
 use Rattle.runs.proofs.Written.{Spares, spares-program}
 use Rattle.runs.proofs.Unwritten.{Misses, act-misses, Spared, spared-all, closed-from, gated-from}
@@ -223,7 +223,7 @@ module _ (w : ℕ) (S : Stage) (i : ℕ) (hi : i < S .script .slots) where
           same-share w (dealer-holds z) (side-holds (S .script .slots) one) (side-holds (S .script .slots) two) i start (p0 .0) (p0 .1) (p1 .0) (p1 .1) (p2 .0) (p2 .1)
           ∙ sym (same-share w (S .r1, S .r2) (S .rm, S .r1) (S .rm, S .r2) i start refl refl refl refl refl refl)
 
-written : (S : Stage) (q : ℕ) (v : World) → Finishes S q v → (i : ℕ) → i < S .script .slots → UnwrittenFrom S (suc q) i
+written : (S : Stage) (q : ℕ) (v : World) → Finishes 32 S q v → (i : ℕ) → i < S .script .slots → UnwrittenFrom S (suc q) i
     → opened-now 32 (S .script .slots) v i ≡ opened-after 32 v q i
 written S q v F i hi u = now-after 32 S i hi v (F .run) q (F .finished) u ∙ sym (finished-opens S 32 v (F .run) q i (F .finished))
 
@@ -301,10 +301,10 @@ untargeted S q i hi u = gated-from 32 (staged 32 S) (gates 32 S) (job-made 32 (S
         rw (gates-is 32 S p k) (spares-program 32 (rows (S .table)) (order-of S p) i hi (u p l k))
 
 -- an accepted order's target is a register
-target-low : (S : Setting) (q : ℕ) (v : World) (F : Finishes (staged 32 S) q v) → order-of S q .target < 16
-target-low S q v F = order-good 32 S (F .words) (lit≤ tt) (lit< tt) (checked S q v F .script) q (in-job S q v F) .target
+target-low : (S : Setting) (q : ℕ) (v : World) (F : Finishes 32 (staged 32 S) q v) → order-of S q .target < 16
+target-low S q v F = order-good 32 S (F .words) (lit≤ tt) (lit< tt) (checked 32 S q v F .script) q (in-job 32 S q v F) .target
 
-job-written : (S : Setting) (q : ℕ) (v : World) → Finishes (staged 32 S) q v → (i : ℕ) → i < 16 → UntargetedFrom S (suc q) i → opened-now 32 16 v i ≡ opened-after 32 v q i
+job-written : (S : Setting) (q : ℕ) (v : World) → Finishes 32 (staged 32 S) q v → (i : ℕ) → i < 16 → UntargetedFrom S (suc q) i → opened-now 32 16 v i ≡ opened-after 32 v q i
 job-written S q v F i hi u = written (staged 32 S) q v F i hi (untargeted S (suc q) i hi u)
 
 pub target-is : (i t : ℕ) → (eqb i t ≡ false → ⊥) → t ≡ i

@@ -9,12 +9,12 @@ use lib.Dec.{ltb}
 use lib.ListN.{length}
 use Rattle.gates.specs.Steps.{origin}
 use Rattle.gates.specs.Walk.{Conf, Exchanging}
-use Rattle.gates.specs.Parties.{Pair, Triple, of1, of2, act, joint1, joint2, Supplied}
+use Rattle.gates.specs.Hosts.{Pair, Triple, of1, of2, act, joint1, joint2, Supplied}
 use Rattle.gates.proofs.Seen.{through}
 use Rattle.jobs.specs.Job.{short-b, short-deals}
 use Rattle.calls.specs.Scripts.{script-cost}
 use Rattle.calls.specs.Places.{seek}
-use Rattle.calls.specs.Lent.{party2, party-of, or-else, lists-fault, lent-fault}
+use Rattle.calls.specs.Lent.{worker2, or-else, lists-fault, lent-fault, worker-with}
 use Rattle.calls.specs.Calls.{State, Answer, fresh2, word-at, spoken-at, state-of, start-walk, start, hear-walk, found-of, resume, hear}
 use Rattle.runs.specs.Runs.{Stage, Spoken, utter, Among, ready, Side, waiting, going, World, world, registers, Call, starting1, starting2, hearing1, hearing2, lent1, lent2, started, stepped, Completes, prepares, starts1, starts2, hears1, hears2, Run, begin, complete, refuse}
 use Rattle.runs.specs.Strict.{Narrow, none, refuses, StrictRun, Strict}
@@ -38,18 +38,18 @@ module _ (S : Stage) where
   -- ---- host 1 takes no notice of the deals
 
   started-same1 : (D E : List ℕ) (s : State) → started S (lent1 S E) s ≡ started S (lent1 S D) s
-  unfolding start lent-fault lists-fault party-of start-walk
+  unfolding start lent-fault lists-fault worker-with start-walk
   started-same1 D E s = refl
 
   stepped-same1 : (D E : List ℕ) (s : State) (v : ℕ) (t : List Pair) (said : List Spoken) → stepped S (lent1 S E) s v t said ≡ stepped S (lent1 S D) s v t said
-  unfolding hear lent-fault lists-fault party-of found-of
+  unfolding hear lent-fault lists-fault worker-with found-of
   stepped-same1 D E s v t said = refl
 
   -- ---- host 2, on two lists that both begin with the deals
 
   module _ (D E : List ℕ) (g : Supplied A B D (all S) origin (j₀ S)) (f : Supplied A B E (all S) origin (j₀ S)) where
     abbrev Went2 : (F : List ℕ) → Supplied A B F (all S) origin (j₀ S) → ℕ → List Pair → Answer → List Pair → Type 0
-    Went2 F x = Went A B (all S) (j₀ S) (party2 B F) of2 (joint2 A B) (joint1 A B) (Supplied A B F) (shadow2 A B F) x
+    Went2 F x = Went A B (all S) (j₀ S) (worker2 B F) of2 (joint2 A B) (joint1 A B) (Supplied A B F) (shadow2 A B F) x
 
     answer-of : Conf Triple → Answer
     answer-of p =
@@ -66,39 +66,39 @@ module _ (S : Stage) where
 
     started-same2 : (s : State) → registers (S .script .slots) s ≡ (S .rm, S .r2) → start (lent2 S D) (registers (S .script .slots) s) .number ≡ 0 → start (lent2 S E) (registers (S .script .slots) s) .number ≡ 0
         → started S (lent2 S E) s ≡ started S (lent2 S D) s
-    unfolding party-of start-walk
+    unfolding worker-with start-walk
     started-same2 s h e e′ =
         let x = start-none (lent2 S D) (registers (S .script .slots) s) e .1 in
         let y = start-none (lent2 S E) (registers (S .script .slots) s) e′ .1 in
-        let X = starts A B (all S) (j₀ S) (party2 B D) of2 (joint2 A B) (joint1 A B) (Supplied A B D) (shadow2 A B D) g (registers (S .script .slots) s) (ap {B = Pair} (λ (p : Pair). fresh2 p) h) in
-        let Y = starts A B (all S) (j₀ S) (party2 B E) of2 (joint2 A B) (joint1 A B) (Supplied A B E) (shadow2 A B E) f (registers (S .script .slots) s) (ap {B = Pair} (λ (p : Pair). fresh2 p) h) in
+        let X = starts A B (all S) (j₀ S) (worker2 B D) of2 (joint2 A B) (joint1 A B) (Supplied A B D) (shadow2 A B D) g (registers (S .script .slots) s) (ap {B = Pair} (λ (p : Pair). fresh2 p) h) in
+        let Y = starts A B (all S) (j₀ S) (worker2 B E) of2 (joint2 A B) (joint1 A B) (Supplied A B E) (shadow2 A B E) f (registers (S .script .slots) s) (ap {B = Pair} (λ (p : Pair). fresh2 p) h) in
         let z = same-went 0 [] _ _ _ _ X Y in
         let u : start (lent2 S E) (registers (S .script .slots) s) ≡ start (lent2 S D) (registers (S .script .slots) s) = y ∙ sym (z .0) ∙ sym x in
         side-path (ap (λ (a : Answer). a .state) u) (sym (z .1)) (ap {B = List Spoken} (λ (a : Answer). utter (a .state) (a .word) ∷ []) u)
 
     heard-same-at : (n v : ℕ) → Exchanging (at-n n .rest) → Halted (at-n n .rest) → v ≡ words A B (all S) (j₀ S) (joint1 A B) n
-        → (resume (party2 B D) (state-of (through of2 (at-n n))) v (seek (at-n n .cur .order) (at-n n .cur .turn) (all S) origin)
-        ≡ resume (party2 B E) (state-of (through of2 (at-n n))) v (seek (at-n n .cur .order) (at-n n .cur .turn) (all S) origin))
-        × (map of2 (at-n n .trail) ++ hear-walk (party2 B D) (state-of (through of2 (at-n n))) v (seek (at-n n .cur .order) (at-n n .cur .turn) (all S) origin) .trail
-        ≡ map of2 (at-n n .trail) ++ hear-walk (party2 B E) (state-of (through of2 (at-n n))) v (seek (at-n n .cur .order) (at-n n .cur .turn) (all S) origin) .trail)
+        → (resume (worker2 B D) (state-of (through of2 (at-n n))) v (seek (at-n n .cur .order) (at-n n .cur .turn) (all S) origin)
+        ≡ resume (worker2 B E) (state-of (through of2 (at-n n))) v (seek (at-n n .cur .order) (at-n n .cur .turn) (all S) origin))
+        × (map of2 (at-n n .trail) ++ hear-walk (worker2 B D) (state-of (through of2 (at-n n))) v (seek (at-n n .cur .order) (at-n n .cur .turn) (all S) origin) .trail
+        ≡ map of2 (at-n n .trail) ++ hear-walk (worker2 B E) (state-of (through of2 (at-n n))) v (seek (at-n n .cur .order) (at-n n .cur .turn) (all S) origin) .trail)
     heard-same-at n v x h e =
         same-went (suc n) (map of2 (at-n n .trail)) _ _ _ _
-        (hears-on A B (all S) (j₀ S) (party2 B D) of2 (joint2 A B) (joint1 A B) (Supplied A B D) (shadow2 A B D) g n v x h e)
-        (hears-on A B (all S) (j₀ S) (party2 B E) of2 (joint2 A B) (joint1 A B) (Supplied A B E) (shadow2 A B E) f n v x h e)
+        (hears-on A B (all S) (j₀ S) (worker2 B D) of2 (joint2 A B) (joint1 A B) (Supplied A B D) (shadow2 A B D) g n v x h e)
+        (hears-on A B (all S) (j₀ S) (worker2 B E) of2 (joint2 A B) (joint1 A B) (Supplied A B E) (shadow2 A B E) f n v x h e)
 
     heard-same : (s : State) (t : List Pair) (said : List Spoken) (v : ℕ) (Z : Tied A B (all S) (j₀ S) of2 (joint2 A B) s t said) → Exchanging (at-n (Z .n) .rest)
         → v ≡ words A B (all S) (j₀ S) (joint1 A B) (Z .n)
-        → (resume (party2 B D) s v (seek (s .order) (s .turn) (all S) origin) ≡ resume (party2 B E) s v (seek (s .order) (s .turn) (all S) origin))
-        × (t ++ hear-walk (party2 B D) s v (seek (s .order) (s .turn) (all S) origin) .trail ≡ t ++ hear-walk (party2 B E) s v (seek (s .order) (s .turn) (all S) origin) .trail)
+        → (resume (worker2 B D) s v (seek (s .order) (s .turn) (all S) origin) ≡ resume (worker2 B E) s v (seek (s .order) (s .turn) (all S) origin))
+        × (t ++ hear-walk (worker2 B D) s v (seek (s .order) (s .turn) (all S) origin) .trail ≡ t ++ hear-walk (worker2 B E) s v (seek (s .order) (s .turn) (all S) origin) .trail)
     heard-same s t said v Z x e = rw (Z .is, Z .trails) (heard-same-at (Z .n) v x (Z .halts) e)
 
     stepped-same2 : (s : State) (t : List Pair) (said said1 : List Spoken) (k v : ℕ) → Tied A B (all S) (j₀ S) of2 (joint2 A B) s t said
         → Heard A B (all S) (j₀ S) (joint1 A B) k said1 → Among (s .order, s .turn, v) said1 → hear (lent2 S D) s v .number ≡ 0 → hear (lent2 S E) s v .number ≡ 0
         → stepped S (lent2 S E) s v t said ≡ stepped S (lent2 S D) s v t said
-    unfolding party-of found-of
+    unfolding worker-with found-of
     stepped-same2 s t said said1 k v Z H m e e′ =
         let M = moved2 S D g s (Z .n) k v said1 (record { halts = Z .halts; is = Z .is }) H m e in
-        let q = word-right A B (all S) (j₀ S) (party2 B D) of2 (joint2 A B) (joint1 A B) (Supplied A B D) (shadow2 A B D) g (Z .n) k v said1 (M .heard) H (rw (Z .is) at m) in
+        let q = word-right A B (all S) (j₀ S) (worker2 B D) of2 (joint2 A B) (joint1 A B) (Supplied A B D) (shadow2 A B D) g (Z .n) k v said1 (M .heard) H (rw (Z .is) at m) in
         let z = heard-same s t said v Z (M .heard) q in
         let u : hear (lent2 S E) s v ≡ hear (lent2 S D) s v = hear-none (lent2 S E) s v e′ .1 ∙ sym (z .0) ∙ sym (hear-none (lent2 S D) s v e .1) in
         side-path (ap (λ (a : Answer). a .state) u) (sym (z .1)) (ap {B = List Spoken} (λ (a : Answer). utter (a .state) (a .word) ∷ said) u)
@@ -122,11 +122,11 @@ module _ (S : Stage) where
       )
 
   hear-buffer : (D buf : List ℕ) (s : State) (v : ℕ) → script-cost (S .script) .deals ≤ length buf → hear (lent2 S D) s v .number ≡ 0 → hear (lent2 S buf) s v .number ≡ 0
-  unfolding party-of found-of
+  unfolding worker-with found-of
   hear-buffer D buf s v l e =
       let q = hear-none (lent2 S D) s v e in
-      let h : resume (party2 B D) s v (found-of (lent2 S D) s) .number ≡ 0 = rw (q .1) at e in
-      hear-zero S (lent2 S buf) s v (buffer-passes D buf (q .0) l) (resume-number (party2 B buf) (party2 B D) s v (found-of (lent2 S D) s) ∙ h)
+      let h : resume (worker2 B D) s v (found-of (lent2 S D) s) .number ≡ 0 = rw (q .1) at e in
+      hear-zero S (lent2 S buf) s v (buffer-passes D buf (q .0) l) (resume-number (worker2 B buf) (worker2 B D) s v (found-of (lent2 S D) s) ∙ h)
 
   -- ---- call by call
 

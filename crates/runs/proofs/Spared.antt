@@ -10,7 +10,7 @@ use lib.ListN.{getD, set}
 use lib.Seq.{getD-set-other}
 use Rattle.gates.specs.Steps.{Step, local, deal, exchange, end, Cursor, origin, past}
 use Rattle.gates.specs.Walk.{whole}
-use Rattle.gates.specs.Parties.{Triple, act}
+use Rattle.gates.specs.Hosts.{Triple, act}
 use Rattle.calls.specs.Scripts.{ends, orders-in}
 use Rattle.runs.specs.Runs.{Stage}
 use Rattle.runs.specs.Orders.{first, trail, after-order, before-order, slot, Unwritten}

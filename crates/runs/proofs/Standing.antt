@@ -12,7 +12,7 @@ use Rattle.shares.specs.Gates.{Share}
 use Rattle.tables.specs.Table.{rows}
 use Rattle.gates.specs.Steps.{Lane, at, Exchange, Step, local, deal, exchange, end, Cursor, origin, past}
 use Rattle.gates.specs.Walk.{Conf, conf, whole, next}
-use Rattle.gates.specs.Parties.{Pair, Triple, of1, of2, act, joint1, joint2}
+use Rattle.gates.specs.Hosts.{Pair, Triple, of1, of2, act, joint1, joint2}
 use Rattle.jobs.specs.Job.{orders}
 use Rattle.calls.specs.Scripts.{orders-in, ends, Closed}
 use Rattle.calls.proofs.Scripts.{job-made}

@@ -9,11 +9,11 @@ use lib.ListN.{length, take, replicate}
 use lib.Seq.{take-append-le, take-all}
 use Rattle.gates.specs.Steps.{Lane, Exchange, Step, local, deal, exchange, end, Cursor, origin}
 use Rattle.gates.specs.Walk.{Conf, Exchanging}
-use Rattle.gates.specs.Parties.{Pair, Triple, of1, of2, act, joint1, joint2, Supplied}
+use Rattle.gates.specs.Hosts.{Pair, Triple, of1, of2, act, joint1, joint2, Supplied}
 use Rattle.gates.proofs.Seen.{through, Always}
 use Rattle.calls.specs.Scripts.{orders-in}
 use Rattle.calls.specs.Places.{Found, nowhere, found, seek}
-use Rattle.calls.specs.Lent.{Lent, Party, party1, party2, party-of, lists-fault, lent-fault}
+use Rattle.calls.specs.Lent.{Lent, Worker, worker1, worker2, lists-fault, lent-fault, worker-with, worker-of}
 use Rattle.calls.specs.Calls.{State, Answer, fresh, state-of, report, unless, given, start-walk, start, place-fault, found-of, resume, hear}
 use Rattle.runs.specs.Runs.{Stage, Spoken, Among, Dealer, idle, ready, Side, waiting, going, World, world, registers, Call, lent1, lent2, Completes, prepares, starts1, starts2, hears1, hears2, Begins, given-out, Run, begin, complete, refuse, Finished, buffer-of, Accepted}
 use Rattle.runs.specs.Strict.{Narrow, heard-by-1, heard-by-2, Calls, none, completes, refuses, StrictRun, Done}
@@ -26,7 +26,7 @@ use Rattle.runs.proofs.Returned.{rest-length}
 
 -- ---- the number of a hearing does not depend on the words lent
 
-pub resume-number : (P Q : Party) (s : State) (v : ℕ) (f : Found) → resume P s v f .number ≡ resume Q s v f .number
+pub resume-number : (P Q : Worker) (s : State) (v : ℕ) (f : Found) → resume P s v f .number ≡ resume Q s v f .number
 unfolding resume place-fault unless
 resume-number P Q s v nowhere = refl
 resume-number P Q s v (found [] c) = refl
@@ -36,7 +36,7 @@ resume-number P Q s v (found (exchange d e ∷ ss) c) = refl
 resume-number P Q s v (found (end ∷ ss) c) = refl
 
 -- a hearing that completes is at a product or refresh
-live : (P : Party) (ss : List Step) (c : Cursor) (s : State) (v : ℕ) → Halted ss → resume P s v (found ss c) .number ≡ 0 → Exchanging ss
+live : (P : Worker) (ss : List Step) (c : Cursor) (s : State) (v : ℕ) → Halted ss → resume P s v (found ss c) .number ≡ 0 → Exchanging ss
 unfolding resume place-fault unless
 live P [] c s v h e = absurd (omega arith)
 live P (local d m l ∷ ss) c s v h e = absurd h
@@ -66,7 +66,7 @@ module _ (S : Stage) where
     pub heard : Exchanging (at-n n .rest)
     pub stands : Stands h s to
 
-  module _ (P : Party) (h : Triple → Pair) (own other : Exchange → Cursor → Triple → ℕ) (Good : List Step → Cursor → Triple → Type 0)
+  module _ (P : Worker) (h : Triple → Pair) (own other : Exchange → Cursor → Triple → ℕ) (Good : List Step → Cursor → Triple → Type 0)
       (sh : Shadow A B P h own other Good) (good : Good (all S) origin (j₀ S)) where
     moved-at : (n k v : ℕ) (said : List Spoken) → Halted (at-n n .rest) → Heard A B (all S) (j₀ S) other k said → Among (at-n n .cur .order, at-n n .cur .turn, v) said
         → resume P (state-of (through h (at-n n))) v (seek (at-n n .cur .order) (at-n n .cur .turn) (all S) origin) .number ≡ 0
@@ -82,18 +82,18 @@ module _ (S : Stage) where
 
   pub moved1 : (D : List ℕ) (s : State) (n k v : ℕ) (said2 : List Spoken) → Stands of1 s n → Heard A B (all S) (j₀ S) (joint2 A B) k said2 → Among (s .order, s .turn, v) said2
       → hear (lent1 S D) s v .number ≡ 0 → Moved of1 (hear (lent1 S D) s v .state) n
-  unfolding party-of found-of
+  unfolding worker-with found-of
   moved1 D s n k v said2 Z H m e =
       let q = hear-none (lent1 S D) s v e .1 in
-      rw q (moved (party1 A) of1 (joint1 A B) (joint2 A B) Always (shadow1 A B) tt s n k v said2 Z H m (rw q at e))
+      rw q (moved (worker1 A) of1 (joint1 A B) (joint2 A B) Always (shadow1 A B) tt s n k v said2 Z H m (rw q at e))
 
   pub moved2 : (D : List ℕ) → Supplied A B D (all S) origin (j₀ S) → (s : State) (n k v : ℕ) (said1 : List Spoken) → Stands of2 s n
       → Heard A B (all S) (j₀ S) (joint1 A B) k said1 → Among (s .order, s .turn, v) said1
       → hear (lent2 S D) s v .number ≡ 0 → Moved of2 (hear (lent2 S D) s v .state) n
-  unfolding party-of found-of
+  unfolding worker-with found-of
   moved2 D g s n k v said1 Z H m e =
       let q = hear-none (lent2 S D) s v e .1 in
-      rw q (moved (party2 B D) of2 (joint2 A B) (joint1 A B) (Supplied A B D) (shadow2 A B D) g s n k v said1 Z H m (rw q at e))
+      rw q (moved (worker2 B D) of2 (joint2 A B) (joint1 A B) (Supplied A B D) (shadow2 A B D) g s n k v said1 Z H m (rw q at e))
 
   -- ---- what a host has heard lies before its place
 
@@ -178,11 +178,11 @@ module _ (S : Stage) where
 
   pub start-zero : (L : Lent) (r : Pair) → lent-fault L .0 ≡ 0 → start L r .number ≡ 0
   unfolding start
-  start-zero L r e = ap (λ (a : Answer). a .number) (unless-zero (lent-fault L .0) (lent-fault L) (given r) (report (party-of L) (start-walk L r)) e)
+  start-zero L r e = ap (λ (a : Answer). a .number) (unless-zero (lent-fault L .0) (lent-fault L) (given r) (report (worker-of L) (start-walk L r)) e)
 
-  pub hear-zero : (L : Lent) (s : State) (v : ℕ) → lent-fault L .0 ≡ 0 → resume (party-of L) s v (found-of L s) .number ≡ 0 → hear L s v .number ≡ 0
+  pub hear-zero : (L : Lent) (s : State) (v : ℕ) → lent-fault L .0 ≡ 0 → resume (worker-of L) s v (found-of L s) .number ≡ 0 → hear L s v .number ≡ 0
   unfolding hear
-  hear-zero L s v e h = ap (λ (a : Answer). a .number) (unless-zero (lent-fault L .0) (lent-fault L) s (resume (party-of L) s v (found-of L s)) e) ∙ h
+  hear-zero L s v e h = ap (λ (a : Answer). a .number) (unless-zero (lent-fault L .0) (lent-fault L) s (resume (worker-of L) s v (found-of L s)) e) ∙ h
 
   module _ (E : List ℕ) where
     pub start-other : (D : List ℕ) (r : Pair) → start (lent1 S D) r .number ≡ 0 → start (lent1 S E) r .number ≡ 0
@@ -190,18 +190,18 @@ module _ (S : Stage) where
     start-other D r e = start-zero (lent1 S E) r (start-none (lent1 S D) r e .0)
 
     pub hear-other1 : (D : List ℕ) (s : State) (v : ℕ) → hear (lent1 S D) s v .number ≡ 0 → hear (lent1 S E) s v .number ≡ 0
-    unfolding lent-fault lists-fault party-of found-of
+    unfolding lent-fault lists-fault worker-with found-of
     hear-other1 D s v e =
         let q = hear-none (lent1 S D) s v e in
-        let h : resume (party1 A) s v (found-of (lent1 S D) s) .number ≡ 0 = rw (q .1) at e in
+        let h : resume (worker1 A) s v (found-of (lent1 S D) s) .number ≡ 0 = rw (q .1) at e in
         hear-zero (lent1 S E) s v (q .0) h
 
     hear-other2 : (buf D : List ℕ) (s : State) (v : ℕ) → Accepted S buf → hear (lent2 S D) s v .number ≡ 0 → hear (lent2 S buf) s v .number ≡ 0
-    unfolding party-of found-of
+    unfolding worker-with found-of
     hear-other2 buf D s v acc e =
         let q = hear-none (lent2 S D) s v e in
-        let h : resume (party2 B D) s v (found-of (lent2 S D) s) .number ≡ 0 = rw (q .1) at e in
-        hear-zero (lent2 S buf) s v (lent2-zero S buf acc buf (acc .deals)) (resume-number (party2 B buf) (party2 B D) s v (found-of (lent2 S D) s) ∙ h)
+        let h : resume (worker2 B D) s v (found-of (lent2 S D) s) .number ≡ 0 = rw (q .1) at e in
+        hear-zero (lent2 S buf) s v (lent2-zero S buf acc buf (acc .deals)) (resume-number (worker2 B buf) (worker2 B D) s v (found-of (lent2 S D) s) ∙ h)
 
     -- as narrow as the words heard so far ask
     record Tight (c : Call) (v : World) (h1 h2 : List Spoken) : Type 0 where

@@ -8,27 +8,27 @@ use native.Mathlib.Decide.{decLe}
 use lib.ListN.{length}
 use Rattle.gates.specs.Steps.{at, Exchange, Step, local, deal, exchange, end, Cursor, origin, past}
 use Rattle.gates.specs.Walk.{Conf, conf, next, walk, Exchanging}
-use Rattle.gates.specs.Parties.{Pair, Triple, of1, of2, act, joint1, joint2, Supplied}
+use Rattle.gates.specs.Hosts.{Pair, Triple, of1, of2, act, joint1, joint2, Supplied}
 use Rattle.gates.proofs.Seen.{through, Seen, quiet, Always, see-walk}
 use Rattle.gates.proofs.Lanes.{seen1, seen2, says1, says2, hears1, hears2}
 use Rattle.calls.specs.Places.{Found, found, seek}
-use Rattle.calls.specs.Lent.{Party, party1, party2}
+use Rattle.calls.specs.Lent.{Worker, worker1, worker2}
 use Rattle.calls.specs.Calls.{State, Answer, fresh2, word-at, spoken-at, state-of, report, unless, hear-walk, place-fault, resume}
 use Rattle.runs.specs.Runs.{Spoken, utter, Among}
 use Rattle.runs.proofs.Places.{Halted, pos, walk-reaches, seek-pos, same-place}
 
 -- P sees the lanes h of the joint walk, speaks `own` and expects `other`
-pub record Shadow (A B : List ℕ) (P : Party) (h : Triple → Pair) (own other : Exchange → Cursor → Triple → ℕ) (Good : List Step → Cursor → Triple → Type 0) : Type 0 where
+pub record Shadow (A B : List ℕ) (P : Worker) (h : Triple → Pair) (own other : Exchange → Cursor → Triple → ℕ) (Good : List Step → Cursor → Triple → Type 0) : Type 0 where
   pub seen : Seen (act A B) (P .act) h Good quiet
   pub says : (d : ℕ) (e : Exchange) (ss : List Step) (c : Cursor) (j : Triple) → Good (exchange d e ∷ ss) c j → P .say e c (h j) ≡ own e c j
   pub hears : (d : ℕ) (e : Exchange) (ss : List Step) (c : Cursor) (j : Triple) (w : ℕ) → Good (exchange d e ∷ ss) c j → w ≡ other e c j
       → P .hear d e c (h j) w ≡ h (act A B (exchange d e) c j)
 
-pub shadow1 : (A B : List ℕ) → Shadow A B (party1 A) of1 (joint1 A B) (joint2 A B) Always
+pub shadow1 : (A B : List ℕ) → Shadow A B (worker1 A) of1 (joint1 A B) (joint2 A B) Always
 shadow1 A B =
     record { seen = seen1 A B; says = λ d e ss c j g. says1 A B [] e c j; hears = λ d e ss c j w g q. hears1 A B [] d e c j w q }
 
-pub shadow2 : (A B D : List ℕ) → Shadow A B (party2 B D) of2 (joint2 A B) (joint1 A B) (Supplied A B D)
+pub shadow2 : (A B D : List ℕ) → Shadow A B (worker2 B D) of2 (joint2 A B) (joint1 A B) (Supplied A B D)
 shadow2 A B D =
     record { seen = seen2 A B D; says = λ d e ss c j g. says2 A B D d e ss c j g; hears = λ d e ss c j w g q. hears2 A B D d e ss c j w g q }
 
@@ -60,7 +60,7 @@ module _ (A B : List ℕ) (all : List Step) (j₀ : Triple) where
     pub only : (p : Spoken) → Among p said → (i : ℕ) × Halted (joint i .rest) × (p ≡ spoken say i)
     pub every : (i : ℕ) → i < n → Exchanging (joint i .rest) → Among (spoken say i) said
 
-  -- a party that holds the lanes h of the joint walk at a position, after the trail t and the words said
+  -- a host that holds the lanes h of the joint walk at a position, after the trail t and the words said
   pub record Tied (h : Triple → Pair) (say : Exchange → Cursor → Triple → ℕ) (s : State) (t : List Pair) (said : List Spoken) : Type 0 where
     pub n : ℕ
     pub halts : Halted (joint n .rest)
@@ -102,7 +102,7 @@ module _ (A B : List ℕ) (all : List Step) (j₀ : Triple) where
       go (yes m) f = b-still (joint k) (q k m (omega arith)) ∙ f m
       go (no m) f = let e : n ≡ suc k = omega arith in rw e
 
-  module _ (P : Party) (h : Triple → Pair) (own other : Exchange → Cursor → Triple → ℕ) (Good : List Step → Cursor → Triple → Type 0)
+  module _ (P : Worker) (h : Triple → Pair) (own other : Exchange → Cursor → Triple → ℕ) (Good : List Step → Cursor → Triple → Type 0)
       (sh : Shadow A B P h own other Good) (good : Good all origin j₀) where
     good-one : (ss : List Step) (c : Cursor) (j : Triple) (t : List Triple) → Good ss c j
         → Good (next (act A B) (conf ss c j t) .rest) (next (act A B) (conf ss c j t) .cur) (next (act A B) (conf ss c j t) .state)
@@ -245,7 +245,7 @@ module _ (A B : List ℕ) (all : List Step) (j₀ : Triple) where
     live-at : (n v : ℕ) → Halted (joint n .rest) → heard-by (state-of (through h (joint n))) v .number ≡ 0 → Exchanging (joint n .rest)
     live-at n v k e = live (joint n .rest) (joint n .cur) _ v (rw (seek-pos (act A B) all j₀ n k) at e)
 
-    -- a word that the other party has said at this place is the joint walk's
+    -- a word that the other host has said at this place is the joint walk's
     pub word-right : (n k w : ℕ) (said : List Spoken) → Exchanging (joint n .rest) → Heard other k said
         → Among (joint n .cur .order, joint n .cur .turn, w) said → w ≡ words other n
     word-right n k w said x H m =
@@ -293,7 +293,7 @@ module _ (A B : List ℕ) (all : List Step) (j₀ : Triple) where
         subst (λ (q : State). Answered (heard-by q v) (suc (length said))) (sym (Z .is))
         (answered (suc (Z .n)) (map h (joint (Z .n) .trail)) _ (length said) _ W (next-count (Z .n) said x (Z .count)))
 
-    -- a party at a product or refresh, where the other has said its word, can hear it, and comes further
+    -- a host at a product or refresh, where the other has said its word, can hear it, and comes further
     pub record CanHear (s : State) (t : List Pair) (said said′ : List Spoken) (n : ℕ) : Type 0 where
       pub word : ℕ
       pub among : Among (s .order, s .turn, word) said′

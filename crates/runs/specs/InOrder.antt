@@ -5,11 +5,29 @@ use mathlib.Core.Logic.{_⊎_}
 use mathlib.Core.List.{List, [], _∷_, reverse}
 use Prim.Native.Nat.{ℕ, _<_}
 use lib.ListN.{length, take}
-use Rattle.gates.specs.Parties.{Pair}
+use Rattle.gates.specs.Steps.{Exchange, Step, local, deal, exchange, end, Cursor, origin, past}
+use Rattle.gates.specs.Hosts.{Pair, Triple, act, joint1, joint2}
 use Rattle.calls.specs.Scripts.{orders-in, Orderly}
 use Rattle.calls.specs.Calls.{State}
 use Rattle.runs.specs.Runs.{Stage, Spoken, Among, Dealer, Side, going, world, Call, Run}
-use Rattle.runs.specs.Demand2.{words-of-1, words-of-2}
+use Rattle.runs.specs.Orders.{first}
+
+-- the words that a host speaks on the joint walk, each at its place, and 0 at the end
+unfoldable pub defined-words : (A B : List ℕ) → (Exchange → Cursor → Triple → ℕ) → List Step → Cursor → Triple
+    → List Spoken
+defined-words A B say [] c j = (c .order, c .turn, 0) ∷ []
+defined-words A B say (local d m l ∷ ss) c j =
+    defined-words A B say ss (past (local d m l) c) (act A B (local d m l) c j)
+defined-words A B say (deal d f ∷ ss) c j = defined-words A B say ss (past (deal d f) c) (act A B (deal d f) c j)
+defined-words A B say (exchange d e ∷ ss) c j =
+    (c .order, c .turn, say e c j) ∷ defined-words A B say ss (past (exchange d e) c) (act A B (exchange d e) c j)
+defined-words A B say (end ∷ ss) c j = defined-words A B say ss (past end c) (act A B end c j)
+
+abbrev pub words-of-1 : Stage → List Spoken
+words-of-1 S = defined-words (S .A) (S .B) (joint1 (S .A) (S .B)) (S .script .steps) origin (first S)
+
+abbrev pub words-of-2 : Stage → List Spoken
+words-of-2 S = defined-words (S .A) (S .B) (joint2 (S .A) (S .B)) (S .script .steps) origin (first S)
 
 -- one place comes before another
 abbrev pub Before : Spoken → Spoken → Type 0

@@ -5,13 +5,15 @@ use mathlib.Core.Bool.{false}
 use mathlib.Core.List.{List, [], _∷_}
 use Prim.Native.Nat.{ℕ, zero, suc, _+_, _^_, _<_}
 use lib.Dec.{eqb}
+use lib.IntN.{ℤ}
 use lib.ListN.{getD}
 use Rattle.words.specs.Words.{add, numbers}
+use Rattle.words.specs.Signed.{signed}
 use Rattle.shares.specs.Gates.{Share, value, mask}
 use Rattle.tables.specs.Table.{rows}
 use Rattle.gates.specs.Steps.{at, Step, local, deal, exchange, end, origin}
 use Rattle.gates.specs.Walk.{whole}
-use Rattle.gates.specs.Parties.{Triple, share, act}
+use Rattle.gates.specs.Hosts.{Triple, share, act}
 use Rattle.gates.specs.Costs.{Cost, cost-of, plus}
 use Rattle.gates.specs.declared.Gate.{Gate}
 use Rattle.programs.specs.declared.Order.{Order}
@@ -20,7 +22,7 @@ use Rattle.programs.specs.Costs.{program-cost}
 use Rattle.jobs.specs.Job.{orders, job-gates}
 use Rattle.jobs.specs.FirstFault.{order}
 use Rattle.calls.specs.Calls.{fresh}
-use Rattle.runs.specs.Runs.{Stage, Setting}
+use Rattle.runs.specs.Runs.{Stage, Setting, staged, World, Call, Run, Finished, opened-after}
 
 -- all that the run is lent and given are words
 pub record Words (w : ℕ) (S : Stage) : Type 0 where
@@ -51,11 +53,11 @@ abbrev pub slot : Triple → ℕ → Share ℕ
 slot = share
 
 -- what slot i opens just before order q, and its mask there, "L = L1 + L2"
-abbrev pub value-before : Stage → (q i : ℕ) → ℕ
-value-before S q i = value (numbers 32) (slot (before-order S q) i)
+abbrev pub value-before : (w : ℕ) → Stage → (q i : ℕ) → ℕ
+value-before w S q i = value (numbers w) (slot (before-order S q) i)
 
-abbrev pub mask-before : Stage → (q i : ℕ) → ℕ
-mask-before S q i = mask (numbers 32) (slot (before-order S q) i)
+abbrev pub mask-before : (w : ℕ) → Stage → (q i : ℕ) → ℕ
+mask-before w S q i = mask (numbers w) (slot (before-order S q) i)
 
 -- no step of order q has slot i as its target
 abbrev pub Unwritten : (i q : ℕ) → List Step → Type 0
@@ -94,3 +96,31 @@ used-before w S q = first-counts w q (job-gates w (S .job) (S .table))
 unfoldable pub refresh-mask : ℕ → Setting → ℕ → ℕ
 refresh-mask w S q =
     mask-behind w (S .A) (S .B) (used-before w S q) (sum-program w (order-of S q .source) (rows (S .table)))
+
+-- what the first source of order q opens just before it, and its mask there; and what the second source opens: "The
+-- fourth word is the second source, a register, for kinds 0, 1, 4"
+abbrev pub source-value : (w : ℕ) → Setting → ℕ → ℕ
+source-value w S q = value-before w (staged w S) q (order-of S q .source)
+
+abbrev pub source-mask : (w : ℕ) → Setting → ℕ → ℕ
+source-mask w S q = mask-before w (staged w S) q (order-of S q .source)
+
+abbrev pub second-value : (w : ℕ) → Setting → ℕ → ℕ
+second-value w S q = value-before w (staged w S) q (order-of S q .fourth)
+
+-- "x is the signed reading of what the order's source opens just before it"
+unfoldable pub reading : (w : ℕ) → Setting → ℕ → ℤ
+reading w S q = signed w (source-value w S q)
+
+-- ---- in a run
+
+-- a run that finishes order q
+pub record Finishes (w : ℕ) (S : Stage) (q : ℕ) (v : World) : Type 0 where
+  pub words : Words w S
+  pub calls : List Call
+  pub run : Run S calls v
+  pub finished : Finished v q
+
+-- what order q opens after a run: the number, 0 for none, and the value
+abbrev pub opens : (w : ℕ) → Setting → World → ℕ → ℕ × ℤ
+opens w S v q = opened-after w v q (order-of S q .target)

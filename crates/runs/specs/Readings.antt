@@ -13,16 +13,16 @@ use Rattle.gates.specs.Steps.{at}
 use Rattle.jobs.specs.Job.{two-sources}
 use Rattle.runs.specs.Runs.{Stage, Setting, staged, World, trail0, opened-after}
 use Rattle.runs.specs.Orders.{value-before, mask-before, Unwritten, order-of}
-use Rattle.runs.specs.Demand3.{reading, opens, Finishes}
+use Rattle.runs.specs.Orders.{reading, opens, Finishes}
 use Rattle.runs.specs.Returned.{opened-given}
 
 -- the signed reading of slot i just before order q, on the joint walk; `reading` is that of a job's order's source
 unfoldable pub reading-of : Stage → (q i : ℕ) → ℤ
-reading-of S q i = signed 32 (value-before S q i)
+reading-of S q i = signed 32 (value-before 32 S q i)
 
 -- its mask there: "L = L1 + L2"
 unfoldable pub mask-of : Stage → (q i : ℕ) → ℕ
-mask-of S q i = mask-before S q i
+mask-of S q i = mask-before 32 S q i
 
 -- "Host 0 holds L1, L2": their sum as order p left slot i, and as it was given
 unfoldable pub mask-after : World → (p i : ℕ) → ℕ
@@ -42,43 +42,43 @@ UntargetedBetween S p q i = (n : ℕ) → p ≤ n → n < q → eqb i (order-of 
 -- where register i has its reading and mask before order q from: the last order that wrote it, or what was given
 pub data Origin (S : Setting) (q : ℕ) (v : World) (i : ℕ) : Type 0 where
   of-order : (p : ℕ) → p < q → order-of S p .target ≡ i → UntargetedBetween S (suc p) q i
-      → opens S v p ≡ (0, reading-of (staged 32 S) q i) → mask-after v p i ≡ mask-of (staged 32 S) q i → Origin S q v i
+      → opens 32 S v p ≡ (0, reading-of (staged 32 S) q i) → mask-after v p i ≡ mask-of (staged 32 S) q i → Origin S q v i
   of-given : UntargetedBetween S 0 q i
       → opened-given 32 (staged 32 S) i ≡ (0, reading-of (staged 32 S) q i)
       → mask-given (staged 32 S) i ≡ mask-of (staged 32 S) q i → Origin S q v i
 
 pub record Readings : Type 0 where
   -- "the register keeps that until an order writes it": what opening gave on slot i as order p left it
-  pub written : (S : Stage) (q : ℕ) (v : World) → Finishes S q v → (p i : ℕ) → p < q → UnwrittenBetween S (suc p) q i
+  pub written : (S : Stage) (q : ℕ) (v : World) → Finishes 32 S q v → (p i : ℕ) → p < q → UnwrittenBetween S (suc p) q i
       → opened-after 32 v p i ≡ (0, reading-of S q i)
   -- "where the registers given to them open": what opening gives on them
-  pub given : (S : Stage) (q : ℕ) (v : World) → Finishes S q v → (i : ℕ) → i < S .script .slots
+  pub given : (S : Stage) (q : ℕ) (v : World) → Finishes 32 S q v → (i : ℕ) → i < S .script .slots
       → UnwrittenBetween S 0 q i → opened-given 32 S i ≡ (0, reading-of S q i)
   -- and its masks, of host 0's words
-  pub mask-written : (S : Stage) (q : ℕ) (v : World) → Finishes S q v → (p i : ℕ) → p < q
+  pub mask-written : (S : Stage) (q : ℕ) (v : World) → Finishes 32 S q v → (p i : ℕ) → p < q
       → UnwrittenBetween S (suc p) q i → mask-after v p i ≡ mask-of S q i
-  pub mask-kept : (S : Stage) (q : ℕ) (v : World) → Finishes S q v → (i : ℕ) → i < S .script .slots
+  pub mask-kept : (S : Stage) (q : ℕ) (v : World) → Finishes 32 S q v → (i : ℕ) → i < S .script .slots
       → UnwrittenBetween S 0 q i → mask-given S i ≡ mask-of S q i
   -- where an order of a job has another target, no step of it writes the register
   pub untargeted : (S : Setting) (p q i : ℕ) → i < 16 → UntargetedBetween S p q i → UnwrittenBetween (staged 32 S) p q i
   -- the register that order p of a job wrote last
-  pub register-written : (S : Setting) (q : ℕ) (v : World) → Finishes (staged 32 S) q v → (p : ℕ) → p < q
+  pub register-written : (S : Setting) (q : ℕ) (v : World) → Finishes 32 (staged 32 S) q v → (p : ℕ) → p < q
       → UntargetedBetween S (suc p) q (order-of S p .target)
-      → opens S v p ≡ (0, reading-of (staged 32 S) q (order-of S p .target))
+      → opens 32 S v p ≡ (0, reading-of (staged 32 S) q (order-of S p .target))
   -- a register that no order before q wrote
-  pub register-given : (S : Setting) (q : ℕ) (v : World) → Finishes (staged 32 S) q v → (i : ℕ) → i < 16
+  pub register-given : (S : Setting) (q : ℕ) (v : World) → Finishes 32 (staged 32 S) q v → (i : ℕ) → i < 16
       → UntargetedBetween S 0 q i → opened-given 32 (staged 32 S) i ≡ (0, reading-of (staged 32 S) q i)
   -- every register, one way or the other
-  pub every-register : (S : Setting) (q : ℕ) (v : World) → Finishes (staged 32 S) q v → (i : ℕ) → i < 16
+  pub every-register : (S : Setting) (q : ℕ) (v : World) → Finishes 32 (staged 32 S) q v → (i : ℕ) → i < 16
       → Origin S q v i
   -- "x is the signed reading of what the order's source opens just before it": so the order's source
-  pub source-written : (S : Setting) (q : ℕ) (v : World) → Finishes (staged 32 S) q v → (p : ℕ) → p < q
+  pub source-written : (S : Setting) (q : ℕ) (v : World) → Finishes 32 (staged 32 S) q v → (p : ℕ) → p < q
       → order-of S p .target ≡ order-of S q .source → UntargetedBetween S (suc p) q (order-of S q .source)
-      → opens S v p ≡ (0, reading S q)
-  pub source-given : (S : Setting) (q : ℕ) (v : World) → Finishes (staged 32 S) q v
+      → opens 32 S v p ≡ (0, reading 32 S q)
+  pub source-given : (S : Setting) (q : ℕ) (v : World) → Finishes 32 (staged 32 S) q v
       → UntargetedBetween S 0 q (order-of S q .source)
-      → opened-given 32 (staged 32 S) (order-of S q .source) ≡ (0, reading S q)
-  pub source : (S : Setting) (q : ℕ) (v : World) → Finishes (staged 32 S) q v → Origin S q v (order-of S q .source)
+      → opened-given 32 (staged 32 S) (order-of S q .source) ≡ (0, reading 32 S q)
+  pub source : (S : Setting) (q : ℕ) (v : World) → Finishes 32 (staged 32 S) q v → Origin S q v (order-of S q .source)
   -- "The fourth word is the second source, a register, for kinds 0, 1, 4"
-  pub second-source : (S : Setting) (q : ℕ) (v : World) → Finishes (staged 32 S) q v
+  pub second-source : (S : Setting) (q : ℕ) (v : World) → Finishes 32 (staged 32 S) q v
       → two-sources (order-of S q .kind) ≡ true → Origin S q v (order-of S q .fourth)

@@ -7,13 +7,13 @@ use Prim.Native.Nat.{ℕ, suc, _≤_, _<_}
 use lib.Dec.{eqb}
 use lib.IntN.{ℤ}
 use lib.ListN.{length}
-use Rattle.gates.specs.Parties.{Pair}
+use Rattle.gates.specs.Hosts.{Pair}
 use Rattle.jobs.specs.Job.{orders}
 use Rattle.calls.specs.Scripts.{orders-in, Orderly}
 use Rattle.runs.specs.Runs.{Stage, Setting, staged, Dealer, idle, ready, Side, waiting, going, World, world}
 use Rattle.runs.specs.Runs.{registers, Call, Run, Finished, opened-slot, opened-after}
 use Rattle.runs.specs.Orders.{Words, Unwritten, order-of}
-use Rattle.runs.specs.Demand3.{opens, Finishes}
+use Rattle.runs.specs.Orders.{opens, Finishes}
 
 -- the masks that host 0 holds
 abbrev pub dealer-holds : Dealer → Pair
@@ -55,13 +55,13 @@ UntargetedFrom S q i = (p : ℕ) → q ≤ p → p < length (orders (S .job)) �
 -- given
 pub data JobHolds (S : Setting) (v : World) (i : ℕ) : Type 0 where
   of-order : (q : ℕ) → q < length (orders (S .job)) → order-of S q .target ≡ i → UntargetedFrom S (suc q) i
-      → opened-now 32 16 v i ≡ opens S v q → JobHolds S v i
+      → opened-now 32 16 v i ≡ opens 32 S v q → JobHolds S v i
   of-given : UntargetedFrom S 0 i → opened-now 32 16 v i ≡ opened-given 32 (staged 32 S) i → JobHolds S v i
 
 pub record Returned : Type 0 where
   -- "What it opens is what opening gives on the three hosts' shares ..; the register keeps that until an order writes
   -- it": of any script, a slot that no order behind order q writes
-  pub written : (S : Stage) (q : ℕ) (v : World) → Finishes S q v → (i : ℕ) → i < S .script .slots
+  pub written : (S : Stage) (q : ℕ) (v : World) → Finishes 32 S q v → (i : ℕ) → i < S .script .slots
       → UnwrittenFrom S (suc q) i
       → opened-now 32 (S .script .slots) v i ≡ opened-after 32 v q i
   -- a slot that no step writes opens, after every run, what it was given
@@ -69,7 +69,7 @@ pub record Returned : Type 0 where
       → UnwrittenFrom S 0 i
       → opened-now 32 (S .script .slots) v i ≡ opened-given 32 S i
   -- after the last order: all slots that were given
-  pub all-done : (S : Stage) → Orderly (S .script) → (q : ℕ) (v : World) → Finishes S q v
+  pub all-done : (S : Stage) → Orderly (S .script) → (q : ℕ) (v : World) → Finishes 32 S q v
       → suc q ≡ orders-in (S .script)
       → (i : ℕ) → i < S .script .slots → opened-now 32 (S .script .slots) v i ≡ opened-after 32 v q i
   -- a run that has finished every order: each slot that was given, by its last writer
@@ -77,14 +77,14 @@ pub record Returned : Type 0 where
       → ((q : ℕ) → q < orders-in (S .script) → Finished v q) → (i : ℕ) → i < S .script .slots → Holds S v i
   -- ---- of a job
   -- a register that no order behind order q has as its target now opens what order q opened in it
-  pub job-written : (S : Setting) (q : ℕ) (v : World) → Finishes (staged 32 S) q v → (i : ℕ) → i < 16
+  pub job-written : (S : Setting) (q : ℕ) (v : World) → Finishes 32 (staged 32 S) q v → (i : ℕ) → i < 16
       → UntargetedFrom S (suc q) i → opened-now 32 16 v i ≡ opened-after 32 v q i
   -- and one that no order has as its target opens, after every run, what was given
   pub job-untouched : (S : Setting) (cs : List Call) (v : World) → Run (staged 32 S) cs v → (i : ℕ) → i < 16
       → UntargetedFrom S 0 i → opened-now 32 16 v i ≡ opened-given 32 (staged 32 S) i
   -- an order that is the last to write its target: its target now opens what the order opened
-  pub last-writer : (S : Setting) (q : ℕ) (v : World) → Finishes (staged 32 S) q v
-      → UntargetedFrom S (suc q) (order-of S q .target) → opened-now 32 16 v (order-of S q .target) ≡ opens S v q
+  pub last-writer : (S : Setting) (q : ℕ) (v : World) → Finishes 32 (staged 32 S) q v
+      → UntargetedFrom S (suc q) (order-of S q .target) → opened-now 32 16 v (order-of S q .target) ≡ opens 32 S v q
   -- a run that has finished every order: each of the sixteen registers, by its last writer
   pub every-register : (S : Setting) (cs : List Call) (v : World) → Words 32 (staged 32 S) → Run (staged 32 S) cs v
       → ((q : ℕ) → q < length (orders (S .job)) → Finished v q) → (i : ℕ) → i < 16 → JobHolds S v i

@@ -7,9 +7,9 @@ use Prim.Native.Nat.{ℕ, _≤_, _<_}
 use lib.ListN.{getD, take, drop, length}
 use Rattle.shares.specs.Sharing.{Six, reconstruction}
 use Rattle.gates.specs.Steps.{Lane, at}
-use Rattle.gates.specs.Parties.{Pair}
+use Rattle.gates.specs.Hosts.{Pair}
 use Rattle.calls.specs.Scripts.{Script, job-script, script-cost}
-use Rattle.calls.specs.Lent.{Lent, party-of}
+use Rattle.calls.specs.Lent.{Lent, worker-of}
 use Rattle.calls.specs.Calls.{State, Prepared, start-walk, start, found-of, hear-walk, hear, prepare-walk, prepare}
 use lib.IntN.{ℤ}
 
@@ -174,7 +174,7 @@ module _ (S : Stage) where
 
   abbrev pub stepped : Lent → State → (v : ℕ) → List Pair → List Spoken → Side
   stepped L s v t said =
-      going (hear L s v .state) (t ++ hear-walk (party-of L) s v (found-of L s) .trail)
+      going (hear L s v .state) (t ++ hear-walk (worker-of L) s v (found-of L s) .trail)
       (utter (hear L s v .state) (hear L s v .word) ∷ said)
 
   pub data Completes : Call → World → World → Type 0 where

@@ -1,22 +1,22 @@
-// Sharing a reading among the three parties, and opening what they hold (document 01, "Shares").
+// Sharing a reading among the three hosts, and opening what they hold (document 01, "Shares").
 // A value x has the masks l1 and l2, and m = x + l1 + l2 modulo 2^32.
 ghost use mathlib.Core.Path.{_≡_};
 ghost use Rattle.shares.specs.Sharing.{split, reconstruction};
 ghost use Rattle.shares.specs.Answers.{words, sharing, opening};
 
-// What party 0 holds of a value: both masks.
+// What host 0 holds of a value: both masks.
 pub struct DealerShare {
     pub l1: u32,
     pub l2: u32,
 }
 
-// What party 1 or party 2 holds: the masked value, and its own mask (l1 or l2).
+// What host 1 or host 2 holds: the masked value, and its own mask (l1 or l2).
 pub struct WorkerShare {
     pub m: u32,
     pub l: u32,
 }
 
-// The six words of the three parties.
+// The six words of the three hosts.
 pub struct Shares {
     pub p0: DealerShare,
     pub p1: WorkerShare,

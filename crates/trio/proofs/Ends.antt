@@ -8,7 +8,7 @@ use native.Mathlib.Omega.{arith}
 use lib.ListN.{length}
 use Rattle.gates.specs.Steps.{Exchange, Step, local, deal, exchange, end, Cursor, origin, past}
 use Rattle.gates.specs.Walk.{Conf, conf, whole, far, Exchanging}
-use Rattle.gates.specs.Parties.{Pair, Triple, of1, of2, act, joint1, joint2}
+use Rattle.gates.specs.Hosts.{Pair, Triple, of1, of2, act, joint1, joint2}
 use Rattle.gates.proofs.Needs.{far-used}
 use Rattle.gates.proofs.Seen.{through}
 use Rattle.calls.specs.Scripts.{script-cost, ends, orders-in, Closed}

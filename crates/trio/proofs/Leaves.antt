@@ -12,13 +12,13 @@ use Rattle.gates.specs.declared.Gate.{Gate}
 use Rattle.gates.specs.Steps.{Step, Cursor, origin, past}
 use Rattle.gates.specs.Meaning.{meaning, order-steps, job-steps}
 use Rattle.gates.specs.Walk.{Conf, whole}
-use Rattle.gates.specs.Parties.{Pair, Triple, of1, of2, act}
+use Rattle.gates.specs.Hosts.{Pair, Triple, of1, of2, act}
 use Rattle.calls.specs.Scripts.{script-cost}
 use Rattle.calls.specs.Calls.{State, given}
 use Rattle.runs.specs.Runs.{Stage, ready, opened-slot}
 use Rattle.runs.specs.Orders.{slot, after-order, trail, first}
 use Rattle.runs.proofs.Chain.{mark-gate}
-use Rattle.runs.proofs.Demand2.{demand2}
+use Rattle.demands.proofs.Demand2.{demand2}
 use Rattle.runs.proofs.Kept.{DealerOk, dealt-all, prepares-ok}
 use Rattle.runs.proofs.Progress.{unless-zero}
 use Rattle.trio.specs.Together.{Trio, prepared, preparation as trio-preparation, left, ended, together}

@@ -5,17 +5,17 @@ use Prim.Native.Nat.{ℕ, zero, suc, _+_, _≤_, _<_}
 use lib.ListN.{length}
 use Rattle.gates.specs.Steps.{Exchange, Cursor, origin}
 use Rattle.gates.specs.Walk.{Conf, Exchanging}
-use Rattle.gates.specs.Parties.{Pair, Triple, of0, of1, of2, act, deals, joint1, joint2, Supplied}
+use Rattle.gates.specs.Hosts.{Pair, Triple, of0, of1, of2, act, deals, joint1, joint2, Supplied}
 use Rattle.gates.proofs.Seen.{through, Always}
 use Rattle.jobs.specs.Job.{Fault}
 use Rattle.calls.specs.Scripts.{Script, script-cost}
-use Rattle.calls.specs.Lent.{party1, party2, party-of, dealer-fault, lent-fault}
+use Rattle.calls.specs.Lent.{worker1, worker2, dealer-fault, lent-fault, worker-with, worker-of}
 use Rattle.calls.specs.Calls.{State, Answer, Prepared, spoken-at, state-of, report, unless, given, start-walk, start, found-of, resume, hear, prepared as Calls-prepared, prepare, word-at}
 use Rattle.runs.specs.Runs.{Stage, ready, lent1, lent2, preparation, Accepted}
 use Rattle.runs.proofs.Places.{Halted, one-halt}
 use Rattle.runs.proofs.Ties.{shadow1, shadow2, joint, words, Went, starts, hears-on}
 use Rattle.runs.proofs.Kept.{all, j₀, DealerOk, dealt-all, prepares-ok, supplied, deals-fit}
-use Rattle.runs.proofs.Whole.{whole}
+use Rattle.demands.proofs.Whole.{whole}
 use Rattle.runs.proofs.Progress.{unless-zero, lent1-zero, lent2-zero}
 use Rattle.trio.specs.Together.{Lending, lending, Trio, prepared, preparation as trio-preparation, begun, heard}
 
@@ -102,10 +102,10 @@ module _ (S : Stage) (buf : List ℕ) where
     passed2 = lent2-zero S buf accepted D deals-there
 
     abbrev Went1 : ℕ → List Pair → Answer → List Pair → Type 0
-    Went1 = Went (S .A) (S .B) (all S) (j₀ S) (party1 (S .A)) of1 (joint1 (S .A) (S .B)) (joint2 (S .A) (S .B)) Always (shadow1 (S .A) (S .B)) tt
+    Went1 = Went (S .A) (S .B) (all S) (j₀ S) (worker1 (S .A)) of1 (joint1 (S .A) (S .B)) (joint2 (S .A) (S .B)) Always (shadow1 (S .A) (S .B)) tt
 
     abbrev Went2 : ℕ → List Pair → Answer → List Pair → Type 0
-    Went2 = Went (S .A) (S .B) (all S) (j₀ S) (party2 (S .B) D) of2 (joint2 (S .A) (S .B)) (joint1 (S .A) (S .B)) (Supplied (S .A) (S .B) D) (shadow2 (S .A) (S .B) D) supply
+    Went2 = Went (S .A) (S .B) (all S) (j₀ S) (worker2 (S .B) D) of2 (joint2 (S .A) (S .B)) (joint1 (S .A) (S .B)) (Supplied (S .A) (S .B) D) (shadow2 (S .A) (S .B) D) supply
 
     -- two answers that went on from position k leave the three standing
     both : (k : ℕ) (t1 t2 r1 r2 : List Pair) (a b : Answer) → Went1 k t1 a r1 → Went2 k t2 b r2
@@ -123,11 +123,11 @@ module _ (S : Stage) (buf : List ℕ) where
 
     -- ---- both startings
 
-    start1-is : start (lent1 S D) (S .rm, S .r1) ≡ report (party-of (lent1 S D)) (start-walk (lent1 S D) (S .rm, S .r1))
+    start1-is : start (lent1 S D) (S .rm, S .r1) ≡ report (worker-of (lent1 S D)) (start-walk (lent1 S D) (S .rm, S .r1))
     unfolding start
     start1-is = unless-zero _ _ _ _ passed1
 
-    start2-is : start (lent2 S D) (S .rm, S .r2) ≡ report (party-of (lent2 S D)) (start-walk (lent2 S D) (S .rm, S .r2))
+    start2-is : start (lent2 S D) (S .rm, S .r2) ≡ report (worker-of (lent2 S D)) (start-walk (lent2 S D) (S .rm, S .r2))
     unfolding start
     start2-is = unless-zero _ _ _ _ passed2
 
@@ -137,27 +137,27 @@ module _ (S : Stage) (buf : List ℕ) where
     begun-is = rw (unless-zero (P .number) (P .number, P .index) (given (S .rm, S .r1)) (start (lent1 S D) (S .rm, S .r1)) done, unless-zero (P .number) (P .number, P .index) (given (S .rm, S .r2)) (start (lent2 S D) (S .rm, S .r2)) done)
 
     pub begun-stands : Standing (begun (lent-of S) (given-of S) buf)
-    unfolding party-of start-walk
+    unfolding worker-with start-walk
     begun-stands =
         rw (begun-is, start1-is, start2-is)
         (both 0 [] [] _ _ _ _
-        (starts (S .A) (S .B) (all S) (j₀ S) (party1 (S .A)) of1 (joint1 (S .A) (S .B)) (joint2 (S .A) (S .B)) Always (shadow1 (S .A) (S .B)) tt (S .rm, S .r1) refl)
-        (starts (S .A) (S .B) (all S) (j₀ S) (party2 (S .B) D) of2 (joint2 (S .A) (S .B)) (joint1 (S .A) (S .B)) (Supplied (S .A) (S .B) D) (shadow2 (S .A) (S .B) D) supply (S .rm, S .r2) refl) .0)
+        (starts (S .A) (S .B) (all S) (j₀ S) (worker1 (S .A)) of1 (joint1 (S .A) (S .B)) (joint2 (S .A) (S .B)) Always (shadow1 (S .A) (S .B)) tt (S .rm, S .r1) refl)
+        (starts (S .A) (S .B) (all S) (j₀ S) (worker2 (S .B) D) of2 (joint2 (S .A) (S .B)) (joint1 (S .A) (S .B)) (Supplied (S .A) (S .B) D) (shadow2 (S .A) (S .B) D) supply (S .rm, S .r2) refl) .0)
 
     -- ---- both hearings
 
-    hear1-is : (s : State) (v : ℕ) → hear (lent1 S D) s v ≡ resume (party-of (lent1 S D)) s v (found-of (lent1 S D) s)
+    hear1-is : (s : State) (v : ℕ) → hear (lent1 S D) s v ≡ resume (worker-of (lent1 S D)) s v (found-of (lent1 S D) s)
     unfolding hear
     hear1-is s v = unless-zero _ _ _ _ passed1
 
-    hear2-is : (s : State) (v : ℕ) → hear (lent2 S D) s v ≡ resume (party-of (lent2 S D)) s v (found-of (lent2 S D) s)
+    hear2-is : (s : State) (v : ℕ) → hear (lent2 S D) s v ≡ resume (worker-of (lent2 S D)) s v (found-of (lent2 S D) s)
     unfolding hear
     hear2-is s v = unless-zero _ _ _ _ passed2
 
     pub heard-at : (n : ℕ) → Halted (at-n n .rest) → Exchanging (at-n n .rest) → (x : Standing (heard (lent-of S) (standing n))) × (n < x .n)
-    unfolding party-of found-of heard
+    unfolding worker-with found-of heard
     heard-at n h x =
         rw (hear1-is (state-of (through of1 (at-n n))) (words (S .A) (S .B) (all S) (j₀ S) (joint2 (S .A) (S .B)) n), hear2-is (state-of (through of2 (at-n n))) (words (S .A) (S .B) (all S) (j₀ S) (joint1 (S .A) (S .B)) n))
         (both (suc n) _ _ _ _ _ _
-        (hears-on (S .A) (S .B) (all S) (j₀ S) (party1 (S .A)) of1 (joint1 (S .A) (S .B)) (joint2 (S .A) (S .B)) Always (shadow1 (S .A) (S .B)) tt n _ x h refl)
-        (hears-on (S .A) (S .B) (all S) (j₀ S) (party2 (S .B) D) of2 (joint2 (S .A) (S .B)) (joint1 (S .A) (S .B)) (Supplied (S .A) (S .B) D) (shadow2 (S .A) (S .B) D) supply n _ x h refl))
+        (hears-on (S .A) (S .B) (all S) (j₀ S) (worker1 (S .A)) of1 (joint1 (S .A) (S .B)) (joint2 (S .A) (S .B)) Always (shadow1 (S .A) (S .B)) tt n _ x h refl)
+        (hears-on (S .A) (S .B) (all S) (j₀ S) (worker2 (S .B) D) of2 (joint2 (S .A) (S .B)) (joint1 (S .A) (S .B)) (Supplied (S .A) (S .B) D) (shadow2 (S .A) (S .B) D) supply n _ x h refl))

@@ -7,21 +7,21 @@ use native.Mathlib.Nat.{zero-add}
 use native.Mathlib.Omega.{arith}
 use lib.ListN.{length}
 use Rattle.gates.specs.Steps.{Cursor, origin}
-use Rattle.gates.specs.Parties.{Pair, of1, of2}
+use Rattle.gates.specs.Hosts.{Pair, of1, of2}
 use Rattle.gates.proofs.Needs.{far-used}
 use Rattle.jobs.specs.Job.{Fault}
 use Rattle.calls.specs.Scripts.{Script, script-cost, orders-in, Orderly}
 use Rattle.calls.specs.Calls.{State, Answer, refused, fresh, unless, given, prepared as Calls-prepared, prepare}
 use Rattle.runs.specs.Runs.{Stage, staged, Spoken, Dealer, going, world, held, Begins, given-out, begin, Finished}
-use Rattle.runs.specs.Whole.{WholeRun, outset}
-use Rattle.runs.proofs.Demand1.{demand1}
+use Rattle.demands.specs.Whole.{WholeRun, outset}
+use Rattle.demands.proofs.Demand1.{demand1}
 use Rattle.runs.proofs.Chain.{job-orderly}
 use Rattle.runs.proofs.Kept.{Ok, ok, go1, go2, kept}
 use Rattle.runs.proofs.Progress.{unless-zero}
 use Rattle.runs.proofs.Strict.{wide-on}
 use Rattle.runs.proofs.Buffers.{buffers}
 use Rattle.runs.proofs.InOrder.{in-order}
-use Rattle.runs.proofs.Whole.{whole}
+use Rattle.demands.proofs.Whole.{whole}
 use Rattle.trio.specs.Together.{Trio, prepared, preparation as trio-preparation, left, ended, together}
 use Rattle.trio.specs.Ran.{ran, RunTo, TurnedDown, TrioRun}
 use Rattle.trio.proofs.Positions.{lent-of, given-of, P, D, at-n, standing}

@@ -6,7 +6,7 @@ use Prim.Native.Nat.{ℕ, zero, suc, _≤_, _<_, _/_}
 use native.Mathlib.Omega.{arith}
 use lib.ListN.{length}
 use Rattle.gates.specs.Steps.{Lane}
-use Rattle.gates.specs.Parties.{Pair, Triple, of0, of1, of2}
+use Rattle.gates.specs.Hosts.{Pair, Triple, of0, of1, of2}
 use Rattle.worker.proofs.Jobs.{order-count, sized}
 use Rattle.calls.specs.Calls.{State, Answer, Prepared, fresh, unless, given, start, hear}
 use Rattle.calls.specs.Scripts.{job-script, orders-in, Closed}

@@ -6,14 +6,14 @@ use mathlib.Core.List.{List, reverse}
 use Prim.Native.Nat.{ℕ, suc}
 use lib.ListN.{length}
 use Rattle.calls.specs.Scripts.{Orderly}
-use Rattle.gates.specs.Parties.{Pair}
+use Rattle.gates.specs.Hosts.{Pair}
 use Rattle.calls.specs.Calls.{State, Answer}
 use Rattle.runs.specs.Runs.{Stage, Setting, staged, World, preparation, held, buffer-of, Accepted}
-use Rattle.runs.specs.Conditions.{PreparationIs}
-use Rattle.runs.specs.Demand1.{job-terms, given-back}
-use Rattle.runs.specs.Demand2.{words-of-1, words-of-2}
+use Rattle.demands.specs.Conditions.{PreparationIs}
+use Rattle.demands.specs.Demand1.{job-terms, given-back}
+use Rattle.runs.specs.InOrder.{words-of-1, words-of-2}
 use Rattle.runs.specs.Buffers.{deals-of, with-deals}
-use Rattle.runs.specs.Whole.{WholeRun, outset}
+use Rattle.demands.specs.Whole.{WholeRun, outset}
 use Rattle.trio.specs.Together.{lending, Trio, together}
 
 -- the whole script of a stage, in one place

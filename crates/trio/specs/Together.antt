@@ -6,7 +6,7 @@ use Prim.Native.Nat.{ℕ}
 use lib.ListN.{length}
 use Rattle.gates.specs.Steps.{origin}
 use Rattle.gates.specs.Walk.{whole}
-use Rattle.gates.specs.Parties.{Pair, Triple, of0, of1, of2, act}
+use Rattle.gates.specs.Hosts.{Pair, Triple, of0, of1, of2, act}
 use Rattle.calls.specs.Scripts.{Script, script-cost, orders-in}
 use Rattle.calls.specs.Lent.{Lent}
 use Rattle.calls.specs.Calls.{Answer, Prepared, fresh, given, unless, start, hear, prepare}

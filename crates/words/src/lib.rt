@@ -1,4 +1,4 @@
-// Words of 32 bits, as the three parties hold them. Sums and differences of words are the supplied
+// Words of 32 bits, as the three hosts hold them. Sums and differences of words are the supplied
 // `std::num::wrapping_add_u32` and `wrapping_sub_u32`; here are the product and the signed reading.
 ghost use mathlib.Core.Path.{_≡_};
 ghost use Rattle.words.specs.Words.{mul};

@@ -5,14 +5,14 @@ use Prim.Native.Nat.{ℕ, zero, suc}
 use native.Mathlib.Omega.{arith}
 use lib.ListN.{drop}
 use Rattle.gates.specs.Steps.{Lane}
-use Rattle.gates.specs.Parties.{Pair}
+use Rattle.gates.specs.Hosts.{Pair}
 use Rattle.gates.specs.declared.Gate.{Gate}
 use Rattle.gates.specs.Meaning.{job-steps}
 use Rattle.jobs.specs.Job.{Fault}
 use Rattle.calls.specs.Scripts.{Script}
-use Rattle.calls.specs.Lent.{party-of, lent-fault, lent}
+use Rattle.calls.specs.Lent.{lent-fault, lent, worker-with}
 use Rattle.calls.specs.Calls.{State, Answer, refused, fresh, unless, given, start-walk, start}
-use Rattle.worker_gate.specs.Exchanges.{cursor, host-of}
+use Rattle.worker_gate.specs.Exchanges.{cursor}
 use Rattle.worker.specs.Walks.{reported, steps-from}
 use Rattle.worker.proofs.Advancing.{first-gate}
 
@@ -45,6 +45,6 @@ module _ (h : ℕ) (σ : Script) (M D : List ℕ) (r : Pair) (n i : ℕ) (e : (n
   unfolding start given
   start-refused z = rw (em, el) (is-refused n i _ e _ _ z)
 
-  pub started : (gates : List (List Gate)) → σ .steps ≡ job-steps 32 gates → n ≡ 0 → reported (host-of h M D) (steps-from 32 0 (drop 0 gates)) (cursor 0 0 0 0 0) (m, l) ≡ start (lent h σ M D) r
-  unfolding start start-walk reported host-of party-of
+  pub started : (gates : List (List Gate)) → σ .steps ≡ job-steps 32 gates → n ≡ 0 → reported (worker-with h M D) (steps-from 32 0 (drop 0 gates)) (cursor 0 0 0 0 0) (m, l) ≡ start (lent h σ M D) r
+  unfolding start start-walk reported worker-with
   started gates made z = rw (em, el, ← first-gate 32 gates, ← made) (is-answered n i _ e _ _ z)

@@ -24,11 +24,11 @@ use Rattle.program_seek.specs.Seek.{sought}
 use Rattle.programs.specs.Orders.{program}
 use Rattle.jobs.specs.Job.{Fault, job-fault, job-gates, job-cost}
 use Rattle.calls.specs.Scripts.{Script, job-script}
-use Rattle.calls.specs.Lent.{party-of, lent-fault, lent, passed}
+use Rattle.calls.specs.Lent.{lent-fault, lent, passed, worker-with}
 use Rattle.calls.specs.Places.{Found, nowhere, found, seek}
 use Rattle.calls.specs.Calls.{State, refused, report, unless, hear-walk, place-fault, found-of, resume, hear}
 use Rattle.jobs.specs.Walk.{order-at}
-use Rattle.worker_gate.specs.Exchanges.{cursor, host-of}
+use Rattle.worker_gate.specs.Exchanges.{cursor}
 use Rattle.worker.specs.Walks.{steps-from, Sized, Standing}
 use Rattle.worker.proofs.Walking.{inside}
 use Rattle.worker.proofs.Seeking.{Placed, placed}
@@ -90,9 +90,9 @@ module _ (h : ℕ) (σ : Script) (M D : List ℕ) (s : State) (v n i : ℕ) (e :
 
   module _ (z : n ≡ 0) where
     -- by what is found at the state's place
-    by-place : (f : Found) → seek (s .order) (s .turn) (σ .steps) origin ≡ f → resume (host-of h M D) s v f ≡ hear (lent h σ M D) s v
-    unfolding hear found-of host-of party-of
-    by-place f p = ap (λ (g : Found). resume (host-of h M D) s v g) (sym p) ∙ is-answered n i _ e s _ z
+    by-place : (f : Found) → seek (s .order) (s .turn) (σ .steps) origin ≡ f → resume (worker-with h M D) s v f ≡ hear (lent h σ M D) s v
+    unfolding hear found-of worker-with
+    by-place f p = ap (λ (g : Found). resume (worker-with h M D) s v g) (sym p) ∙ is-answered n i _ e s _ z
 
     pub at-nowhere : seek (s .order) (s .turn) (σ .steps) origin ≡ nowhere → refused (8, 0) s ≡ hear (lent h σ M D) s v
     unfolding resume place-fault unless
@@ -103,7 +103,7 @@ module _ (h : ℕ) (σ : Script) (M D : List ℕ) (s : State) (v n i : ℕ) (e :
     at-the-end c p = by-place (found [] c) p
 
     no-fault-at : (y : Step) (ss : List Step) (c : Cursor) → Exchanging (y ∷ [])
-        → report (host-of h M D) (hear-walk (host-of h M D) s v (found (y ∷ ss) c)) ≡ resume (host-of h M D) s v (found (y ∷ ss) c)
+        → report (worker-with h M D) (hear-walk (worker-with h M D) s v (found (y ∷ ss) c)) ≡ resume (worker-with h M D) s v (found (y ∷ ss) c)
     unfolding resume place-fault unless
     no-fault-at (local d m l) ss c q = absurd q
     no-fault-at (deal d f) ss c q = absurd q
@@ -112,9 +112,9 @@ module _ (h : ℕ) (σ : Script) (M D : List ℕ) (s : State) (v n i : ℕ) (e :
 
     pub at-exchange : (y : Step) (ss ts : List Step) (c : Cursor) → Exchanging (y ∷ []) → ts ≡ y ∷ ss
         → seek (s .order) (s .turn) (σ .steps) origin ≡ found ts c
-        → report (host-of h M D) (hear-walk (host-of h M D) s v (found ts c)) ≡ hear (lent h σ M D) s v
+        → report (worker-with h M D) (hear-walk (worker-with h M D) s v (found ts c)) ≡ hear (lent h σ M D) s v
     at-exchange y ss ts c q t p =
-        ap (λ (z : List Step). report (host-of h M D) (hear-walk (host-of h M D) s v (found z c))) t
+        ap (λ (z : List Step). report (worker-with h M D) (hear-walk (worker-with h M D) s v (found z c))) t
         ∙ no-fault-at y ss c q
         ∙ by-place (found (y ∷ ss) c) (p ∙ ap (λ (z : List Step). found z c) t)
 

@@ -12,18 +12,18 @@ use Rattle.gates.specs.Costs.{used-at}
 use Rattle.gates.specs.Steps.{Lane, Step, local, deal, exchange, end, Cursor, past}
 use Rattle.gates.specs.Meaning.{meaning, order-steps, job-steps}
 use Rattle.gates.specs.Walk.{Exchanging}
-use Rattle.gates.specs.Parties.{Pair}
+use Rattle.gates.specs.Hosts.{Pair}
 use Rattle.gates.proofs.Uses.{behind-a, behind-k}
 use Rattle.programs.specs.declared.Order.{Order}
 use Rattle.program_fetch.specs.declared.Fetched.{Fetched}
 use Rattle.program_fetch.specs.declared.Fetched.the-variants.{At, Past}
 use Rattle.program_fetch.specs.Fetch.{fetched}
 use Rattle.programs.specs.Orders.{program}
-use Rattle.calls.specs.Lent.{Party}
+use Rattle.calls.specs.Lent.{Worker, worker-with}
 use Rattle.calls.specs.Places.{found}
 use Rattle.calls.specs.Calls.{State, report, hear-walk}
 use Rattle.jobs.specs.Walk.{order-at}
-use Rattle.worker_gate.specs.Exchanges.{cursor, host-of, heard-at}
+use Rattle.worker_gate.specs.Exchanges.{cursor, heard-at}
 use Rattle.worker.specs.Walks.{reported, steps-from, Standing}
 use Rattle.worker.proofs.Walking.{at-gate}
 use Rattle.worker_gate.proofs.Shapes.{heard-as}
@@ -43,11 +43,11 @@ past-exchange end h o x a b k = absurd h
 
 -- the lanes do not depend on the place
 heard-any : (h : ℕ) (M D : List ℕ) (y : Step) (o x a b k : ℕ) (s : Pair) (v : ℕ)
-    → heard-at (host-of h M D) y (cursor o x a b k) s v ≡ heard-at (host-of h M D) y (cursor 0 0 a b k) s v
+    → heard-at (worker-with h M D) y (cursor o x a b k) s v ≡ heard-at (worker-with h M D) y (cursor 0 0 a b k) s v
 heard-any h M D y o x a b k s v =
     heard-as M D o x a b k s h y _ v (word-any h M D y o x a b k s) ∙ sym (heard-as M D 0 0 a b k s h y _ v refl)
 
-walk-on : (P : Party) (s : State) (v : ℕ) (y : Step) (ss : List Step) (c : Cursor) → Exchanging (y ∷ [])
+walk-on : (P : Worker) (s : State) (v : ℕ) (y : Step) (ss : List Step) (c : Cursor) → Exchanging (y ∷ [])
     → report P (hear-walk P s v (found (y ∷ ss) c)) ≡ reported P ss (past y c) (heard-at P y c (s .m, s .mask) v)
 unfolding hear-walk reported heard-at
 walk-on P s v (local d m l) ss c h = absurd h
@@ -66,19 +66,19 @@ module _ (h : ℕ) (M D : List ℕ) (os : List (List Gate)) (o i : ℕ) (gs : Li
   steps-at = rw (e, add-one i) (at-gate 32 gs i g (job-steps 32 (drop (suc o) os)) eg)
 
   pub resumed : Exchanging (meaning 32 g ∷ []) → (s : State) (v a b k i′ a′ k′ : ℕ) (m l : Lane) (u : Used) → u ≡ used-at (meaning 32 g)
-      → (m, l) ≡ heard-at (host-of h M D) (meaning 32 g) (cursor 0 0 a b k) (s .m, s .mask) v
+      → (m, l) ≡ heard-at (worker-with h M D) (meaning 32 g) (cursor 0 0 a b k) (s .m, s .mask) v
       → i′ ≡ i + 1 → a′ ≡ a + u .a → k′ ≡ k + u .deals
-      → reported (host-of h M D) (steps-from 32 i′ (drop o os)) (cursor o (s .turn + 1) a′ (b + 1) k′) (m, l)
-      ≡ report (host-of h M D) (hear-walk (host-of h M D) s v (found (steps-from 32 i (drop o os)) (cursor o (s .turn) a b k)))
+      → reported (worker-with h M D) (steps-from 32 i′ (drop o os)) (cursor o (s .turn + 1) a′ (b + 1) k′) (m, l)
+      ≡ report (worker-with h M D) (hear-walk (worker-with h M D) s v (found (steps-from 32 i (drop o os)) (cursor o (s .turn) a b k)))
   resumed w s v a b k i′ a′ k′ m l u eu em ei ea ek =
       let y = meaning 32 g in
       let c : past y (cursor o (s .turn) a b k) ≡ cursor o (s .turn + 1) a′ (b + 1) k′ = rw (add-one (s .turn), add-one b, ea, ek, behind-a y u eu (cursor 0 0 a 0 k), behind-k y u eu (cursor 0 0 a 0 k)) (past-exchange y w o (s .turn) a b k) in
-      ap (λ (n : ℕ). reported (host-of h M D) (steps-from 32 n (drop o os)) (cursor o (s .turn + 1) a′ (b + 1) k′) (m, l)) ei
+      ap (λ (n : ℕ). reported (worker-with h M D) (steps-from 32 n (drop o os)) (cursor o (s .turn + 1) a′ (b + 1) k′) (m, l)) ei
       ∙ sym
-      (ap (λ (ss : List Step). report (host-of h M D) (hear-walk (host-of h M D) s v (found ss (cursor o (s .turn) a b k)))) steps-at
-      ∙ walk-on (host-of h M D) s v y (steps-from 32 (i + 1) (drop o os)) (cursor o (s .turn) a b k) w
-      ∙ ap (λ (z : Cursor). reported (host-of h M D) (steps-from 32 (i + 1) (drop o os)) z (heard-at (host-of h M D) y (cursor o (s .turn) a b k) (s .m, s .mask) v)) c
-      ∙ ap (λ (z : Pair). reported (host-of h M D) (steps-from 32 (i + 1) (drop o os)) (cursor o (s .turn + 1) a′ (b + 1) k′) z) (heard-any h M D y o (s .turn) a b k (s .m, s .mask) v ∙ sym em))
+      (ap (λ (ss : List Step). report (worker-with h M D) (hear-walk (worker-with h M D) s v (found ss (cursor o (s .turn) a b k)))) steps-at
+      ∙ walk-on (worker-with h M D) s v y (steps-from 32 (i + 1) (drop o os)) (cursor o (s .turn) a b k) w
+      ∙ ap (λ (z : Cursor). reported (worker-with h M D) (steps-from 32 (i + 1) (drop o os)) z (heard-at (worker-with h M D) y (cursor o (s .turn) a b k) (s .m, s .mask) v)) c
+      ∙ ap (λ (z : Pair). reported (worker-with h M D) (steps-from 32 (i + 1) (drop o os)) (cursor o (s .turn + 1) a′ (b + 1) k′) z) (heard-any h M D y o (s .turn) a b k (s .m, s .mask) v ∙ sym em))
 
 -- the gate that the code fetched is the one where the state stands
 module _ (J T : List ℕ) (o i : ℕ) (S : Standing J T o i) (ord : Order) (eo : ord ≡ order-at J o) (f : Fetched) (ef : f ≡ fetched (program 32 (rows T) ord) i) where

@@ -12,17 +12,17 @@ use Rattle.gates.specs.Steps.{at, product, refresh, Step, local, deal, exchange
 use Rattle.gates.specs.Costs.{step-cost}
 use Rattle.gates.specs.Meaning.{meaning, order-steps}
 use Rattle.gates.specs.Walk.{walk, Exchanging}
-use Rattle.gates.specs.Parties.{Pair, on-m, on-mask, act1, act2}
+use Rattle.gates.specs.Hosts.{Pair, on-m, on-mask, act1, act2}
 use Rattle.program_fetch.specs.declared.Fetched.the-variants.{At, Past}
 use Rattle.program_fetch.specs.Fetch.{fetched}
-use Rattle.calls.specs.Lent.{Party, party1, party2, party-of}
+use Rattle.calls.specs.Lent.{Worker, worker1, worker2, worker-with}
 use Rattle.calls.specs.Calls.{word-at, spoken-at, report}
-use Rattle.worker_gate.specs.Exchanges.{cursor, host-of, deal-taken}
+use Rattle.worker_gate.specs.Exchanges.{cursor, deal-taken}
 use Rattle.worker.specs.Walks.{reported}
 
 -- ---- the trail
 
-pub trail-free : (P : Party) (ss : List Step) (c : Cursor) (s : Pair) (t u : List Pair)
+pub trail-free : (P : Worker) (ss : List Step) (c : Cursor) (s : Pair) (t u : List Pair)
     → report P (walk (P .act) ss c s t) ≡ report P (walk (P .act) ss c s u)
 unfolding walk
 trail-free P [] c s t u = refl
@@ -60,7 +60,7 @@ of-gate w (DealBits d a) = tt
 pub never : {S : Type 0} → _≡_ {A = ℕ} 0 1 → S
 never e = absurd (omega arith)
 
-module _ (P : Party) (ss : List Step) (o x a b k : ℕ) (s : Pair) where
+module _ (P : Worker) (ss : List Step) (o x a b k : ℕ) (s : Pair) where
   pub passes : (y : Step) → OfGate y → step-cost y .b ≡ 0
       → reported P (y ∷ ss) (cursor o x a b k) s ≡ reported P ss (cursor o x (past y (cursor 0 0 a 0 k) .a) b (past y (cursor 0 0 a 0 k) .k)) (P .act y (cursor o x a b k) s)
   unfolding reported walk past step-cost
@@ -113,14 +113,14 @@ inside (h ∷ gs) (suc i) g e = let k : i < length gs = inside gs i g e in omega
 -- ---- what a host does at a step
 
 pub acts : (h : ℕ) (M D : List ℕ) (y : Step) (c : Cursor) (s : Pair)
-    → host-of h M D .act y c s ≡ (on-m y (s .0), on-mask y (deal-taken h M D (c .a) (c .k)) (s .1))
-unfolding host-of party-of deal-taken act1 act2
+    → worker-with h M D .act y c s ≡ (on-m y (s .0), on-mask y (deal-taken h M D (c .a) (c .k)) (s .1))
+unfolding worker-with deal-taken act1 act2
 acts h M D y c s = go (eqb h 1)
   where
-    go : (b : Bool) → cond {A = Party} b (party1 M) (party2 M D) .act y c s ≡ (on-m y (s .0), on-mask y (cond b (at M (c .a)) (at D (c .k))) (s .1))
+    go : (b : Bool) → cond {A = Worker} b (worker1 M) (worker2 M D) .act y c s ≡ (on-m y (s .0), on-mask y (cond b (at M (c .a)) (at D (c .k))) (s .1))
     go true = refl
     go false = refl
 
-pub acts-end : (h : ℕ) (M D : List ℕ) (c : Cursor) (s : Pair) → host-of h M D .act end c s ≡ s
+pub acts-end : (h : ℕ) (M D : List ℕ) (c : Cursor) (s : Pair) → worker-with h M D .act end c s ≡ s
 unfolding on-m on-mask
 acts-end h M D c s = acts h M D end c s

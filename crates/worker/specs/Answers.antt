@@ -1,7 +1,7 @@
 -- The code's structs as the records of the definitions. Assumes nothing.
 use Prim.Native.Nat.{ℕ}
 use Rattle.gates.specs.Steps.{Lane}
-use Rattle.gates.specs.Parties.{Pair}
+use Rattle.gates.specs.Hosts.{Pair}
 use Rattle.worker.specs.declared.State.{State}
 use Rattle.worker.specs.declared.Registers.{Registers}
 use Rattle.worker.specs.declared.Answer.{Answer}

@@ -7,19 +7,19 @@ use Rattle.gates.specs.declared.Gate.{Gate}
 use Rattle.gates.specs.Steps.{Step, Cursor}
 use Rattle.gates.specs.Meaning.{meaning, order-steps, job-steps}
 use Rattle.gates.specs.Walk.{walk, Exchanging}
-use Rattle.gates.specs.Parties.{Pair}
+use Rattle.gates.specs.Hosts.{Pair}
 use Rattle.program_fetch.specs.declared.Fetched.{Fetched}
 use Rattle.program_fetch.specs.declared.Fetched.the-variants.{At, Past}
 use Rattle.program_fetch.specs.Fetch.{fetched}
 use Rattle.programs.specs.Orders.{program}
 use Rattle.tables.specs.Table.{rows}
 use Rattle.jobs.specs.Walk.{order-at}
-use Rattle.calls.specs.Lent.{Party}
+use Rattle.calls.specs.Lent.{Worker}
 use Rattle.calls.specs.Calls.{Answer, report}
 use Rattle.worker_gate.specs.Exchanges.{cursor}
 
 -- the answer of a walk from here to the next product or refresh, or to the end
-unfoldable pub reported : Party → List Step → Cursor → Pair → Answer
+unfoldable pub reported : Worker → List Step → Cursor → Pair → Answer
 reported P ss c s = report P (walk (P .act) ss c s [])
 
 -- the steps of a job's orders, of the first from its gate i on
@@ -34,7 +34,7 @@ Halting w (At g) = Exchanging (meaning w g ∷ [])
 
 -- A walk through the gates gs of an order, from gate i with the lanes s to gate j with the lanes t: whatever stands behind the order, the answer is the same
 -- from there. The words of A and the deals that are used on the way are at most as many as the gates.
-pub record Walked (w : ℕ) (P : Party) (gs : List Gate) (i a k : ℕ) (s : Pair) (j a′ k′ : ℕ) (t : Pair) : Type 0 where
+pub record Walked (w : ℕ) (P : Worker) (gs : List Gate) (i a k : ℕ) (s : Pair) (j a′ k′ : ℕ) (t : Pair) : Type 0 where
   pub same : (ss : List Step) (o x b : ℕ) → reported P (order-steps w (drop i gs) ss) (cursor o x a b k) s ≡ reported P (order-steps w (drop j gs) ss) (cursor o x a′ b k′) t
   pub halts : Halting w (fetched gs j)
   pub few : j ≤ 1000

@@ -8,9 +8,9 @@ ghost use Rattle.jobs.specs.Job.{job-gates};
 ghost use Rattle.calls.specs.Places.{found};
 ghost use Rattle.calls.specs.Calls as Calls;
 ghost use Rattle.calls.specs.Scripts.{job-script};
-ghost use Rattle.calls.specs.Lent.{lent};
+ghost use Rattle.calls.specs.Lent.{lent, worker-with};
 ghost use Rattle.worker.specs.Answers.{answer-of, state-of};
-ghost use Rattle.worker_gate.specs.Exchanges.{cursor, host-of};
+ghost use Rattle.worker_gate.specs.Exchanges.{cursor};
 ghost use Rattle.worker.specs.Walks.{steps-from, Sized, Standing};
 use crate::Answer;
 use crate::State;
@@ -57,8 +57,8 @@ fn resume(
         × (at .a < 2 ^ 30) × (at .k < 2 ^ 30) × (b < 2 ^ 30) ⌝ }
     ensures { λ r.
         ⌜ answer-of r
-        ≡ Calls.report (host-of host (now (masks .entry)) (now (deals .entry)))
-        (Calls.hear-walk (host-of host (now (masks .entry)) (now (deals .entry))) (state-of s) heard
+        ≡ Calls.report (worker-with host (now (masks .entry)) (now (deals .entry)))
+        (Calls.hear-walk (worker-with host (now (masks .entry)) (now (deals .entry))) (state-of s) heard
         (found (steps-from 32 (at .gate) (drop (s .order) (job-gates 32 (now (job .entry)) (now (table .entry)))))
         (cursor (s .order) (s .turn) (at .a) b (at .k)))) ⌝ }
 {

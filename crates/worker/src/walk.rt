@@ -6,7 +6,8 @@ ghost use Rattle.tables.specs.Table.{rows};
 ghost use Rattle.programs.specs.Orders.{program};
 ghost use Rattle.jobs.specs.Job.{job-gates};
 ghost use Rattle.worker.specs.Answers.{answer-of};
-ghost use Rattle.worker_gate.specs.Exchanges.{cursor, host-of};
+ghost use Rattle.calls.specs.Lent.{worker-with};
+ghost use Rattle.worker_gate.specs.Exchanges.{cursor};
 ghost use Rattle.worker.specs.Walks.{steps-from, reported, Walked, Sized};
 use crate::Answer;
 use crate::State;
@@ -46,7 +47,7 @@ fn walk_order(
 ) -> Reach
     requires { ⌜ (length (program 32 (rows (now table)) o) ≤ 1000) × (from .gate ≤ 1000) × (from .a < 2 ^ 61) × (from .k < 2 ^ 61) ⌝ }
     ensures { λ r.
-        ⌜ Walked 32 (host-of host (now (masks .entry)) (now (deals .entry))) (program 32 (rows (now (table .entry))) o)
+        ⌜ Walked 32 (worker-with host (now (masks .entry)) (now (deals .entry))) (program 32 (rows (now (table .entry))) o)
         (from .gate) (from .a) (from .k) (now (m .entry), now (mask .entry)) (r .gate) (r .a) (r .k) (now (m .exit), now (mask .exit)) ⌝ }
 {
     let mut at = from;
@@ -77,7 +78,7 @@ pub(crate) fn advance(
     requires { ⌜ Sized (now job) (now table) × (from .gate ≤ 1000) × (from .a < 2 ^ 40) × (from .k < 2 ^ 40) × (b < 2 ^ 31) ⌝ }
     ensures { λ r.
         ⌜ answer-of r
-        ≡ reported (host-of host (now (masks .entry)) (now (deals .entry)))
+        ≡ reported (worker-with host (now (masks .entry)) (now (deals .entry)))
         (steps-from 32 (from .gate) (drop (s .order) (job-gates 32 (now (job .entry)) (now (table .entry)))))
         (cursor (s .order) (s .turn) (from .a) b (from .k)) (s .m, s .mask) ⌝ }
 {

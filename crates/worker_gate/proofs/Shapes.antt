@@ -13,11 +13,11 @@ use Rattle.gates.specs.declared.Shape.the-variants.{Local, Dealing, Product, Re
 use Rattle.gates.specs.declared.Used.{Used}
 use Rattle.gates.specs.Costs.{step-cost, used-at}
 use Rattle.gates.specs.Steps.{Lane, at, Exchange, product, refresh, Step, local, deal, exchange, end, new-at}
-use Rattle.gates.specs.Parties.{Pair, word-of1, word-of2, hear1, hear2}
+use Rattle.gates.specs.Hosts.{Pair, word-of1, word-of2, hear1, hear2}
 use Rattle.gates.specs.Speech.{spoken1, spoken2, met, shape}
-use Rattle.calls.specs.Lent.{Party, party1, party2, party-of}
+use Rattle.calls.specs.Lent.{Worker, worker1, worker2, worker-with}
 use Rattle.calls.specs.Calls.{word-at}
-use Rattle.worker_gate.specs.Exchanges.{cursor, host-of, first-at, new-mask, sum-of, heard-at}
+use Rattle.worker_gate.specs.Exchanges.{cursor, first-at, new-mask, sum-of, heard-at}
 
 -- host 1's new mask stands after g1 where a step uses two words of A
 first-after : (y : Step) (a : ℕ) → used-at y .a ≡ 2 → first-at y a ≡ suc a
@@ -40,8 +40,8 @@ first-next end a n = refl
 abbrev words : Bool → (M D : List ℕ) → Step → (a k new : ℕ) → Pair → ℕ
 words t M D y a k new s = cond t (spoken1 y (s .0) (s .1) (at M a) new) (spoken2 y (s .0) (s .1) (at D k) new)
 
-abbrev host : Bool → (M D : List ℕ) → Party
-host t M D = cond t (party1 M) (party2 M D)
+abbrev host : Bool → (M D : List ℕ) → Worker
+host t M D = cond t (worker1 M) (worker2 M D)
 
 -- the lanes when the sum of the two words is written, with the new mask
 abbrev pub heard-by : Shape → (sum new : ℕ) → Pair → Pair
@@ -83,13 +83,13 @@ module _ (M D : List ℕ) (o x a b k : ℕ) (s : Pair) where
     unfolding new-mask first-at
     new-here d e p = rw p
 
-    pub word-by : word-at (host-of h M D .say) (y ∷ []) (cursor o x a b k) s ≡ words (eqb h 1) M D y a k (new-mask h M y a b) s
-    unfolding host-of party-of
+    pub word-by : word-at (worker-with h M D .say) (y ∷ []) (cursor o x a b k) s ≡ words (eqb h 1) M D y a k (new-mask h M y a b) s
+    unfolding worker-with
     word-by = word-if (eqb h 1) y (new-mask h M y a b) new-here
 
-    pub heard-as : (own v : ℕ) → own ≡ word-at (host-of h M D .say) (y ∷ []) (cursor o x a b k) s
-        → heard-at (host-of h M D) y (cursor o x a b k) s v ≡ heard-by (shape y) (sum-of h y own v) (new-mask h M y a b) s
-    unfolding host-of party-of sum-of
+    pub heard-as : (own v : ℕ) → own ≡ word-at (worker-with h M D .say) (y ∷ []) (cursor o x a b k) s
+        → heard-at (worker-with h M D) y (cursor o x a b k) s v ≡ heard-by (shape y) (sum-of h y own v) (new-mask h M y a b) s
+    unfolding worker-with sum-of
     heard-as own v p = heard-if (eqb h 1) y (new-mask h M y a b) own v new-here p
 
 -- ---- as the code has them in hand: what it found to be used, and its test of the host
@@ -110,14 +110,14 @@ module _ (h : ℕ) (M : List ℕ) (y : Step) (a b : ℕ) where
 
 module _ (M D : List ℕ) (a b k : ℕ) (m l : Lane) (h : ℕ) (y : Step) where
   module _ (x new : ℕ) (en : new ≡ new-mask h M y a b) where
-    pub says-1 : x ≡ at M a → h ≡ 1 → spoken1 y m l x new ≡ word-at (host-of h M D .say) (y ∷ []) (cursor 0 0 a b k) (m, l)
+    pub says-1 : x ≡ at M a → h ≡ 1 → spoken1 y m l x new ≡ word-at (worker-with h M D .say) (y ∷ []) (cursor 0 0 a b k) (m, l)
     says-1 p q = rw (p, en) (sym (word-by M D 0 0 a b k (m, l) h y ∙ rw (eq-eqb h 1 q)))
 
-    pub says-2 : x ≡ at D k → (h ≡ 1 → ⊥) → spoken2 y m l x new ≡ word-at (host-of h M D .say) (y ∷ []) (cursor 0 0 a b k) (m, l)
+    pub says-2 : x ≡ at D k → (h ≡ 1 → ⊥) → spoken2 y m l x new ≡ word-at (worker-with h M D .say) (y ∷ []) (cursor 0 0 a b k) (m, l)
     says-2 p q = rw (p, en) (sym (word-by M D 0 0 a b k (m, l) h y ∙ rw (ne-eqb h 1 q)))
 
-  module _ (own v new sum : ℕ) (sh : Shape) (e : sh ≡ shape y) (eo : own ≡ word-at (host-of h M D .say) (y ∷ []) (cursor 0 0 a b k) (m, l))
+  module _ (own v new sum : ℕ) (sh : Shape) (e : sh ≡ shape y) (eo : own ≡ word-at (worker-with h M D .say) (y ∷ []) (cursor 0 0 a b k) (m, l))
       (en : new ≡ new-mask h M y a b) (es : sum ≡ sum-of h y own v) where
-    pub hears : (t : Shape) → sh ≡ t → heard-by t sum new (m, l) ≡ heard-at (host-of h M D) y (cursor 0 0 a b k) (m, l) v
+    pub hears : (t : Shape) → sh ≡ t → heard-by t sum new (m, l) ≡ heard-at (worker-with h M D) y (cursor 0 0 a b k) (m, l) v
     hears t p =
         sym (heard-as M D 0 0 a b k (m, l) h y own v eo ∙ rw (← es, ← en) (ap (λ (z : Shape). heard-by z sum new (m, l)) (sym e ∙ p)))

@@ -4,16 +4,12 @@ use mathlib.Core.List.{List}
 use Prim.Native.Nat.{ℕ}
 use lib.Dec.{eqb}
 use Rattle.gates.specs.Steps.{Step, local, deal, exchange, end, at, new-at, Cursor}
-use Rattle.gates.specs.Parties.{Pair}
+use Rattle.gates.specs.Hosts.{Pair}
 use Rattle.gates.specs.Speech.{met}
-use Rattle.calls.specs.Lent.{Party, party-of, lists}
+use Rattle.calls.specs.Lent.{Worker}
 
 abbrev pub cursor : (order turn a b k : ℕ) → Cursor
 cursor o x a b k = record { order = o; turn = x; a = a; b = b; k = k }
-
--- the host by its number and its lists alone
-unfoldable pub host-of : (host : ℕ) (masks deals : List ℕ) → Party
-host-of h M D = party-of (lists h M D)
 
 -- its word of a deal: host 1 takes the next word of A, host 2 the next deal
 unfoldable pub deal-taken : (host : ℕ) (masks deals : List ℕ) (a k : ℕ) → ℕ
@@ -35,7 +31,7 @@ unfoldable pub sum-of : (host : ℕ) → Step → (own heard : ℕ) → ℕ
 sum-of h y v w = cond (eqb h 1) (met y v w) (met y w v)
 
 -- the lanes when the other's word v is heard at a step
-unfoldable pub heard-at : Party → Step → Cursor → Pair → (v : ℕ) → Pair
+unfoldable pub heard-at : Worker → Step → Cursor → Pair → (v : ℕ) → Pair
 heard-at P (local d m l) c s v = s
 heard-at P (deal d f) c s v = s
 heard-at P (exchange d e) c s v = P .hear d e c s v

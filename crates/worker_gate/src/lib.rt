@@ -3,9 +3,10 @@
 ghost use mathlib.Core.Path.{_≡_};
 ghost use mathlib.Core.List.{[], _∷_};
 ghost use Rattle.gates.specs.Meaning.{meaning};
-ghost use Rattle.gates.specs.Parties.{on-m, on-mask};
+ghost use Rattle.gates.specs.Hosts.{on-m, on-mask};
 ghost use Rattle.calls.specs.Calls.{word-at};
-ghost use Rattle.worker_gate.specs.Exchanges.{cursor, host-of, deal-taken, new-mask, sum-of, heard-at};
+ghost use Rattle.calls.specs.Lent.{worker-with};
+ghost use Rattle.worker_gate.specs.Exchanges.{cursor, deal-taken, new-mask, sum-of, heard-at};
 use gates::Gate;
 use gates::Shape;
 use gate_local::step_m;
@@ -84,7 +85,7 @@ pub fn say(
 ) -> u32
     ensures { λ r.
         ⌜ r
-        ≡ word-at (host-of host (now (masks .entry)) (now (deals .entry)) .say) (meaning 32 g ∷ []) (cursor 0 0 (at .a) b (at .k))
+        ≡ word-at (worker-with host (now (masks .entry)) (now (deals .entry)) .say) (meaning 32 g ∷ []) (cursor 0 0 (at .a) b (at .k))
         (now (m .entry), now (mask .entry)) ⌝ }
 {
     let new = new_mask(host, g, masks, at.a, b);
@@ -120,7 +121,7 @@ pub fn meet(
 )
     ensures { λ r.
         ⌜ (now (m .exit), now (mask .exit))
-        ≡ heard-at (host-of host (now (masks .entry)) (now (deals .entry))) (meaning 32 g) (cursor 0 0 (at .a) b (at .k))
+        ≡ heard-at (worker-with host (now (masks .entry)) (now (deals .entry))) (meaning 32 g) (cursor 0 0 (at .a) b (at .k))
         (now (m .entry), now (mask .entry)) heard ⌝ }
 {
     let own = say(host, g, masks, deals, at, b, m, mask);

@@ -4,7 +4,7 @@ use native.Mathlib.Nat.{mod-eq-of-lt}
 use native.Mathlib.Omega.{arith}
 use Rattle.words.specs.Words.{add}
 use Rattle.gates.specs.Meaning.{meaning}
-use Rattle.gates.specs.Parties.{on-m}
+use Rattle.gates.specs.Hosts.{on-m}
 use Rattle.gates.proofs.Others.{as-mask}
 use borrow.Author.Needs.{needs}
 use Rattle.gate_local.proofs.on_m.Statement.{statement}

@@ -3,7 +3,7 @@ use native.Mathlib.Omega.{arith}
 use Rattle.words.specs.Words.{add}
 use Rattle.words.proofs.Words.{sub-of}
 use Rattle.gates.specs.Meaning.{meaning}
-use Rattle.gates.specs.Parties.{on-mask}
+use Rattle.gates.specs.Hosts.{on-mask}
 use Rattle.gates.proofs.Others.{kept}
 use borrow.Author.Needs.{needs}
 use Rattle.gate_local.proofs.on_mask.Statement.{statement}

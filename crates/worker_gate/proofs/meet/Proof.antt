@@ -3,17 +3,18 @@ use denote.Ref.{now}
 use Rattle.gates.specs.Meaning.{meaning}
 use Rattle.gates.specs.declared.Shape.{Shape}
 use Rattle.gates.specs.declared.Shape.the-variants.{Local, Dealing, Product, Refreshing}
-use Rattle.worker_gate.specs.Exchanges.{cursor, host-of, heard-at}
+use Rattle.worker_gate.specs.Exchanges.{cursor, heard-at}
 use Rattle.worker_gate.proofs.Shapes.{heard-by, hears}
 use borrow.Author.Needs.{needs}
 use Rattle.worker_gate.proofs.meet.Statement.{statement}
 use Rattle.worker_gate.proofs.meet.Tie as tie
+use Rattle.calls.specs.Lent.{worker-with}
 
 -- the lanes by the gate's shape, with the words that the code has worked out
 at-shape : (c : tie.After-shape-of) (t : Shape) → c .shape-of .result ≡ t
     → let a = c .before .before .before .before .before .before .before .before .args in
     heard-by t (c .before .sum-of .result) (c .before .before .new-mask .result) (now (a .m), now (a .mask))
-    ≡ heard-at (host-of (a .host) (now (a .masks)) (now (a .deals))) (meaning 32 (a .g)) (cursor 0 0 (a .at .a) (a .b) (a .at .k)) (now (a .m), now (a .mask)) (a .heard)
+    ≡ heard-at (worker-with (a .host) (now (a .masks)) (now (a .deals))) (meaning 32 (a .g)) (cursor 0 0 (a .at .a) (a .b) (a .at .k)) (now (a .m), now (a .mask)) (a .heard)
 at-shape c t e =
     let a = c .before .before .before .before .before .before .before .before .args in
     hears (now (a .masks)) (now (a .deals)) (a .at .a) (a .b) (a .at .k) (now (a .m)) (now (a .mask)) (a .host) (meaning 32 (a .g)) _ (a .heard) _ _ _

@@ -2,7 +2,7 @@ use mathlib.Core.Path.{ap, _∙_}
 use denote.Ref.{now}
 use Prim.Native.Nat.{ℕ}
 use Rattle.gates.specs.Meaning.{meaning}
-use Rattle.gates.specs.Parties.{on-mask}
+use Rattle.gates.specs.Hosts.{on-mask}
 use borrow.Author.Needs.{needs}
 use Rattle.worker_gate.proofs.step.Statement.{statement}
 use Rattle.worker_gate.proofs.step.Tie as tie

@@ -8,18 +8,19 @@ use Rattle.tables.specs.Table.{rows}
 use Rattle.programs.specs.Orders.{program}
 use Rattle.programs.specs.declared.Order.{Order}
 use Rattle.jobs.specs.Job.{job-gates}
-use Rattle.worker_gate.specs.Exchanges.{cursor, host-of}
+use Rattle.worker_gate.specs.Exchanges.{cursor}
 use Rattle.worker.specs.Walks.{steps-from, reported}
 use Rattle.worker.proofs.Jobs.{order-there, gates-over}
 use Rattle.worker.proofs.Advancing.{finished, halted, next-order}
 use Rattle.worker.proofs.walk.advance.Statement.{statement}
 use Rattle.worker.proofs.walk.advance.Tie as tie
+use Rattle.calls.specs.Lent.{worker-with}
 
 abbrev Inv-loop : tie.InvT-loop
 Inv-loop host job table masks deals b n m₀ mask₀ order₀ turn₀ at₀ m mask order turn at =
     (n ≡ length job / 4) × (at .gate ≤ 1000) × (order < 2 ^ 32) × (at .a ≤ 2 ^ 40 + 1000 * order) × (at .k ≤ 2 ^ 40 + 1000 * order)
-    × (reported (host-of host masks deals) (steps-from 32 (at .gate) (drop order (job-gates 32 job table))) (cursor order turn (at .a) b (at .k)) (m, mask)
-    ≡ reported (host-of host masks deals) (steps-from 32 (at₀ .gate) (drop order₀ (job-gates 32 job table))) (cursor order₀ turn₀ (at₀ .a) b (at₀ .k)) (m₀, mask₀))
+    × (reported (worker-with host masks deals) (steps-from 32 (at .gate) (drop order (job-gates 32 job table))) (cursor order turn (at .a) b (at .k)) (m, mask)
+    ≡ reported (worker-with host masks deals) (steps-from 32 (at₀ .gate) (drop order₀ (job-gates 32 job table))) (cursor order₀ turn₀ (at₀ .a) b (at₀ .k)) (m₀, mask₀))
 
 abbrev μ-loop : tie.MeasureT-loop
 μ-loop host job table masks deals b n m₀ mask₀ order₀ turn₀ at₀ m mask order turn at = n - order

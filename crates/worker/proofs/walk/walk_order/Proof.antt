@@ -5,15 +5,15 @@ use Prim.Native.Nat.{_-_}
 use Rattle.tables.specs.Table.{rows}
 use Rattle.programs.specs.Orders.{program}
 use Rattle.gates.specs.Meaning.{meaning}
-use Rattle.worker_gate.specs.Exchanges.{host-of}
 use Rattle.gates.proofs.Uses.{few-used}
 use Rattle.worker.proofs.Turns.{Going, going-from, ran-out, at-exchange, passed}
 use Rattle.worker.proofs.walk.walk_order.Statement.{statement}
 use Rattle.worker.proofs.walk.walk_order.Tie as tie
+use Rattle.calls.specs.Lent.{worker-with}
 
 abbrev Inv-loop : tie.InvT-loop
 Inv-loop host o table masks deals m₀ mask₀ at₀ m mask at =
-    Going 32 (host-of host masks deals) (program 32 (rows table) o) (at₀ .gate) (at₀ .a) (at₀ .k) (m₀, mask₀) (at .gate) (at .a) (at .k) (m, mask)
+    Going 32 (worker-with host masks deals) (program 32 (rows table) o) (at₀ .gate) (at₀ .a) (at₀ .k) (m₀, mask₀) (at .gate) (at .a) (at .k) (m, mask)
 
 abbrev μ-loop : tie.MeasureT-loop
 μ-loop host o table masks deals m₀ mask₀ at₀ m mask at = 1001 - at .gate

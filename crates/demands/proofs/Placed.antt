@@ -14,8 +14,8 @@ use Rattle.gates.specs.Meaning.{meaning, order-steps, job-steps}
 use Rattle.calls.specs.Scripts.{ends, Closed}
 use Rattle.calls.specs.Places.{Found, nowhere, found, seek}
 use Rattle.calls.specs.Calls.{place-fault}
 use Rattle.runs.specs.Runs.{Among}
-use Rattle.runs.specs.Conditions.{Place, places-from, speaks, order-places, gate-places}
+use Rattle.demands.specs.Conditions.{Place, places-from, speaks, order-places, gate-places}
 
 -- the turn at the end of steps that begin with turn t
 unfoldable pub last-turn : (t : ℕ) → List Step → ℕ

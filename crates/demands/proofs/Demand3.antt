@@ -29,33 +29,34 @@ use Rattle.programs.specs.Costs.{program-cost}
 use Rattle.programs.proofs.Calibration.{Promised, ranged, above}
 use Rattle.jobs.specs.Job.{orders, job-gates, job-cost}
 use Rattle.calls.specs.Scripts.{orders-in}
 use Rattle.runs.specs.Runs.{Stage, Setting, staged, World, Call, Completes, Run, Finished, buffer-of, Accepted}
-use Rattle.runs.specs.Orders.{Words, order-of, used-before, first-counts, refresh-mask}
-use Rattle.runs.specs.Demand3.{reading, Y-of, Exact, OneBit, opens, Finishes, refresh-place, with-word, eqZ, Alike, Demand3}
-use Rattle.runs.proofs.Curves.{in-job, checked, source-word, rules-kept, exact-opens, one-bit-opens}
-use Rattle.runs.proofs.Family.{place-needed, reading-same, mask-same}
+use Rattle.runs.specs.Orders.{Words, order-of, used-before, first-counts, refresh-mask, reading, opens, Finishes}
+use Rattle.demands.specs.Demand3.{Y-of, Exact, OneBit, refresh-place, with-word, eqZ, Alike, Demand3}
+use Rattle.runs.proofs.InJob.{in-job, checked}
+use Rattle.demands.proofs.Curves.{source-word, rules-kept, exact-opens, one-bit-opens}
+use Rattle.demands.proofs.Family.{place-needed, reading-same, mask-same}
 use Rattle.runs.proofs.Progress.{stuck-ended}
 
 -- ---- a reading in range
 
-module _ (S : Setting) (q : ℕ) (v : World) (F : Finishes (staged 32 S) q v) (h : T (in-range 32 (reading S q))) where
+module _ (S : Setting) (q : ℕ) (v : World) (F : Finishes 32 (staged 32 S) q v) (h : T (in-range 32 (reading 32 S q))) where
   in-range-word : Promised (S .table) (source-word S q v F)
   unfolding reading
   in-range-word = ranged h
 
-  exact : Exact S q → opens S v q ≡ (0, floor (Y-of S q) 4096)
+  exact : Exact S q → opens 32 S v q ≡ (0, floor (Y-of S q) 4096)
   exact e = exact-opens S q v F (e .kind) in-range-word (e .mode)
 
-  one-bit : OneBit S q → opens S v q ≡ (0, floor (Y-of S q) 4096 +ℤ pos (slip 12 (wrap 12 (Y-of S q)) (refresh-mask 32 S q)))
+  one-bit : OneBit S q → opens 32 S v q ≡ (0, floor (Y-of S q) 4096 +ℤ pos (slip 12 (wrap 12 (Y-of S q)) (refresh-mask 32 S q)))
   one-bit e = one-bit-opens S q v F (e .kind) in-range-word 0 (e .mode)
 
-  near-exact : Exact S q → Near (line (rows (S .table)) (reading S q)) (opens S v q .1)
+  near-exact : Exact S q → Near (line (rows (S .table)) (reading 32 S q)) (opens 32 S v q .1)
   unfolding Y-of
-  near-exact e = rw (exact e) (exact-near (S .table) (rules-kept S q v F (e .kind)) (reading S q))
+  near-exact e = rw (exact e) (exact-near (S .table) (rules-kept S q v F (e .kind)) (reading 32 S q))
 
-  near-one-bit : OneBit S q → Near (line (rows (S .table)) (reading S q)) (opens S v q .1)
+  near-one-bit : OneBit S q → Near (line (rows (S .table)) (reading 32 S q)) (opens 32 S v q .1)
   unfolding Y-of
-  near-one-bit e = rw (one-bit e) (one-bit-near (S .table) (rules-kept S q v F (e .kind)) (reading S q) (refresh-mask 32 S q))
+  near-one-bit e = rw (one-bit e) (one-bit-near (S .table) (rules-kept S q v F (e .kind)) (reading 32 S q) (refresh-mask 32 S q))
 
 -- ---- the count
 
@@ -108,46 +109,46 @@ orders-alike : (S S′ : Setting) (q : ℕ) → Alike S S′ → order-of S q �
 unfolding order-of
 orders-alike S S′ q e = ap (λ (job : List ℕ). getD (orders job) q (record { kind = 0; target = 0; source = 0; fourth = 0 })) (e .job)
 
-module _ (S : Setting) (q : ℕ) (v : World) (F : Finishes (staged 32 S) q v) (k : order-of S q .kind ≡ 10) (l : pos (last-count (rows (S .table))) ≤ℤ reading S q) where
+module _ (S : Setting) (q : ℕ) (v : World) (F : Finishes 32 (staged 32 S) q v) (k : order-of S q .kind ≡ 10) (l : pos (last-count (rows (S .table))) ≤ℤ reading 32 S q) where
   above-last : Promised (S .table) (source-word S q v F)
   unfolding reading
   above-last = let p = above-word (source-word S q v F) (last-count (rows (S .table))) (sub-lt 32 _ _) l in above (p .0) (p .1)
 
   Y-last : Y-of S q ≡ scaled (rows (S .table)) (pos (last-count (rows (S .table))))
   unfolding Y-of
-  Y-last = scaled-level (S .table) (rules-kept S q v F k) (reading S q) l
+  Y-last = scaled-level (S .table) (rules-kept S q v F k) (reading 32 S q) l
 
   -- by the mode: what the last row opens
   saturated-opens : (mode : ℕ) → order-of S q .fourth ≡ mode
-      → opens S v q ≡ (0, last-value mode (scaled (rows (S .table)) (pos (last-count (rows (S .table))))) (refresh-mask 32 S q))
+      → opens 32 S v q ≡ (0, last-value mode (scaled (rows (S .table)) (pos (last-count (rows (S .table))))) (refresh-mask 32 S q))
   unfolding last-value
   saturated-opens zero m = exact-opens S q v F k above-last m ∙ ap {B = ℕ × ℤ} (λ (Y : ℤ). (0, floor Y 4096)) Y-last
   saturated-opens (suc c) m =
       one-bit-opens S q v F k above-last c m ∙ ap {B = ℕ × ℤ} (λ (Y : ℤ). (0, floor Y 4096 +ℤ pos (slip 12 (wrap 12 Y) (refresh-mask 32 S q)))) Y-last
 
-saturated : (S S′ : Setting) (q : ℕ) (v v′ : World) → Alike S S′ → Finishes (staged 32 S) q v → Finishes (staged 32 S′) q v′ → order-of S q .kind ≡ 10
-    → reading S q ≡ pos (last-count (rows (S .table))) → pos (last-count (rows (S .table))) ≤ℤ reading S′ q → opens S v q ≡ opens S′ v′ q
+saturated : (S S′ : Setting) (q : ℕ) (v v′ : World) → Alike S S′ → Finishes 32 (staged 32 S) q v → Finishes 32 (staged 32 S′) q v′ → order-of S q .kind ≡ 10
+    → reading 32 S q ≡ pos (last-count (rows (S .table))) → pos (last-count (rows (S .table))) ≤ℤ reading 32 S′ q → opens 32 S v q ≡ opens 32 S′ v′ q
 saturated S S′ q v v′ e F F′ k r l =
     let o = orders-alike S S′ q e in
     saturated-opens S q v F k (rw r (leZ-yes (le→leb (last-count (rows (S .table))) (last-count (rows (S .table))) (omega arith)))) (order-of S q .fourth) refl
     ∙ (λ i. (0, last-value (order-of S q .fourth) (scaled (rows (e .table i)) (pos (last-count (rows (e .table i))))) (masks-alike S S′ q e i)))
-    ∙ sym (saturated-opens S′ q v′ F′ (sym (ap (λ (x : Order). x .kind) o) ∙ k) (subst (λ (t : List ℕ). pos (last-count (rows t)) ≤ℤ reading S′ q) (e .table) l) (order-of S q .fourth) (sym (ap (λ (x : Order). x .fourth) o)))
+    ∙ sym (saturated-opens S′ q v′ F′ (sym (ap (λ (x : Order). x .kind) o) ∙ k) (subst (λ (t : List ℕ). pos (last-count (rows t)) ≤ℤ reading 32 S′ q) (e .table) l) (order-of S q .fourth) (sym (ap (λ (x : Order). x .fourth) o)))
 
 -- ---- the family of runs
 
-module _ (S : Setting) (q : ℕ) (v : ℕ → World) (words : Words 32 (staged 32 S)) (F : (a : ℕ) → a < 2 ^ 32 → Finishes (staged 32 (with-word S q a)) q (v a)) (e : OneBit S q)
-    (h : T (in-range 32 (reading S q))) where
-  abbrev first-run : Finishes (staged 32 (with-word S q 0)) q (v 0)
+module _ (S : Setting) (q : ℕ) (v : ℕ → World) (words : Words 32 (staged 32 S)) (F : (a : ℕ) → a < 2 ^ 32 → Finishes 32 (staged 32 (with-word S q a)) q (v a)) (e : OneBit S q)
+    (h : T (in-range 32 (reading 32 S q))) where
+  abbrev first-run : Finishes 32 (staged 32 (with-word S q 0)) q (v 0)
   first-run = F 0 (omega arith)
 
   in-orders : q < length (orders (S .job))
   unfolding with-word
-  in-orders = in-job (with-word S q 0) q (v 0) first-run
+  in-orders = in-job 32 (with-word S q 0) q (v 0) first-run
 
   place-listed : refresh-place S q < length (S .A)
   unfolding with-word job-cost
   place-listed =
-      let c = checked (with-word S q 0) q (v 0) first-run in
+      let c = checked 32 (with-word S q 0) q (v 0) first-run in
       omega (arith, place-needed S q e in-orders, c .a, length-set (S .A) (refresh-place S q) 0)
 
   -- the refresh's word of B
@@ -158,23 +159,23 @@ module _ (S : Setting) (q : ℕ) (v : ℕ → World) (words : Words 32 (staged 3
   y = wrap 12 (Y-of S q)
 
   module _ (a : ℕ) (l : a < 2 ^ 32) where
-    same-reading : reading (with-word S q a) q ≡ reading S q
+    same-reading : reading 32 (with-word S q a) q ≡ reading 32 S q
     same-reading = reading-same S q e a words (F a l .words) in-orders
 
-    word-opens : opens S (v a) q ≡ (0, floor (Y-of S q) 4096 +ℤ pos (slip 12 y (add 32 a b)))
+    word-opens : opens 32 S (v a) q ≡ (0, floor (Y-of S q) 4096 +ℤ pos (slip 12 y (add 32 a b)))
     unfolding with-word order-of Y-of
     word-opens =
         one-bit (with-word S q a) q (v a) (F a l) (rw same-reading h) (record { kind = e .kind; mode = e .mode })
         ∙ (λ i. (0, floor (scaled (rows (S .table)) (same-reading i)) 4096 +ℤ pos (slip 12 (wrap 12 (scaled (rows (S .table)) (same-reading i))) (mask-same S q e a place-listed i))))
 
-    gives-one-more : eqZ (opens S (v a) q .1) (floor (Y-of S q) 4096 +ℤ pos 1) ≡ leb 4096 (y + (a + b) % 2 ^ 32 % 4096)
+    gives-one-more : eqZ (opens 32 S (v a) q .1) (floor (Y-of S q) 4096 +ℤ pos 1) ≡ leb 4096 (y + (a + b) % 2 ^ 32 % 4096)
     unfolding slip add
     gives-one-more =
         ap (λ (p : ℕ × ℤ). eqZ (p .1) (floor (Y-of S q) 4096 +ℤ pos 1)) word-opens
         ∙ one-more (floor (Y-of S q) 4096) (leb 4096 (y % 4096 + add 32 a b % 4096))
         ∙ ap (λ (n : ℕ). leb 4096 (n + add 32 a b % 4096)) (mod-eq-of-lt (wrap-lt 12 (Y-of S q)))
 
-  slips : count (2 ^ 32) (λ a. eqZ (opens S (v a) q .1) (floor (Y-of S q) 4096 +ℤ pos 1)) ≡ y * 2 ^ 20
+  slips : count (2 ^ 32) (λ a. eqZ (opens 32 S (v a) q .1) (floor (Y-of S q) 4096 +ℤ pos 1)) ≡ y * 2 ^ 20
   slips = count-same (2 ^ 32) _ (λ a. leb 4096 (y + (a + b) % 2 ^ 32 % 4096)) gives-one-more ∙ slips-of-words y b (wrap-lt 12 (Y-of S q))
 
 -- ---- every order

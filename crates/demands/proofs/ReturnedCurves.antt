@@ -13,19 +13,19 @@ use Rattle.gates.specs.Steps.{Lane, at}
 use Rattle.jobs.specs.Job.{orders}
 use Rattle.calls.specs.Scripts.{orders-in}
 use Rattle.calls.specs.Calls.{given}
 use Rattle.runs.specs.Runs.{Setting, staged, World, Begins, given-out, begin, Accepted}
-use Rattle.runs.specs.Orders.{Words, order-of}
-use Rattle.runs.specs.Demand3.{reading, Y-of, OneBit, opens, Finishes, refresh-place, with-word, eqZ}
+use Rattle.runs.specs.Orders.{Words, order-of, reading, opens, Finishes}
+use Rattle.demands.specs.Demand3.{Y-of, OneBit, refresh-place, with-word, eqZ}
 use Rattle.runs.specs.Strict.{Done}
-use Rattle.runs.specs.Whole.{outset}
-use Rattle.runs.specs.ReturnedCurves.{Stays, target-opens, ReturnedCurves}
+use Rattle.demands.specs.Whole.{outset}
+use Rattle.demands.specs.ReturnedCurves.{Stays, target-opens, ReturnedCurves}
 use Rattle.runs.proofs.Chain.{job-orders}
-use Rattle.runs.proofs.Demand3.{count-same, demand3}
+use Rattle.demands.proofs.Demand3.{count-same, demand3}
 use Rattle.runs.proofs.Returned.{returned}
 use Rattle.runs.proofs.Strict.{wide-on, given-back}
 use Rattle.runs.proofs.Same.{strict}
 
-now-opens : (S : Setting) (q : ℕ) (v : World) → Stays S q v → target-opens S v q ≡ opens S v q
+now-opens : (S : Setting) (q : ℕ) (v : World) → Stays S q v → target-opens S v q ≡ opens 32 S v q
 now-opens S q v F = returned .last-writer S q v (F .finishes) (F .last)
 
 -- ---- the family of runs
@@ -62,7 +62,7 @@ module _ (S : Setting) (q : ℕ) where
   unfolding with-word
   same-orders a h = rw (job-orders 32 (S .job) (S .table)) h
 
-  family : (buf : List ℕ) → Words 32 (staged 32 S) → Accepted (staged 32 S) buf → q < length (orders (S .job)) → (v : ℕ → World) × ((a : ℕ) → a < 2 ^ 32 → Finishes (staged 32 (with-word S q a)) q (v a))
+  family : (buf : List ℕ) → Words 32 (staged 32 S) → Accepted (staged 32 S) buf → q < length (orders (S .job)) → (v : ℕ → World) × ((a : ℕ) → a < 2 ^ 32 → Finishes 32 (staged 32 (with-word S q a)) q (v a))
   family buf W acc h = (
     λ a. one-of buf acc a .ends-in,
     λ a l. record { words = words-with W a l; calls = _; run = wide-on (staged 32 (with-word S q a)) (begin (begins buf a)) (one-of buf acc a .calls); finished = one-of buf acc a .finished q (same-orders a h) },
@@ -70,14 +70,14 @@ module _ (S : Setting) (q : ℕ) where
 
   -- ---- the count
 
-  module _ (v : ℕ → World) (W : Words 32 (staged 32 S)) (F : (a : ℕ) → a < 2 ^ 32 → Stays (with-word S q a) q (v a)) (e : OneBit S q) (h : T (in-range 32 (reading S q))) where
-    word-now : (a : ℕ) → a < 2 ^ 32 → target-opens S (v a) q ≡ opens S (v a) q
+  module _ (v : ℕ → World) (W : Words 32 (staged 32 S)) (F : (a : ℕ) → a < 2 ^ 32 → Stays (with-word S q a) q (v a)) (e : OneBit S q) (h : T (in-range 32 (reading 32 S q))) where
+    word-now : (a : ℕ) → a < 2 ^ 32 → target-opens S (v a) q ≡ opens 32 S (v a) q
     unfolding with-word order-of
     word-now a l = now-opens (with-word S q a) q (v a) (F a l)
 
     slips : count (2 ^ 32) (λ a. eqZ (target-opens S (v a) q .1) (floor (Y-of S q) 4096 +ℤ pos 1)) ≡ wrap 12 (Y-of S q) * 2 ^ 20
     slips =
-        count-same (2 ^ 32) _ (λ a. eqZ (opens S (v a) q .1) (floor (Y-of S q) 4096 +ℤ pos 1))
+        count-same (2 ^ 32) _ (λ a. eqZ (opens 32 S (v a) q .1) (floor (Y-of S q) 4096 +ℤ pos 1))
         (λ a l. ap (λ (p : ℕ × ℤ). eqZ (p .1) (floor (Y-of S q) 4096 +ℤ pos 1)) (word-now a l))
         ∙ demand3 .slips S q v W (λ a l. F a l .finishes) e h
 
@@ -87,8 +87,8 @@ returned-curves =
       exact = λ S q v F e h. now-opens S q v F ∙ demand3 .exact S q v (F .finishes) e h;
       one-bit = λ S q v F e h. now-opens S q v F ∙ demand3 .one-bit S q v (F .finishes) e h;
       slips = λ S q v W F e h. slips S q v W F e h;
-      near-exact = λ S q v F e h. subst (λ (p : ℕ × ℤ). Near (line (rows (S .table)) (reading S q)) (p .1)) (sym (now-opens S q v F)) (demand3 .near-exact S q v (F .finishes) e h);
-      near-one-bit = λ S q v F e h. subst (λ (p : ℕ × ℤ). Near (line (rows (S .table)) (reading S q)) (p .1)) (sym (now-opens S q v F)) (demand3 .near-one-bit S q v (F .finishes) e h);
+      near-exact = λ S q v F e h. subst (λ (p : ℕ × ℤ). Near (line (rows (S .table)) (reading 32 S q)) (p .1)) (sym (now-opens S q v F)) (demand3 .near-exact S q v (F .finishes) e h);
+      near-one-bit = λ S q v F e h. subst (λ (p : ℕ × ℤ). Near (line (rows (S .table)) (reading 32 S q)) (p .1)) (sym (now-opens S q v F)) (demand3 .near-one-bit S q v (F .finishes) e h);
       saturated = λ S S′ q v v′ a F F′ k e l. now-opens S q v F ∙ demand3 .saturated S S′ q v v′ a (F .finishes) (F′ .finishes) k e l ∙ sym (now-opens S′ q v′ F′);
       family = λ S q buf W acc h. family S q buf W acc h;
     }

@@ -6,10 +6,9 @@ use Prim.Native.Nat.{ℕ, suc, _*_, _<_}
 use lib.ListN.{length, take}
 use Rattle.gates.specs.Steps.{Step}
 use Rattle.jobs.specs.Job.{orders}
 use Rattle.runs.specs.Runs.{Stage, Setting, altered, staged, World, opened-after, Accepted}
-use Rattle.runs.specs.Orders.{order-of}
-use Rattle.runs.specs.Demand3.{opens, Finishes}
+use Rattle.runs.specs.Orders.{order-of, opens, Finishes}
 use Rattle.runs.specs.Returned.{opened-now}
 
 -- S′ is the front of S: the same lists and registers, and the steps with which those of S begin
 pub record Front (S′ S : Stage) : Type 0 where
@@ -27,13 +26,13 @@ up-to S q = altered S (take (suc q * 4) (S .job)) (S .A)
 
 pub record Fronts : Type 0 where
   -- of any script: order q opens in every slot what it opens where the script ends sooner
-  pub same : (S′ S : Stage) → Front S′ S → (q : ℕ) (v v′ : World) → Finishes S q v → Finishes S′ q v′ → (i : ℕ)
+  pub same : (S′ S : Stage) → Front S′ S → (q : ℕ) (v v′ : World) → Finishes 32 S q v → Finishes 32 S′ q v′ → (i : ℕ)
       → opened-after 32 v q i ≡ opened-after 32 v′ q i
   -- of a job: so what demands 2 and 3 say of an order, a later order having written its target or not, they say of what
   -- the calls return for the job that ends with it
-  pub as-last : (S : Setting) (q : ℕ) (v v′ : World) → Finishes (staged 32 S) q v
-      → Finishes (staged 32 (up-to S q)) q v′
-      → opens S v q ≡ opened-now 32 16 v′ (order-of S q .target)
+  pub as-last : (S : Setting) (q : ℕ) (v v′ : World) → Finishes 32 (staged 32 S) q v
+      → Finishes 32 (staged 32 (up-to S q)) q v′
+      → opens 32 S v q ≡ opened-now 32 16 v′ (order-of S q .target)
   -- which is accepted where the job is, so that there are such runs
   pub accepted : (S : Setting) (q : ℕ) (buffer : List ℕ) → q < length (orders (S .job)) → Accepted (staged 32 S) buffer
       → Accepted (staged 32 (up-to S q)) buffer

@@ -3,22 +3,22 @@ use mathlib.Core.Path.{_≡_, refl, sym, ap, _∙_, subst}
 use mathlib.Core.Logic.{_≢_}
 use mathlib.Core.List.{List}
 use Prim.Native.Nat.{ℕ, zero, suc}
-use Rattle.gates.specs.Parties.{Pair}
+use Rattle.gates.specs.Hosts.{Pair}
 use Rattle.jobs.specs.Job.{Fault, job-fault, job-gates, job-cost}
 use Rattle.jobs.specs.FirstFault.{Numbered, faultless}
 use Rattle.jobs.proofs.FirstFault.{job-number, number-0}
 use Rattle.jobs.proofs.CostTable.{cost-table}
 use Rattle.calls.specs.Scripts.{Script, job-script}
 use Rattle.calls.proofs.Scripts.{job-made}
-use Rattle.calls.specs.Lent.{Lent, lent, party-of, lent-fault, dealer-fault}
+use Rattle.calls.specs.Lent.{Lent, lent, lent-fault, dealer-fault, worker-of}
 use Rattle.calls.specs.Calls.{State, Answer, fresh, report, unless, given, start-walk, start, hear-walk, place-fault, found-of, resume, hear, prepared, prepare}
-use Rattle.runs.specs.Conditions.{places-from, Single}
-use Rattle.runs.specs.Numbers.{Told}
-use Rattle.runs.specs.Demand1.{terms-of, job-terms, given-back, Demand1}
+use Rattle.demands.specs.Conditions.{places-from, Single}
+use Rattle.demands.specs.Numbers.{Told}
+use Rattle.demands.specs.Demand1.{terms-of, job-terms, given-back, Demand1}
 use Rattle.runs.proofs.Chain.{job-orders, job-orderly}
 use Rattle.runs.proofs.Refusals.{start-state, hear-state, prepare-back}
-use Rattle.runs.proofs.Placed.{gates-placed}
-use Rattle.runs.proofs.Numbers.{numbers}
+use Rattle.demands.proofs.Placed.{gates-placed}
+use Rattle.demands.proofs.Numbers.{numbers}
 
 -- ---- a job's terms
 
@@ -67,13 +67,13 @@ prepare-rest σ A B D r h = prepared-deals (dealer-fault σ A B D .0) (dealer-fa
 
 start-rest : (L : Lent) (r : Pair) → start L r .number ≢ 0 → (start L r .spoken ≡ 0) × (start L r .word ≡ 0)
 unfolding start
-start-rest L r h = unless-rest (lent-fault L .0) (lent-fault L) (given r) (report (party-of L) (start-walk L r)) h (λ k. absurd (k refl))
+start-rest L r h = unless-rest (lent-fault L .0) (lent-fault L) (given r) (report (worker-of L) (start-walk L r)) h (λ k. absurd (k refl))
 
 hear-rest : (L : Lent) (s : State) (v : ℕ) → hear L s v .number ≢ 0 → (hear L s v .spoken ≡ 0) × (hear L s v .word ≡ 0)
 unfolding hear resume
 hear-rest L s v h =
     let f = found-of L s in
-    let a = report (party-of L) (hear-walk (party-of L) s v f) in
+    let a = report (worker-of L) (hear-walk (worker-of L) s v f) in
     unless-rest (lent-fault L .0) (lent-fault L) s (unless (place-fault f) (place-fault f, 0) s a) h
     (λ k. unless-rest (place-fault f) (place-fault f, 0) s a k (λ z. absurd (z refl)))
 

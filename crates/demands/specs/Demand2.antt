@@ -10,33 +10,16 @@ use Rattle.words.specs.Signed.{signed}
 use Rattle.shares.specs.Gates.{value}
 use Rattle.tables.specs.Table.{rows}
 use Rattle.gates.specs.Steps.{Exchange, Step, local, deal, exchange, end, Cursor, origin, past}
-use Rattle.gates.specs.Parties.{Pair, Triple, act, joint1, joint2}
+use Rattle.gates.specs.Hosts.{Pair, Triple, act, joint1, joint2}
 use Rattle.programs.specs.Opens.{order-value}
 use Rattle.jobs.specs.Job.{orders}
 use Rattle.calls.specs.Scripts.{job-script, script-cost, orders-in, Orderly}
 use Rattle.calls.specs.Calls.{State, start, hear}
 use Rattle.runs.specs.Runs.{Stage, Setting, staged, Spoken, Among, Dealer, ready, Side, waiting, going, World}
 use Rattle.runs.specs.Runs.{world, Call, lent1, lent2, Dealt, preparation, held, Run, opened-after}
-use Rattle.runs.specs.Orders.{first, slot, after-order, before-order, value-before, mask-before, Unwritten}
+use Rattle.runs.specs.Orders.{first, slot, after-order, before-order, value-before, mask-before, Unwritten, opens, Finishes}
 use Rattle.runs.specs.Orders.{order-of, refresh-mask}
-use Rattle.runs.specs.Demand3.{opens, Finishes}
-
--- the words that a host speaks on the joint walk, each at its place, and 0 at the end
-unfoldable pub defined-words : (A B : List ℕ) → (Exchange → Cursor → Triple → ℕ) → List Step → Cursor → Triple
-    → List Spoken
-defined-words A B say [] c j = (c .order, c .turn, 0) ∷ []
-defined-words A B say (local d m l ∷ ss) c j =
-    defined-words A B say ss (past (local d m l) c) (act A B (local d m l) c j)
-defined-words A B say (deal d f ∷ ss) c j = defined-words A B say ss (past (deal d f) c) (act A B (deal d f) c j)
-defined-words A B say (exchange d e ∷ ss) c j =
-    (c .order, c .turn, say e c j) ∷ defined-words A B say ss (past (exchange d e) c) (act A B (exchange d e) c j)
-defined-words A B say (end ∷ ss) c j = defined-words A B say ss (past end c) (act A B end c j)
-
-abbrev pub words-of-1 : Stage → List Spoken
-words-of-1 S = defined-words (S .A) (S .B) (joint1 (S .A) (S .B)) (S .script .steps) origin (first S)
-
-abbrev pub words-of-2 : Stage → List Spoken
-words-of-2 S = defined-words (S .A) (S .B) (joint2 (S .A) (S .B)) (S .script .steps) origin (first S)
+use Rattle.runs.specs.InOrder.{words-of-1, words-of-2}
 
 -- k words spoken so far, of n answers given: all of them, but for the 0 given at the end, where k is half the script's
 -- sum
@@ -47,22 +30,22 @@ pub record Counted (S : Stage) (k : ℕ) (s : State) (n : ℕ) : Type 0 where
 -- the word that document 01 defines for order q, from what its sources open just before it, and the masks
 abbrev pub defined-value : Setting → (q : ℕ) → ℕ
 defined-value S q =
-    order-value 32 (rows (S .table)) (order-of S q) (value-before (staged 32 S) q (order-of S q .source))
-    (value-before (staged 32 S) q (order-of S q .fourth)) (mask-before (staged 32 S) q (order-of S q .source))
+    order-value 32 (rows (S .table)) (order-of S q) (value-before 32 (staged 32 S) q (order-of S q .source))
+    (value-before 32 (staged 32 S) q (order-of S q .fourth)) (mask-before 32 (staged 32 S) q (order-of S q .source))
     (refresh-mask 32 S q)
 
 pub record Demand2 : Type 0 where
   -- "each order opens to the value that document 01 defines for it"
-  pub order-opens : (S : Setting) (q : ℕ) (v : World) → Finishes (staged 32 S) q v
-      → opens S v q ≡ (0, signed 32 (defined-value S q))
+  pub order-opens : (S : Setting) (q : ℕ) (v : World) → Finishes 32 (staged 32 S) q v
+      → opens 32 S v q ≡ (0, signed 32 (defined-value S q))
   -- opening any register as the order leaves it never meets 10, and gives its value on the joint walk
-  pub shares-agree : (S : Stage) (q i : ℕ) (v : World) → Finishes S q v
+  pub shares-agree : (S : Stage) (q i : ℕ) (v : World) → Finishes 32 S q v
       → opened-after 32 v q i ≡ (0, signed 32 (value (numbers 32) (slot (after-order S q) i)))
   -- "the register keeps that until an order writes it": any slot that no step of the order writes; so every register
   -- but a job's order's target
   pub slot-kept : (S : Stage) (q i : ℕ) → q < orders-in (S .script) → Unwritten i q (S .script .steps)
       → slot (after-order S q) i ≡ slot (before-order S q) i
-  pub register-kept : (S : Setting) (q i : ℕ) (v : World) → Finishes (staged 32 S) q v → i < 16
+  pub register-kept : (S : Setting) (q i : ℕ) (v : World) → Finishes 32 (staged 32 S) q v → i < 16
       → eqb i (order-of S q .target) ≡ false
       → slot (after-order (staged 32 S) q) i ≡ slot (before-order (staged 32 S) q) i
   -- "every spoken word is the one defined there": one of those defined; in order and each once, InOrder.antt

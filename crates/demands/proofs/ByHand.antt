@@ -15,23 +15,23 @@ use Rattle.shares.specs.Gates.{value}
 use Rattle.tables.specs.Table.{rows, slope, house}
 use Rattle.curves.specs.Curve.{relu, segments, scaled, slope-after, coefficient, relu-word, word-sum, word-curve}
 use Rattle.programs.specs.Opens.{curve-value, values, order-value}
 use Rattle.runs.specs.Runs.{Setting, staged, World}
-use Rattle.runs.specs.Orders.{slot, before-order, mask-before, order-of, refresh-mask}
-use Rattle.runs.specs.Demand3.{reading, Y-of, Exact, opens, Finishes}
-use Rattle.runs.specs.ByHand.{curve-cases, CurveOpens, Truncates, Each, house-Y, ByHand}
-use Rattle.runs.proofs.Demand3.{demand3}
-use Rattle.runs.proofs.Demand2.{demand2}
+use Rattle.runs.specs.Orders.{slot, before-order, mask-before, order-of, refresh-mask, reading, opens, Finishes}
+use Rattle.demands.specs.Demand3.{Y-of, Exact}
+use Rattle.demands.specs.ByHand.{curve-cases, CurveOpens, Truncates, Each, house-Y, ByHand}
+use Rattle.demands.proofs.Demand3.{demand3}
+use Rattle.demands.proofs.Demand2.{demand2}
 
 -- ---- in a run
 
-module _ (S : Setting) (q : ℕ) (v : World) (F : Finishes (staged 32 S) q v) where
+module _ (S : Setting) (q : ℕ) (v : World) (F : Finishes 32 (staged 32 S) q v) where
   -- a curve opens the floor of its Y
-  curve-case : (x : ℤ) → T (in-range 32 x) → Exact S q → S .table ≡ house → reading S q ≡ x → opens S v q ≡ (0, floor (house-Y x) 4096)
+  curve-case : (x : ℤ) → T (in-range 32 x) → Exact S q → S .table ≡ house → reading 32 S q ≡ x → opens 32 S v q ≡ (0, floor (house-Y x) 4096)
   unfolding Y-of
   curve-case x h e t r = demand3 .exact S q v F e (rw r h) ∙ (λ i. (0, floor (scaled (rows (t i)) (r i)) 4096))
 
   -- the word of the source's reading
-  source-is : (x : ℤ) → reading S q ≡ x → value (numbers 32) (slot (before-order (staged 32 S) q) (order-of S q .source)) ≡ wrap 32 x
+  source-is : (x : ℤ) → reading 32 S q ≡ x → value (numbers 32) (slot (before-order (staged 32 S) q) (order-of S q .source)) ≡ wrap 32 x
   unfolding reading
   source-is x r = sym (wrap-signed 32 _ (sub-lt 32 _ _)) ∙ ap (wrap 32) r
 
@@ -40,8 +40,8 @@ module _ (S : Setting) (q : ℕ) (v : World) (F : Finishes (staged 32 S) q v) wh
   other = value (numbers 32) (slot (before-order (staged 32 S) q) (order-of S q .fourth))
 
   -- a truncation opens its kind's value of that word and the mask
-  truncation-case : (kind k : ℕ) (x : ℤ) (L : ℕ) → Truncates kind k S q → reading S q ≡ x → mask-before (staged 32 S) q (order-of S q .source) ≡ L
-      → opens S v q ≡ (0, signed 32 (getD (values 32 (rows (S .table)) k (wrap 32 x) other L (refresh-mask 32 S q)) kind 0))
+  truncation-case : (kind k : ℕ) (x : ℤ) (L : ℕ) → Truncates kind k S q → reading 32 S q ≡ x → mask-before 32 (staged 32 S) q (order-of S q .source) ≡ L
+      → opens 32 S v q ≡ (0, signed 32 (getD (values 32 (rows (S .table)) k (wrap 32 x) other L (refresh-mask 32 S q)) kind 0))
   unfolding order-value
   truncation-case kind k x L t r l =
       demand2 .order-opens S q v F

@@ -12,7 +12,7 @@ use Rattle.gates.specs.declared.Gate.{Gate}
 use Rattle.gates.specs.Steps.{Step, end, origin}
 use Rattle.gates.specs.Meaning.{meaning, order-steps, job-steps}
 use Rattle.gates.specs.Walk.{Conf, whole}
-use Rattle.gates.specs.Parties.{Triple, act}
+use Rattle.gates.specs.Hosts.{Triple, act}
 use Rattle.gates.specs.Costs.{Cost, cost, plus}
 use Rattle.gates.proofs.Needs.{whole-append, cost-append}
 use Rattle.programs.specs.declared.Order.{Order}
@@ -22,16 +22,15 @@ use Rattle.jobs.specs.FirstFault.{order, IllSized, no-words, above-256, not-by-
 use Rattle.jobs.proofs.FirstFault.{number-0}
 use Rattle.calls.specs.Scripts.{script-cost}
 use Rattle.calls.specs.Calls.{fresh}
 use Rattle.runs.specs.Runs.{Stage, Setting, staged, World, opened-after, Accepted}
-use Rattle.runs.specs.Orders.{first, trail, after-order, slot, order-of}
-use Rattle.runs.specs.Demand3.{opens, Finishes}
+use Rattle.runs.specs.Orders.{first, trail, after-order, slot, order-of, opens, Finishes}
 use Rattle.runs.specs.Returned.{opened-now}
-use Rattle.runs.specs.Fronts.{Front, up-to, Fronts}
+use Rattle.demands.specs.Fronts.{Front, up-to, Fronts}
 use Rattle.runs.proofs.Places.{trail-grows}
 use Rattle.runs.proofs.Opening.{finished-order}
-use Rattle.runs.proofs.Curves.{in-job}
-use Rattle.runs.proofs.Demand2.{demand2}
+use Rattle.runs.proofs.InJob.{in-job}
+use Rattle.demands.proofs.Demand2.{demand2}
 use Rattle.runs.proofs.Returned.{returned}
 
 -- ---- any script
 
@@ -63,7 +62,7 @@ module _ (S′ S : Stage) (F : Front S′ S) (q : ℕ) (h : q < length (trail S�
       ∙ rw (F .A, F .B, F .steps, first-same) (front-leaves (S′ .A) (S′ .B) (S′ .script .steps) (F .behind) (first S′) q h)
       ∙ sym (left-is S′ q)
 
-same : (S′ S : Stage) → Front S′ S → (q : ℕ) (v v′ : World) → Finishes S q v → Finishes S′ q v′ → (i : ℕ) → opened-after 32 v q i ≡ opened-after 32 v′ q i
+same : (S′ S : Stage) → Front S′ S → (q : ℕ) (v v′ : World) → Finishes 32 S q v → Finishes 32 S′ q v′ → (i : ℕ) → opened-after 32 v q i ≡ opened-after 32 v′ q i
 same S′ S F q v v′ G G′ i =
     demand2 .shares-agree S q i v G
     ∙ ap {B = ℕ × _} (λ (j : Triple). (0, signed 32 (value (numbers 32) (slot j i)))) (after-same S′ S F q (finished-order S′ v′ (G′ .run) q (G′ .finished)))
@@ -167,9 +166,9 @@ module _ (S : Setting) (q : ℕ) (hq : q < length (orders (S .job))) where
         deals = omega (arith, acc .deals, cost-less .2);
       }
 
-as-last : (S : Setting) (q : ℕ) (v v′ : World) → Finishes (staged 32 S) q v → Finishes (staged 32 (up-to S q)) q v′ → opens S v q ≡ opened-now 32 16 v′ (order-of S q .target)
+as-last : (S : Setting) (q : ℕ) (v v′ : World) → Finishes 32 (staged 32 S) q v → Finishes 32 (staged 32 (up-to S q)) q v′ → opens 32 S v q ≡ opened-now 32 16 v′ (order-of S q .target)
 as-last S q v v′ F F′ =
-    let hq = in-job S q v F in
+    let hq = in-job 32 S q v F in
     let t : order-of (up-to S q) q .target ≡ order-of S q .target = ap (λ (o : Order). o .target) (of-same S q hq) in
     same (staged 32 (up-to S q)) (staged 32 S) (front S q hq) q v v′ F F′ (order-of S q .target)
     ∙ ap (opened-after 32 v′ q) (sym t)

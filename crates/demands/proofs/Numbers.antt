@@ -8,18 +8,18 @@ use native.Mathlib.Omega.{arith}
 use borrow.Author.Tests.{eqb-true, eqb-false, ltb-true, ltb-false}
 use lib.Dec.{eqb, ltb, eqb·suc-zero}
 use lib.ListN.{length}
-use Rattle.gates.specs.Parties.{Pair}
+use Rattle.gates.specs.Hosts.{Pair}
 use Rattle.gates.specs.Steps.{Step, origin}
 use Rattle.gates.specs.Costs.{Cost}
 use Rattle.jobs.specs.Job.{Fault, short-a, short-b, short-deals}
 use Rattle.calls.specs.Scripts.{Script, script-cost, ends, Orderly}
 use Rattle.calls.specs.Places.{Found}
-use Rattle.calls.specs.Lent.{Lent, party-of, or-else, lists-fault, lent-fault, dealer-lists-fault, dealer-fault}
+use Rattle.calls.specs.Lent.{Lent, or-else, lists-fault, lent-fault, dealer-lists-fault, dealer-fault, worker-of}
 use Rattle.calls.specs.Calls.{State, Answer, report, unless, given, start-walk, start, hear-walk, place-fault, found-of, resume, hear, prepared, prepare}
 use Rattle.runs.specs.Runs.{Among}
-use Rattle.runs.specs.Conditions.{Place, places-from, Terms, Single, PreparationIs, of-itself, of-lists, of-buffer, prepares-well, list-needed, StartIs, stranger, of-its-own, of-its-list, of-its-deals, starts-well, end-place, HearingIs, as-starting, misplaced, ended, hears-well}
-use Rattle.runs.specs.Numbers.{Told, Numbers}
-use Rattle.runs.proofs.Placed.{last-turn, Placed, a-turn, the-end, nothing, placed, last-turn-0, before-end, gates-placed}
+use Rattle.demands.specs.Conditions.{Place, places-from, Terms, Single, PreparationIs, of-itself, of-lists, of-buffer, prepares-well, list-needed, StartIs, stranger, of-its-own, of-its-list, of-its-deals, starts-well, end-place, HearingIs, as-starting, misplaced, ended, hears-well}
+use Rattle.demands.specs.Numbers.{Told, Numbers}
+use Rattle.demands.proofs.Placed.{last-turn, Placed, a-turn, the-end, nothing, placed, last-turn-0, before-end, gates-placed}
 
 -- ---- whether a number is below another, as the checks ask
 
@@ -92,8 +92,8 @@ data Host (h : ℕ) : (one two : Bool) → Type 0 where
   second : h ≡ 2 → Host h false true
   neither : h ≢ 1 → h ≢ 2 → Host h false false
 
-host-of : (h : ℕ) → Host h (eqb h 1) (eqb h 2)
-host-of h = go (eqb h 1) (eqb h 2) refl refl
+host-known : (h : ℕ) → Host h (eqb h 1) (eqb h 2)
+host-known h = go (eqb h 1) (eqb h 2) refl refl
   where
     go : (a b : Bool) → eqb h 1 ≡ a → eqb h 2 ≡ b → Host h a b
     go true b p q = first (eqb-true h 1 p)
@@ -112,7 +112,7 @@ module _ (L : Lent) (T : Terms) (told : Told (L .script) T) where
 
   lent-is : Starts (lent-fault L .0) (lent-fault L .1)
   unfolding lent-fault lists-fault short-a short-b short-deals
-  lent-is = rw (told .needs) (go (eqb (L .host) 1) (eqb (L .host) 2) refl (host-of (L .host)))
+  lent-is = rw (told .needs) (go (eqb (L .host) 1) (eqb (L .host) 2) refl (host-known (L .host)))
     where
       two-lists : (b d : Bool) → L .host ≡ 2 → T .own 0 0 → list-needed T (L .host) ≡ T .needs .b → Below (length (L .masks)) (T .needs .b) b
           → Below (length (L .deals)) (T .needs .deals) d → Starts (cond b 6 (cond d 7 0)) 0
@@ -147,7 +147,7 @@ module _ (L : Lent) (T : Terms) (told : Told (L .script) T) where
   pub start-is : (r : Pair) → Starts (start L r .number) (start L r .index)
   unfolding start
   start-is r =
-      unless-is Starts (lent-fault L .0) (lent-fault L) (given r) (report (party-of L) (start-walk L r)) refl (λ e. start-none lent-is e) (λ k e. lent-is)
+      unless-is Starts (lent-fault L .0) (lent-fault L) (given r) (report (worker-of L) (start-walk L r)) refl (λ e. start-none lent-is e) (λ k e. lent-is)
 
 -- ---- hearing
 
@@ -175,11 +175,11 @@ module _ (L : Lent) (T : Terms) (told : Told (L .script) T) (ok : Orderly (L .sc
       let e : ends all ≡ 0 + ends all = omega arith in
       place-is z _ (rw e (placed (s .order) (s .turn) all origin))
 
-  resumed-is : Starts L T told 0 0 → (v : ℕ) → Is (resume (party-of L) s v (found-of L s) .number) (resume (party-of L) s v (found-of L s) .index)
+  resumed-is : Starts L T told 0 0 → (v : ℕ) → Is (resume (worker-of L) s v (found-of L s) .number) (resume (worker-of L) s v (found-of L s) .index)
   unfolding resume
   resumed-is z v =
       let f : Found = found-of L s in
-      unless-is Is (place-fault f) (place-fault f, 0) s (report (party-of L) (hear-walk (party-of L) s v f)) refl
+      unless-is Is (place-fault f) (place-fault f, 0) s (report (worker-of L) (hear-walk (worker-of L) s v f)) refl
       (λ e. subst (λ (n : ℕ). Is n 0) e (found-is z)) (λ k e. found-is z)
 
   turned : {n i : ℕ} (k : ℕ) → Starts L T told n i → n ≡ suc k → Is n i
@@ -188,7 +188,7 @@ module _ (L : Lent) (T : Terms) (told : Told (L .script) T) (ok : Orderly (L .sc
   pub hearing-is : (v : ℕ) → Is (hear L s v .number) (hear L s v .index)
   unfolding hear
   hearing-is v =
-      unless-is Is (lent-fault L .0) (lent-fault L) s (resume (party-of L) s v (found-of L s)) refl
+      unless-is Is (lent-fault L .0) (lent-fault L) s (resume (worker-of L) s v (found-of L s)) refl
       (λ e. resumed-is (start-none L T told (lent-is L T told) e) v) (λ k e. turned k (lent-is L T told) e)
 
 -- ---- and no other: what each relation says is what the call gives

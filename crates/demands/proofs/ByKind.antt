@@ -18,19 +18,20 @@ use Rattle.programs.specs.Opens.{curve-value, values}
 use Rattle.programs.proofs.Readings.{sum-reads, difference-reads, product-reads, plus-reads, times-reads, slack-reads, relu-reads, one-bit-reads}
 use Rattle.jobs.specs.Job.{ill-fourth, ill-fourths}
 use Rattle.jobs.proofs.Accepted.{or-false}
 use Rattle.runs.specs.Runs.{Setting, staged, World}
-use Rattle.runs.specs.Orders.{slot, before-order, order-of, refresh-mask}
-use Rattle.runs.specs.Demand3.{reading, Y-of, Exact, OneBit, opens, Finishes}
+use Rattle.runs.specs.Orders.{slot, before-order, order-of, refresh-mask, reading, opens, Finishes}
+use Rattle.demands.specs.Demand3.{Y-of, Exact, OneBit}
 use Rattle.runs.specs.Readings.{reading-of, mask-of}
-use Rattle.runs.specs.ByKind.{reduced, second-reading, shift, L-of, m-of, W-of, ByKind}
+use Rattle.demands.specs.ByKind.{reduced, second-reading, shift, L-of, m-of, W-of, ByKind}
 use Rattle.runs.proofs.Opened.{order-good}
-use Rattle.runs.proofs.Curves.{in-job, checked, source-word, of-kind, rules-kept, curve-opens}
+use Rattle.runs.proofs.InJob.{in-job, checked}
+use Rattle.demands.proofs.Curves.{source-word, of-kind, rules-kept, curve-opens}
 
 -- a word opened
 abbrev opened : ℕ → ℕ × ℤ
 opened n = (0, signed 32 n)
 
-module _ (S : Setting) (q : ℕ) (v : World) (F : Finishes (staged 32 S) q v) where
+module _ (S : Setting) (q : ℕ) (v : World) (F : Finishes 32 (staged 32 S) q v) where
   abbrev x : ℕ
   x = source-word S q v F
 
@@ -49,32 +50,32 @@ module _ (S : Setting) (q : ℕ) (v : World) (F : Finishes (staged 32 S) q v) wh
   hL : L < 2 ^ 32
   hL = add-lt 32 _ _
 
-  sum : order-of S q .kind ≡ 0 → opens S v q ≡ (0, reduced (reading S q +ℤ second-reading S q))
+  sum : order-of S q .kind ≡ 0 → opens 32 S v q ≡ (0, reduced (reading 32 S q +ℤ second-reading S q))
   unfolding values reduced reading second-reading reading-of
   sum e = of-kind S q v F 0 e ∙ ap opened (sum-reads 32 x hx y hy)
 
-  difference : order-of S q .kind ≡ 1 → opens S v q ≡ (0, reduced (reading S q -ℤ second-reading S q))
+  difference : order-of S q .kind ≡ 1 → opens 32 S v q ≡ (0, reduced (reading 32 S q -ℤ second-reading S q))
   unfolding values reduced reading second-reading reading-of
   difference e = of-kind S q v F 1 e ∙ ap opened (difference-reads 32 x hx y hy)
 
-  plus-constant : order-of S q .kind ≡ 2 → opens S v q ≡ (0, reduced (reading S q +ℤ pos (order-of S q .fourth)))
+  plus-constant : order-of S q .kind ≡ 2 → opens 32 S v q ≡ (0, reduced (reading 32 S q +ℤ pos (order-of S q .fourth)))
   unfolding values reduced reading
   plus-constant e = of-kind S q v F 2 e ∙ ap opened (plus-reads 32 x hx (order-of S q .fourth))
 
-  times-constant : order-of S q .kind ≡ 3 → opens S v q ≡ (0, reduced (reading S q *ℤ pos (order-of S q .fourth)))
+  times-constant : order-of S q .kind ≡ 3 → opens 32 S v q ≡ (0, reduced (reading 32 S q *ℤ pos (order-of S q .fourth)))
   unfolding values reduced reading
   times-constant e = of-kind S q v F 3 e ∙ ap opened (times-reads 32 x hx (order-of S q .fourth))
 
-  product : order-of S q .kind ≡ 4 → opens S v q ≡ (0, reduced (reading S q *ℤ second-reading S q))
+  product : order-of S q .kind ≡ 4 → opens 32 S v q ≡ (0, reduced (reading 32 S q *ℤ second-reading S q))
   unfolding values reduced reading second-reading reading-of
   product e = of-kind S q v F 4 e ∙ ap opened (product-reads 32 x hx y hy)
 
-  refresh : order-of S q .kind ≡ 5 → opens S v q ≡ (0, reading S q)
+  refresh : order-of S q .kind ≡ 5 → opens 32 S v q ≡ (0, reading 32 S q)
   unfolding values reading
   refresh e = of-kind S q v F 5 e
 
   large-slack : order-of S q .kind ≡ 6
-      → opens S v q ≡ (0, reduced (floor (reduced (negℤ (pos (L-of S q)))) (2 ^ shift S q) +ℤ floor (signed 32 (m-of S q)) (2 ^ shift S q)))
+      → opens 32 S v q ≡ (0, reduced (floor (reduced (negℤ (pos (L-of S q)))) (2 ^ shift S q) +ℤ floor (signed 32 (m-of S q)) (2 ^ shift S q)))
   unfolding values reduced reading L-of mask-of m-of
   large-slack e = of-kind S q v F 6 e ∙ ap opened (slack-reads 32 (order-of S q .fourth) x L hx hL)
 
@@ -83,22 +84,22 @@ module _ (S : Setting) (q : ℕ) (v : World) (F : Finishes (staged 32 S) q v) wh
   unfolding ill-fourth ill-fourths
   shift-low e =
       ltb-false 30 (shift S q)
-      (or-false (eqb (shift S q) 0) (ltb 30 (shift S q)) (rw e at (order-good 32 S (F .words) (lit≤ tt) (lit< tt) (checked S q v F .script) q (in-job S q v F) .fourth)) .1)
+      (or-false (eqb (shift S q) 0) (ltb 30 (shift S q)) (rw e at (order-good 32 S (F .words) (lit≤ tt) (lit< tt) (checked 32 S q v F .script) q (in-job 32 S q v F) .fourth)) .1)
 
-  one-bit-range : order-of S q .kind ≡ 7 → T (in-range 32 (reading S q))
-      → opens S v q ≡ (0, floor (reading S q) (2 ^ shift S q) +ℤ pos (slip (shift S q) (wrap (shift S q) (reading S q)) (L-of S q)))
+  one-bit-range : order-of S q .kind ≡ 7 → T (in-range 32 (reading 32 S q))
+      → opens 32 S v q ≡ (0, floor (reading 32 S q) (2 ^ shift S q) +ℤ pos (slip (shift S q) (wrap (shift S q) (reading 32 S q)) (L-of S q)))
   unfolding values reading L-of mask-of
   one-bit-range e h = of-kind S q v F 7 e ∙ ap {B = ℕ × ℤ} (λ (z : ℤ). (0, z)) (one-bit-reads 32 (shift S q) x L (lit≤ tt) (shift-low e) hx hL h)
 
-  one-bit-steps : order-of S q .kind ≡ 7 → opens S v q ≡ (0, signed 32 (one-bit 32 (shift S q) (m-of S q) (L-of S q)))
+  one-bit-steps : order-of S q .kind ≡ 7 → opens 32 S v q ≡ (0, signed 32 (one-bit 32 (shift S q) (m-of S q) (L-of S q)))
   unfolding values reading L-of mask-of m-of
   one-bit-steps e = of-kind S q v F 7 e ∙ ap (λ (m : ℕ). opened (one-bit 32 (shift S q) m L)) (plus-reads 32 x hx L)
 
-  exact-floor : order-of S q .kind ≡ 8 → opens S v q ≡ (0, floor (reading S q) (2 ^ shift S q))
+  exact-floor : order-of S q .kind ≡ 8 → opens 32 S v q ≡ (0, floor (reading 32 S q) (2 ^ shift S q))
   unfolding values reading
   exact-floor e = of-kind S q v F 8 e ∙ ap {B = ℕ × ℤ} (λ (z : ℤ). (0, z)) (signed-shr 32 (shift S q) x (lit≤ tt) hx)
 
-  larger : order-of S q .kind ≡ 9 → opens S v q ≡ (0, relu (reading S q))
+  larger : order-of S q .kind ≡ 9 → opens 32 S v q ≡ (0, relu (reading 32 S q))
   unfolding values reading
   larger e = of-kind S q v F 9 e ∙ ap {B = ℕ × ℤ} (λ (z : ℤ). (0, z)) (relu-reads 32 x (lit≤ tt) hx)
 
@@ -112,20 +113,20 @@ module _ (S : Setting) (q : ℕ) (v : World) (F : Finishes (staged 32 S) q v) wh
   unfolding W-of
   W-lt = scaled-lt 32 (rows (S .table)) _
 
-  W-reads : order-of S q .kind ≡ 10 → T (in-range 32 (reading S q)) → signed 32 (W-of S q) ≡ Y-of S q
+  W-reads : order-of S q .kind ≡ 10 → T (in-range 32 (reading 32 S q)) → signed 32 (W-of S q) ≡ Y-of S q
   unfolding Y-of reading
   W-reads k h = ap (signed 32) (sym W-is) ∙ in-range-reads 32 (lit≤ tt) (S .table) (rules-kept S q v F k) x hx h
 
-  in-mode : (c : ℕ) → order-of S q .kind ≡ 10 → order-of S q .fourth ≡ c → opens S v q ≡ opened (curve-value 32 (rows (S .table)) c x (refresh-mask 32 S q))
+  in-mode : (c : ℕ) → order-of S q .kind ≡ 10 → order-of S q .fourth ≡ c → opens 32 S v q ≡ opened (curve-value 32 (rows (S .table)) c x (refresh-mask 32 S q))
   in-mode c k m = curve-opens S q v F k ∙ ap (λ (n : ℕ). opened (curve-value 32 (rows (S .table)) n x (refresh-mask 32 S q))) m
 
-  curve-exact : Exact S q → opens S v q ≡ (0, floor (signed 32 (W-of S q)) 4096)
+  curve-exact : Exact S q → opens 32 S v q ≡ (0, floor (signed 32 (W-of S q)) 4096)
   unfolding curve-value
   curve-exact e =
       in-mode 0 (e .kind) (e .mode)
       ∙ ap {B = ℕ × ℤ} (λ (z : ℤ). (0, z)) (rw W-is (signed-shr 32 12 (W-of S q) (lit≤ tt) W-lt))
 
-  curve-one-bit : OneBit S q → opens S v q ≡ (0, signed 32 (one-bit 32 12 (add 32 (W-of S q) (refresh-mask 32 S q)) (refresh-mask 32 S q)))
+  curve-one-bit : OneBit S q → opens 32 S v q ≡ (0, signed 32 (one-bit 32 12 (add 32 (W-of S q) (refresh-mask 32 S q)) (refresh-mask 32 S q)))
   unfolding curve-value
   curve-one-bit e =
       in-mode 1 (e .kind) (e .mode)

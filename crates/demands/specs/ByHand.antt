@@ -8,9 +8,9 @@ use Rattle.tables.specs.Table.{rows, house}
 use Rattle.curves.specs.Curve.{scaled}
 use Rattle.programs.specs.declared.Order.{Order}
 use Rattle.programs.specs.Opens.{order-value}
 use Rattle.runs.specs.Runs.{Setting, staged, World}
-use Rattle.runs.specs.Orders.{mask-before, order-of}
-use Rattle.runs.specs.Demand3.{reading, Exact, opens, Finishes}
+use Rattle.runs.specs.Orders.{mask-before, order-of, reading, opens, Finishes}
+use Rattle.demands.specs.Demand3.{Exact}
 
 -- "Exact mode: -2^30 gives 0; 200 gives 0; 201 gives 0; 202 gives 1; 455 gives 249; 456 gives 250; 3571 gives 4248;
 -- 3572 gives 4249; 2^30 - 1 gives 4249": what the source reads, and what the order opens
@@ -31,8 +31,8 @@ exact-cases = (negℤ (pos 5), 1, negℤ (pos 3)) ∷ (negℤ (pos 1), 31, neg�
 
 -- a curve in exact mode on the house table
 abbrev pub CurveOpens : ℤ × ℤ → Type 0
-CurveOpens c = (S : Setting) (q : ℕ) (v : World) → Finishes (staged 32 S) q v → Exact S q → S .table ≡ house
-    → reading S q ≡ c .0 → opens S v q ≡ (0, c .1)
+CurveOpens c = (S : Setting) (q : ℕ) (v : World) → Finishes 32 (staged 32 S) q v → Exact S q → S .table ≡ house
+    → reading 32 S q ≡ c .0 → opens 32 S v q ≡ (0, c .1)
 
 -- order q truncates by k
 pub record Truncates (kind k : ℕ) (S : Setting) (q : ℕ) : Type 0 where
@@ -41,12 +41,12 @@ pub record Truncates (kind k : ℕ) (S : Setting) (q : ℕ) : Type 0 where
 
 -- L is the mask of its source, just before it
 abbrev pub OneBitOpens : ℕ × ℤ → Type 0
-OneBitOpens c = (S : Setting) (q : ℕ) (v : World) → Finishes (staged 32 S) q v → Truncates 7 2 S q
-    → reading S q ≡ pos 5 → mask-before (staged 32 S) q (order-of S q .source) ≡ c .0 → opens S v q ≡ (0, c .1)
+OneBitOpens c = (S : Setting) (q : ℕ) (v : World) → Finishes 32 (staged 32 S) q v → Truncates 7 2 S q
+    → reading 32 S q ≡ pos 5 → mask-before 32 (staged 32 S) q (order-of S q .source) ≡ c .0 → opens 32 S v q ≡ (0, c .1)
 
 abbrev pub ExactOpens : ℤ × ℕ × ℤ → Type 0
-ExactOpens c = (S : Setting) (q : ℕ) (v : World) → Finishes (staged 32 S) q v → Truncates 8 (c .1) S q
-    → reading S q ≡ c .0 → opens S v q ≡ (0, c .2)
+ExactOpens c = (S : Setting) (q : ℕ) (v : World) → Finishes 32 (staged 32 S) q v → Truncates 8 (c .1) S q
+    → reading 32 S q ≡ c .0 → opens 32 S v q ≡ (0, c .2)
 
 abbrev pub Each : {A : Type 0} → (A → Type 0) → List A → Type 0
 Each P [] = Unit {0}

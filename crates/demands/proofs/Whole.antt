@@ -4,21 +4,21 @@ use mathlib.Core.Logic.{_↔_, inl, inr}
 use mathlib.Core.List.{List, []}
 use Prim.Native.Nat.{ℕ, _<_}
 use native.Mathlib.Omega.{arith}
-use Rattle.gates.specs.Parties.{Pair}
+use Rattle.gates.specs.Hosts.{Pair}
 use Rattle.jobs.specs.Job.{job-fault}
 use Rattle.calls.specs.Scripts.{script-cost, orders-in}
 use Rattle.calls.specs.Calls.{State}
 use Rattle.runs.specs.Runs.{Stage, Setting, staged, Spoken, idle, ready, waiting, going, World, world, Call, lent1, lent2, preparation, held, Completes, prepares, starts1, starts2, hears1, hears2, given-out, begin, Finished, Accepted}
-use Rattle.runs.specs.Conditions.{places-from, Terms, PreparationIs, of-itself, of-lists, of-buffer, prepares-well}
-use Rattle.runs.specs.Numbers.{Told}
-use Rattle.runs.specs.Demand1.{job-terms}
+use Rattle.demands.specs.Conditions.{places-from, Terms, PreparationIs, of-itself, of-lists, of-buffer, prepares-well}
+use Rattle.demands.specs.Numbers.{Told}
+use Rattle.demands.specs.Demand1.{job-terms}
 use Rattle.runs.specs.Strict.{Calls, none, completes}
-use Rattle.runs.specs.Whole.{WholeRun, outset, Whole}
+use Rattle.demands.specs.Whole.{WholeRun, outset, Whole}
 use Rattle.runs.proofs.Kept.{kept}
 use Rattle.runs.proofs.Progress.{lent1-zero, lent2-zero}
-use Rattle.runs.proofs.Numbers.{preparation-is}
-use Rattle.runs.proofs.Demand1.{demand1}
+use Rattle.demands.proofs.Numbers.{preparation-is}
+use Rattle.demands.proofs.Demand1.{demand1}
 use Rattle.runs.proofs.Strict.{wide-on, start-zero, joined, buffer-kept, carried-with}
 
 module _ (S : Stage) (buf : List ℕ) (r : Pair) where
   -- the script's number, whatever its index

@@ -3,13 +3,13 @@
 use mathlib.Core.Path.{_≡_}
 use mathlib.Core.List.{List}
 use Prim.Native.Nat.{ℕ, suc}
-use Rattle.gates.specs.Parties.{Pair}
+use Rattle.gates.specs.Hosts.{Pair}
 use Rattle.gates.specs.Meaning.{job-steps}
 use Rattle.gates.specs.declared.Gate.{Gate}
 use Rattle.calls.specs.Scripts.{Script, script-cost, orders-in, Orderly}
 use Rattle.calls.specs.Lent.{Lent}
 use Rattle.calls.specs.Calls.{State, start, hear, prepare}
-use Rattle.runs.specs.Conditions.{places-from, gate-places, Terms, Single, PreparationIs, StartIs, HearingIs}
+use Rattle.demands.specs.Conditions.{places-from, gate-places, Terms, Single, PreparationIs, StartIs, HearingIs}
 
 -- a script is what the terms say
 pub record Told (σ : Script) (T : Terms) : Type 0 where

@@ -16,17 +16,13 @@ use Rattle.curves.specs.Count.{count}
 use Rattle.programs.specs.Programs.{sum-program}
 use Rattle.programs.specs.Costs.{program-cost}
 use Rattle.calls.specs.Scripts.{orders-in}
 use Rattle.runs.specs.Runs.{Stage, Setting, altered, staged, World, Call, Completes, Run, Finished, opened-after}
 use Rattle.runs.specs.Runs.{buffer-of, Accepted}
-use Rattle.runs.specs.Orders.{Words, value-before, order-of, used-before, refresh-mask}
-
--- "x is the signed reading of what the order's source opens just before it"
-unfoldable pub reading : Setting → ℕ → ℤ
-reading S q = signed 32 (value-before (staged 32 S) q (order-of S q .source))
+use Rattle.runs.specs.Orders.{Words, order-of, used-before, refresh-mask, reading, Finishes, opens}
 
 -- Y of that reading
 unfoldable pub Y-of : Setting → ℕ → ℤ
-Y-of S q = scaled (rows (S .table)) (reading S q)
+Y-of S q = scaled (rows (S .table)) (reading 32 S q)
 
 -- order q is a curve, in exact mode or in one-bit mode
 pub record Exact (S : Setting) (q : ℕ) : Type 0 where
@@ -36,17 +32,6 @@ pub record Exact (S : Setting) (q : ℕ) : Type 0 where
 pub record OneBit (S : Setting) (q : ℕ) : Type 0 where
   pub kind : order-of S q .kind ≡ 10
   pub mode : order-of S q .fourth ≡ 1
-
--- what order q opens after a run: the number, 0 for none, and the value
-abbrev pub opens : Setting → World → ℕ → ℕ × ℤ
-opens S v q = opened-after 32 v q (order-of S q .target)
-
--- a run that finishes order q
-pub record Finishes (S : Stage) (q : ℕ) (v : World) : Type 0 where
-  pub words : Words 32 S
-  pub calls : List Call
-  pub run : Run S calls v
-  pub finished : Finished v q
 
 -- the place of the refresh's word in list A
 unfoldable pub refresh-place : Setting → ℕ → ℕ
@@ -70,31 +55,31 @@ pub record Alike (S S′ : Setting) : Type 0 where
 pub record Demand3 : Type 0 where
   -- "each finished curve order, for every reading from -2^30 to 2^30 - 1 and every table that keeps document 01's
   -- rules, opens exactly floor(Y / 4096) in exact mode"
-  pub exact : (S : Setting) (q : ℕ) (v : World) → Finishes (staged 32 S) q v → Exact S q → T (in-range 32 (reading S q))
-      → opens S v q ≡ (0, floor (Y-of S q) 4096)
+  pub exact : (S : Setting) (q : ℕ) (v : World) → Finishes 32 (staged 32 S) q v → Exact S q → T (in-range 32 (reading 32 S q))
+      → opens 32 S v q ≡ (0, floor (Y-of S q) 4096)
   -- "In one-bit mode it opens one more exactly when (Y mod 4096) + (L mod 4096) is at least 4096, else the same; L is
   -- the sum of the two mask words of the curve's refresh."
-  pub one-bit : (S : Setting) (q : ℕ) (v : World) → Finishes (staged 32 S) q v → OneBit S q
-      → T (in-range 32 (reading S q))
-      → opens S v q ≡ (0, floor (Y-of S q) 4096 +ℤ pos (slip 12 (wrap 12 (Y-of S q)) (refresh-mask 32 S q)))
+  pub one-bit : (S : Setting) (q : ℕ) (v : World) → Finishes 32 (staged 32 S) q v → OneBit S q
+      → T (in-range 32 (reading 32 S q))
+      → opens 32 S v q ≡ (0, floor (Y-of S q) 4096 +ℤ pos (slip 12 (wrap 12 (Y-of S q)) (refresh-mask 32 S q)))
   -- "Over the 2^32 values of that refresh's list A word, in runs that finish the order and are alike in job, table,
   -- registers and every other mask word, exactly (Y mod 4096) × 2^20 give one more."
   pub slips : (S : Setting) (q : ℕ) (v : ℕ → World) → Words 32 (staged 32 S)
-      → ((a : ℕ) → a < 2 ^ 32 → Finishes (staged 32 (with-word S q a)) q (v a)) → OneBit S q
-      → T (in-range 32 (reading S q))
-      → count (2 ^ 32) (λ a. eqZ (opens S (v a) q .1) (floor (Y-of S q) 4096 +ℤ pos 1)) ≡ wrap 12 (Y-of S q) * 2 ^ 20
+      → ((a : ℕ) → a < 2 ^ 32 → Finishes 32 (staged 32 (with-word S q a)) q (v a)) → OneBit S q
+      → T (in-range 32 (reading 32 S q))
+      → count (2 ^ 32) (λ a. eqZ (opens 32 S (v a) q .1) (floor (Y-of S q) 4096 +ℤ pos 1)) ≡ wrap 12 (Y-of S q) * 2 ^ 20
   -- "In both modes the value is above C - 2 and below C + 1."
-  pub near-exact : (S : Setting) (q : ℕ) (v : World) → Finishes (staged 32 S) q v → Exact S q
-      → T (in-range 32 (reading S q))
-      → Near (line (rows (S .table)) (reading S q)) (opens S v q .1)
-  pub near-one-bit : (S : Setting) (q : ℕ) (v : World) → Finishes (staged 32 S) q v → OneBit S q
-      → T (in-range 32 (reading S q)) → Near (line (rows (S .table)) (reading S q)) (opens S v q .1)
+  pub near-exact : (S : Setting) (q : ℕ) (v : World) → Finishes 32 (staged 32 S) q v → Exact S q
+      → T (in-range 32 (reading 32 S q))
+      → Near (line (rows (S .table)) (reading 32 S q)) (opens 32 S v q .1)
+  pub near-one-bit : (S : Setting) (q : ℕ) (v : World) → Finishes 32 (staged 32 S) q v → OneBit S q
+      → T (in-range 32 (reading 32 S q)) → Near (line (rows (S .table)) (reading 32 S q)) (opens 32 S v q .1)
   -- "Two runs of one job on the same lists and table that finish a curve order, its source opening to the last row's
   -- count in one and to a larger one in the other, open that order alike."
-  pub saturated : (S S′ : Setting) (q : ℕ) (v v′ : World) → Alike S S′ → Finishes (staged 32 S) q v
-      → Finishes (staged 32 S′) q v′
-      → order-of S q .kind ≡ 10 → reading S q ≡ pos (last-count (rows (S .table)))
-      → pos (last-count (rows (S .table))) ≤ℤ reading S′ q → opens S v q ≡ opens S′ v′ q
+  pub saturated : (S S′ : Setting) (q : ℕ) (v v′ : World) → Alike S S′ → Finishes 32 (staged 32 S) q v
+      → Finishes 32 (staged 32 S′) q v′
+      → order-of S q .kind ≡ 10 → reading 32 S q ≡ pos (last-count (rows (S .table)))
+      → pos (last-count (rows (S .table))) ≤ℤ reading 32 S′ q → opens 32 S v q ≡ opens 32 S′ v′ q
   -- "A run of a job accepted with its lists, after which only refused calls can stand, has finished every order."
   pub finishes : (S : Stage) (v : World) (cs : List Call) → Run S cs v → Accepted S (buffer-of v)
       → ((c : Call) (v′ : World) → Completes S c v v′ → ⊥) → (q : ℕ) → q < orders-in (S .script) → Finished v q

@@ -5,7 +5,7 @@ use mathlib.Core.Logic.{_≢_}
 use mathlib.Core.List.{List, _++_}
 use Prim.Native.Nat.{ℕ}
 use lib.ListN.{length, replicate}
-use Rattle.gates.specs.Parties.{Pair}
+use Rattle.gates.specs.Hosts.{Pair}
 use Rattle.tables.specs.Table.{rows}
 use Rattle.gates.specs.Costs.{Cost}
 use Rattle.jobs.specs.Job.{orders, job-gates, job-cost}
@@ -14,8 +14,8 @@ use Rattle.jobs.specs.FirstFault.{Numbered}
 use Rattle.calls.specs.Scripts.{Script, job-script}
 use Rattle.calls.specs.Lent.{Lent, lent}
 use Rattle.calls.specs.Calls.{State, Answer, Prepared, start, hear, prepare}
-use Rattle.runs.specs.Conditions.{gate-places, Terms, Single, PreparationIs, StartIs, HearingIs}
-use Rattle.runs.specs.Numbers.{Told}
+use Rattle.demands.specs.Conditions.{gate-places, Terms, Single, PreparationIs, StartIs, HearingIs}
+use Rattle.demands.specs.Numbers.{Told}
 
 -- a job with its table, whose counts are k: conditions 2 to 5 as jobs/specs/FirstFault.antt has them, and the products
 -- and refreshes of its orders' gates

@@ -5,26 +5,28 @@ use Prim.Native.Nat.{ℕ, zero, suc, _*_}
 use native.Mathlib.Omega.{arith}
 use lib.Dec.{lit≤, lit<}
 use Rattle.gates.specs.Steps.{Exchange, Step, Cursor, origin}
-use Rattle.gates.specs.Parties.{Pair, Triple, of1, of2, joint1, joint2, Supplied}
+use Rattle.gates.specs.Hosts.{Pair, Triple, of1, of2, joint1, joint2, Supplied}
 use Rattle.gates.proofs.Seen.{Always}
 use Rattle.gates.proofs.Needs.{deals-length}
 use Rattle.programs.specs.Opens.{order-value}
 use Rattle.jobs.specs.Job.{Fault}
 use Rattle.calls.specs.Scripts.{script-cost, Closed}
-use Rattle.calls.specs.Lent.{Party, party1, party2, dealer-fault}
+use Rattle.calls.specs.Lent.{Worker, worker1, worker2, dealer-fault}
 use Rattle.calls.specs.Calls.{State, Answer, fresh2, script-deals, prepared, prepare}
 use Rattle.runs.specs.Runs.{Stage, Spoken, Among, Dealer, ready, Side, waiting, going, world, registers, Dealt}
 use Rattle.runs.specs.Orders.{order-of}
-use Rattle.runs.specs.Demand2.{words-of-1, words-of-2, Counted, Demand2}
+use Rattle.runs.specs.InOrder.{words-of-1, words-of-2}
+use Rattle.demands.specs.Demand2.{Counted, Demand2}
 use Rattle.runs.proofs.Ties.{Shadow, shadow1, shadow2, Tied, Answered}
 use Rattle.runs.proofs.Kept.{all, j₀, supplied, not-yet, dealt-all, wait1, go1, wait2, go2, Ok, ok, kept}
 use Rattle.runs.proofs.Answers.{Answered1, start1-answered, hear1-answered, Answered2, start2-answered, hear2-answered}
 use Rattle.runs.proofs.Chain.{job-orders, job-orderly}
 use Rattle.runs.proofs.Spared.{slot-kept}
 use Rattle.runs.proofs.Opened.{order-keeps}
 use Rattle.runs.proofs.Opening.{finished-opens}
-use Rattle.runs.proofs.Curves.{in-job, checked, of-kind}
+use Rattle.runs.proofs.InJob.{in-job, checked}
+use Rattle.demands.proofs.Curves.{of-kind}
 use Rattle.runs.proofs.Counts.{stands, among-defined}
 
 prepared-count : (n : ℕ) (f : Fault) (S : Stage) (buf : List ℕ) (r : Pair) → f .0 ≡ n → prepared n f (S .script) (S .A) (S .B) buf r .number ≡ 0
     → prepared n f (S .script) (S .A) (S .B) buf r .deals ≡ script-cost (S .script) .deals
@@ -33,7 +35,7 @@ prepared-count zero f S buf r e h = deals-length (S .A) (S .B) (S .script .steps
 prepared-count (suc n) f S buf r e h = absurd (omega arith)
 
 module _ (S : Stage) where
-  module _ (P : Party) (h : Triple → Pair) (own other : Exchange → Cursor → Triple → ℕ) (Good : List Step → Cursor → Triple → Type 0)
+  module _ (P : Worker) (h : Triple → Pair) (own other : Exchange → Cursor → Triple → ℕ) (Good : List Step → Cursor → Triple → Type 0)
       (sh : Shadow (S .A) (S .B) P h own other Good) (good : Good (all S) origin (j₀ S)) (shut : Closed (S .script .steps)) where
     -- an answer where the walk halts is counted
     counted : {a : Answer} {given : ℕ} → Answered (S .A) (S .B) (all S) (j₀ S) P h own other Good sh good a given → Counted S (a .spoken) (a .state) given
@@ -47,10 +49,10 @@ module _ (S : Stage) where
 
   module _ (shut : Closed (S .script .steps)) where
     counted1 : {a : Answer} {given : ℕ} → Answered1 S a given → Counted S (a .spoken) (a .state) given
-    counted1 N = counted (party1 (S .A)) of1 (joint1 (S .A) (S .B)) (joint2 (S .A) (S .B)) Always (shadow1 (S .A) (S .B)) tt shut N
+    counted1 N = counted (worker1 (S .A)) of1 (joint1 (S .A) (S .B)) (joint2 (S .A) (S .B)) Always (shadow1 (S .A) (S .B)) tt shut N
 
     counted2 : (D : List ℕ) (g : Supplied (S .A) (S .B) D (all S) origin (j₀ S)) {a : Answer} {given : ℕ} → Answered2 S D g a given → Counted S (a .spoken) (a .state) given
-    counted2 D g N = counted (party2 (S .B) D) of2 (joint2 (S .A) (S .B)) (joint1 (S .A) (S .B)) (Supplied (S .A) (S .B) D) (shadow2 (S .A) (S .B) D) g shut N
+    counted2 D g N = counted (worker2 (S .B) D) of2 (joint2 (S .A) (S .B)) (joint1 (S .A) (S .B)) (Supplied (S .A) (S .B) D) (shadow2 (S .A) (S .B) D) g shut N
 
   -- ---- from what a run keeps
 
@@ -84,7 +86,7 @@ demand2 =
       order-opens = λ S q v F. of-kind S q v F (order-of S q .kind) refl;
       shares-agree = λ S q i v F. finished-opens S 32 v (F .run) q i (F .finished);
       slot-kept = slot-kept;
-      register-kept = λ S q i v F hi e. order-keeps 32 S (F .words) (lit≤ tt) (lit< tt) (checked S q v F .script) q (in-job S q v F) i hi e;
+      register-kept = λ S q i v F hi e. order-keeps 32 S (F .words) (lit≤ tt) (lit< tt) (checked 32 S q v F .script) q (in-job 32 S q v F) i hi e;
       host1-speaks = λ S cs z buf s t said two r. speaks1 S (kept S r);
       host2-speaks = λ S cs z buf one s t said r. speaks2 S (kept S r);
       deals-counted = λ S buf r. let f = dealer-fault (S .script) (S .A) (S .B) buf in prepared-count (f .0) f S buf r refl;

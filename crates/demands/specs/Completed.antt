@@ -6,12 +6,12 @@ use Prim.Native.Nat.{ℕ}
 use lib.ListN.{length, take, drop, replicate}
 use Rattle.gates.specs.Steps.{Exchange, Step, exchange, Cursor, origin, past}
 use Rattle.gates.specs.Walk.{walk, whole, far}
-use Rattle.gates.specs.Parties.{Pair, act0, deals}
+use Rattle.gates.specs.Hosts.{Pair, act0, deals}
 use Rattle.calls.specs.Scripts.{Script}
-use Rattle.calls.specs.Lent.{Lent, party-of}
+use Rattle.calls.specs.Lent.{Lent, worker-of}
 use Rattle.calls.specs.Calls.{State, Answer, Prepared, report, start, hear, prepare}
 use Rattle.runs.specs.Runs.{Among}
-use Rattle.runs.specs.Conditions.{places-from}
+use Rattle.demands.specs.Conditions.{places-from}
 
 -- the lanes at the start: what is given, with eight slots of 0 behind it for the words kept between gates
 abbrev pub with-kept : Pair → Pair
@@ -19,7 +19,7 @@ with-kept r = (r .0 ++ replicate 8 0, r .1 ++ replicate 8 0)
 
 -- the host walks these steps from the cursor c on, up to the next product or refresh or to the end, and answers there
 abbrev pub walks-on : Lent → List Step → Cursor → Pair → Answer
-walks-on L ss c l = report (party-of L) (walk (party-of L .act) ss c l [])
+walks-on L ss c l = report (worker-of L) (walk (worker-of L .act) ss c l [])
 
 -- host 0's deals, and the masks that it gives back
 abbrev pub all-deals : Script → (A B : List ℕ) → Pair → List ℕ
@@ -61,6 +61,6 @@ pub record Completed : Type 0 where
       → hear L s v .number ≡ 0
       → hear L s v
       ≡ walks-on L ss (past (exchange d e) (far pre origin))
-      (party-of L .hear d e (far pre origin) (s .m, s .mask) v)
+      (worker-of L .hear d e (far pre origin) (s .m, s .mask) v)
   -- every place that 8 does not turn down has one
   pub located : (ss : List Step) (o x : ℕ) → Among (o, x) (places-from 0 0 ss) → Located ss origin o x

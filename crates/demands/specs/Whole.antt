@@ -3,14 +3,14 @@ use mathlib.Core.Path.{_≡_}
 use mathlib.Core.Logic.{_↔_}
 use mathlib.Core.List.{List, []}
 use Prim.Native.Nat.{ℕ, _<_}
-use Rattle.gates.specs.Parties.{Pair}
+use Rattle.gates.specs.Hosts.{Pair}
 use Rattle.calls.specs.Scripts.{orders-in}
 use Rattle.calls.specs.Calls.{State}
 use Rattle.runs.specs.Runs.{Stage, Setting, staged, Spoken, idle, ready, waiting, going, World, world, Call}
 use Rattle.runs.specs.Runs.{preparation, held, Finished, Accepted}
-use Rattle.runs.specs.Conditions.{PreparationIs}
-use Rattle.runs.specs.Demand1.{job-terms}
+use Rattle.demands.specs.Conditions.{PreparationIs}
+use Rattle.demands.specs.Demand1.{job-terms}
 use Rattle.runs.specs.Strict.{Calls}
 
 -- calls from the world v after which host 0 holds these masks and this buffer, hosts 1 and 2 the states one and two,
 -- and every order is finished

@@ -1,4 +1,4 @@
--- The three parties' steps on their lanes and the words that they speak; and the joint walk's, on all three lanes at
+-- The three hosts' steps on their lanes and the words that they speak; and the joint walk's, on all three lanes at
 -- once. Assumes nothing.
 use mathlib.Core.Path.{_≡_}
 use mathlib.Core.List.{List, [], _∷_}
@@ -8,7 +8,7 @@ use Rattle.shares.specs.Gates.{Share}
 use Rattle.gates.specs.Steps.{Lane, at, Exchange, Step, local, deal, exchange, end, say1, say2, meet, part2}
 use Rattle.gates.specs.Steps.{new-at, emit, Cursor, past}
 
--- two lanes of a party: L1 and L2, or m and a mask
+-- two lanes of a host: L1 and L2, or m and a mask
 abbrev pub Pair : Type 0
 Pair = Lane × Lane
 
@@ -51,7 +51,7 @@ on-mask (deal d f) v s = set s d v
 on-mask (exchange d e) v s = s
 on-mask end v s = s
 
--- ---- party 0, which speaks its deals
+-- ---- host 0, which speaks its deals
 
 module _ (A B : List ℕ) where
   unfoldable pub act0 : Step → Cursor → Pair → Pair
@@ -70,7 +70,7 @@ module _ (A B : List ℕ) where
   deals [] c s = []
   deals (x ∷ ss) c s = dealt x c s (deals ss (past x c) (act0 x c s))
 
--- ---- party 1, with A
+-- ---- host 1, with A
 
 module _ (A : List ℕ) where
   -- the next word of A is its mask of a deal
@@ -83,7 +83,7 @@ module _ (A : List ℕ) where
   unfoldable pub hear1 : ℕ → Exchange → Cursor → Pair → ℕ → Pair
   hear1 d e c s w = (set (s .0) d (meet e (word-of1 e c s) w), set (s .1) d (at A (new-at e c.a)))
 
--- ---- party 2, with B and the deals
+-- ---- host 2, with B and the deals
 
 module _ (B D : List ℕ) where
   -- the next deal is its mask of a deal
@@ -118,6 +118,6 @@ abbrev pub Starts : List ℕ → ℕ → List ℕ → Type 0
 Starts D k [] = Unit
 Starts D k (d ∷ ds) = (at D k ≡ d) × Starts D (suc k) ds
 
--- D has what party 0 deals from here on
+-- D has what host 0 deals from here on
 abbrev pub Supplied : (A B D : List ℕ) → List Step → Cursor → Triple → Type 0
 Supplied A B D ss c j = Starts D (c .k) (deals A B ss c (of0 j))

@@ -7,17 +7,17 @@ use native.Mathlib.Omega.{arith}
 use lib.ListN.{length, take, drop}
 use Rattle.gates.specs.Steps.{Exchange, Step, local, deal, exchange, end, Cursor, origin, past}
 use Rattle.gates.specs.Walk.{far}
-use Rattle.gates.specs.Parties.{Pair}
+use Rattle.gates.specs.Hosts.{Pair}
 use Rattle.jobs.specs.Job.{Fault}
 use Rattle.calls.specs.Scripts.{Script}
 use Rattle.calls.specs.Places.{Found, found, seek}
-use Rattle.calls.specs.Lent.{Lent, party-of, dealer-fault}
+use Rattle.calls.specs.Lent.{Lent, dealer-fault, worker-of}
 use Rattle.calls.specs.Calls.{State, Answer, Prepared, fresh, unless, start-walk, start, hear-walk, place-fault, found-of, resume, hear, script-deals, prepare-walk, prepared, prepare}
 use Rattle.runs.specs.Runs.{Among}
-use Rattle.runs.specs.Conditions.{Place, places-from}
-use Rattle.runs.specs.Completed.{walks-on, Located, Completed}
+use Rattle.demands.specs.Conditions.{Place, places-from}
+use Rattle.demands.specs.Completed.{walks-on, Located, Completed}
 use Rattle.runs.proofs.Places.{here-self, here-other, Upto, level, upto-past, upto-not}
 use Rattle.runs.proofs.Refusals.{start-none, hear-none}
 
 -- ---- `seek` finds the product or refresh behind the steps pre
 
@@ -58,7 +58,7 @@ prepared-done zero f σ A B buf r e h = refl
 prepared-done (suc k) f σ A B buf r e h = absurd (omega arith)
 
 resumed : (L : Lent) (s : State) (v : ℕ) (ss : List Step) (c : Cursor) (d : ℕ) (e : Exchange)
-    → resume (party-of L) s v (found (exchange d e ∷ ss) c) ≡ walks-on L ss (past (exchange d e) c) (party-of L .hear d e c (s .m, s .mask) v)
+    → resume (worker-of L) s v (found (exchange d e ∷ ss) c) ≡ walks-on L ss (past (exchange d e) c) (worker-of L .hear d e c (s .m, s .mask) v)
 unfolding resume place-fault unless hear-walk
 resumed L s v ss c d e = refl
 
@@ -68,8 +68,8 @@ module _ (L : Lent) (s : State) (v : ℕ) (pre ss : List Step) (d : ℕ) (e : Ex
   unfolding found-of
   found-there = rw (o, x, is) (seek-to pre ss d e origin)
 
-  heard : hear L s v .number ≡ 0 → hear L s v ≡ walks-on L ss (past (exchange d e) (far pre origin)) (party-of L .hear d e (far pre origin) (s .m, s .mask) v)
-  heard h = hear-none L s v h .1 ∙ ap {B = Answer} (resume (party-of L) s v) found-there ∙ resumed L s v ss (far pre origin) d e
+  heard : hear L s v .number ≡ 0 → hear L s v ≡ walks-on L ss (past (exchange d e) (far pre origin)) (worker-of L .hear d e (far pre origin) (s .m, s .mask) v)
+  heard h = hear-none L s v h .1 ∙ ap {B = Answer} (resume (worker-of L) s v) found-there ∙ resumed L s v ss (far pre origin) d e
 
 -- ---- every place has its product or refresh
 

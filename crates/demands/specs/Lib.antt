@@ -1,0 +1,11 @@
+pub mod Demand3
+pub mod Conditions
+pub mod Numbers
+pub mod Demand1
+pub mod Completed
+pub mod Demand2
+pub mod Whole
+pub mod ReturnedCurves
+pub mod ByKind
+pub mod ByHand
+pub mod Fronts

@@ -1,0 +1,1 @@
+// The three demands of the customer, of every run and of every call; the crate has no code.

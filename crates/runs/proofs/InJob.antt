@@ -1,0 +1,16 @@
+-- An order that a run finishes is one of the job's, and the job met no condition. Assumes nothing.
+use Prim.Native.Nat.{ℕ, _<_}
+use lib.ListN.{length}
+use Rattle.jobs.specs.Job.{orders}
+use Rattle.runs.specs.Runs.{Setting, staged, World}
+use Rattle.runs.specs.Orders.{Finishes}
+use Rattle.runs.proofs.Opened.{trail-orders}
+use Rattle.runs.proofs.Opening.{finished-order}
+use Rattle.runs.proofs.Started.{Checked, past-checked}
+
+module _ (w : ℕ) (S : Setting) (q : ℕ) (v : World) (F : Finishes w (staged w S) q v) where
+  pub in-job : q < length (orders (S .job))
+  in-job = rw (trail-orders w S (F .words)) at (finished-order (staged w S) v (F .run) q (F .finished))
+
+  pub checked : Checked (staged w S)
+  checked = past-checked (staged w S) v q (F .run) (F .finished .one)
