@@ -78,14 +78,14 @@ unless (suc n) f s a = refused f s
 -- ---- starting: "runs to its first product or refresh and gives the word it speaks"
 
 unfoldable pub start-walk : Lent → Pair → Conf Pair
-start-walk L r = walk (worker-of L .act) (L .script .steps) origin (fresh2 r) []
+start-walk loan r = walk (worker-of loan .act) (loan .script .steps) origin (fresh2 r) []
 
 -- "Refused starting gives back the registers it was given"
 unfoldable pub given : Pair → State
 given r = record { m = fresh (r .0); mask = fresh (r .1); order = 0; turn = 0 }
 
 unfoldable pub start : Lent → (registers : Pair) → Answer
-start L r = unless (lent-fault L .0) (lent-fault L) (given r) (report (worker-of L) (start-walk L r))
+start loan r = unless (lent-fault loan .0) (lent-fault loan) (given r) (report (worker-of loan) (start-walk loan r))
 
 -- ---- hearing: "takes the other's word and runs to the next, or to the end, where the word given is 0"
 
@@ -109,13 +109,13 @@ place-fault (found (exchange d e ∷ ss) c) = 0
 place-fault (found (end ∷ ss) c) = 8
 
 unfoldable pub found-of : Lent → State → Found
-found-of L s = seek (s .order) (s .turn) (L .script .steps) origin
+found-of loan s = seek (s .order) (s .turn) (loan .script .steps) origin
 
 unfoldable pub resume : Worker → State → ℕ → Found → Answer
 resume P s v f = unless (place-fault f) (place-fault f, 0) s (report P (hear-walk P s v f))
 
 unfoldable pub hear : Lent → State → (heard : ℕ) → Answer
-hear L s v = unless (lent-fault L .0) (lent-fault L) s (resume (worker-of L) s v (found-of L s))
+hear loan s v = unless (lent-fault loan .0) (lent-fault loan) s (resume (worker-of loan) s v (found-of loan s))
 
 -- ---- preparation: "writes exactly its deals, in gate order, and gives back its masks of all registers; later words of
 -- its buffer keep their content"

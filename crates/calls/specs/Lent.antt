@@ -37,7 +37,7 @@ unfoldable pub worker-with : (host : ℕ) (masks deals : List ℕ) → Worker
 worker-with h M D = cond (eqb h 1) (worker1 M) (worker2 M D)
 
 abbrev pub worker-of : Lent → Worker
-worker-of L = worker-with (L .host) (L .masks) (L .deals)
+worker-of loan = worker-with (loan .host) (loan .masks) (loan .deals)
 
 -- ---- the checks
 
@@ -47,14 +47,14 @@ or-else f n = cond (eqb (f .0) 0) (n, 0) f
 
 -- 6 and 7 of hosts 1 and 2
 unfoldable pub lists-fault : Cost → Lent → ℕ
-lists-fault k L =
-    cond (eqb (L .host) 1) (cond (short-a k (L .masks)) 6 0)
-    (cond (short-b k (L .masks)) 6 (cond (short-deals k (L .deals)) 7 0))
+lists-fault k loan =
+    cond (eqb (loan .host) 1) (cond (short-a k (loan .masks)) 6 0)
+    (cond (short-b k (loan .masks)) 6 (cond (short-deals k (loan .deals)) 7 0))
 
 -- 1 to 7: "1. Starting or stepping names a host other than 1 or 2."
 unfoldable pub lent-fault : Lent → Fault
-lent-fault L = cond (eqb (L .host) 1 || eqb (L .host) 2)
-    (or-else (L .script .fault) (lists-fault (script-cost (L .script)) L)) (1, 0)
+lent-fault loan = cond (eqb (loan .host) 1 || eqb (loan .host) 2)
+    (or-else (loan .script .fault) (lists-fault (script-cost (loan .script)) loan)) (1, 0)
 
 -- by the number found: the counts so far, or where the call is turned down none
 unfoldable pub passed : (number : ℕ) → Cost → Cost

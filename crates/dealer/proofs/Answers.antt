@@ -23,7 +23,7 @@ module _ (σ : Script) (A B buf : List ℕ) where
   pub room-outset : (l1 l2 : Lane) → dealer-fault σ A B buf .0 ≡ 0 → Room A B (σ .steps) (outset l1 l2 buf)
   room-outset l1 l2 e =
       let q : Enough (script-cost σ) A B buf = accepted σ A B buf e in
-      record { a = omega arith; b = omega arith; k = omega arith }
+      record { a = omega arith; b = omega arith; deals = omega arith }
 
   module _ (r : Pair) where
     -- refused
@@ -52,7 +52,7 @@ module _ (σ : Script) (A B buf : List ℕ) where
     unfolding script-deals
     as-many = deals-length A B (σ .steps) origin (fresh2 r)
 
-    counted : far (σ .steps) origin .k ≡ length ds
+    counted : far (σ .steps) origin .deals ≡ length ds
     counted = omega (arith, far-used (σ .steps) origin .deals, as-many)
 
     written : length ds ≤ length buf → sets buf 0 ds ≡ ds ++ drop (length ds) buf
@@ -64,16 +64,16 @@ module _ (σ : Script) (A B buf : List ℕ) where
       ended : s ≡ stands (far (σ .steps) origin) (prepare-walk σ A B r .state) (sets buf 0 ds)
       ended = h ∙ rw (g1, g2) walked
 
-      pub dealt-count : s .k ≡ script-cost σ .deals
-      dealt-count = ap (λ (x : Dealer). x .k) ended ∙ counted ∙ as-many
+      pub dealt-count : s .deals ≡ script-cost σ .deals
+      dealt-count = ap (λ (x : Dealer). x .deals) ended ∙ counted ∙ as-many
 
       pub finished : (k1 k2 : List ℕ) → k1 ≡ take (σ .slots) (s .l1) → k2 ≡ take (σ .slots) (s .l2)
-          → _≡_ {A = Prepared} (record { number = 0; index = 0; deals = s .k; masks = (k1, k2); buffer = s .buffer }) (prepare σ A B buf r)
+          → _≡_ {A = Prepared} (record { number = 0; index = 0; deals = s .deals; masks = (k1, k2); buffer = s .buffer }) (prepare σ A B buf r)
       unfolding prepare prepared
       finished k1 k2 e1 e2 =
           let q : Enough (script-cost σ) A B buf = accepted σ A B buf e in
           let m1 : k1 ≡ take (σ .slots) (prepare-walk σ A B r .state .0) = e1 ∙ ap (λ (x : Dealer). take (σ .slots) (x .l1)) ended in
           let m2 : k2 ≡ take (σ .slots) (prepare-walk σ A B r .state .1) = e2 ∙ ap (λ (x : Dealer). take (σ .slots) (x .l2)) ended in
-          let n : s .k ≡ length ds = ap (λ (x : Dealer). x .k) ended ∙ counted in
+          let n : s .deals ≡ length ds = ap (λ (x : Dealer). x .deals) ended ∙ counted in
           let b : s .buffer ≡ ds ++ drop (length ds) buf = ap (λ (x : Dealer). x .buffer) ended ∙ written (omega (arith, as-many)) in
           rw e (λ t. record { number = 0; index = 0; deals = n t; masks = (m1 t, m2 t); buffer = b t })

@@ -16,11 +16,11 @@ answer p buf = record { number = p .number; index = p .index; deals = p .deals; 
 
 -- nothing used yet
 abbrev pub outset : (l1 l2 : Lane) (buffer : List ℕ) → Dealer
-outset l1 l2 buf = record { a = 0; b = 0; k = 0; l1 = l1; l2 = l2; buffer = buf }
+outset l1 l2 buf = record { a = 0; b = 0; deals = 0; l1 = l1; l2 = l2; buffer = buf }
 
 -- what host 0 has used
 abbrev pub Counts : Dealer → Used → Type 0
-Counts s u = (u .a ≡ s .a) × (u .b ≡ s .b) × (u .deals ≡ s .k)
+Counts s u = (u .a ≡ s .a) × (u .b ≡ s .b) × (u .deals ≡ s .deals)
 
 module _ (A B : List ℕ) where
   unfoldable pub deal-all : List Step → Dealer → Dealer
@@ -31,4 +31,4 @@ module _ (A B : List ℕ) where
   pub record Room (ss : List Step) (s : Dealer) : Type 0 where
     pub a : s .a + cost ss .a ≤ length A
     pub b : s .b + cost ss .b ≤ length B
-    pub k : s .k + cost ss .deals ≤ length (s .buffer)
+    pub deals : s .deals + cost ss .deals ≤ length (s .buffer)

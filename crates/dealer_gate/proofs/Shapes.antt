@@ -21,8 +21,8 @@ module _ (A B : List ℕ) (s : Dealer) where
   -- l1 and l2 have the step on masks behind them; what is left to write goes by the shape. x is the next word of A, v the deal
   abbrev pub finished : Shape → (x v : ℕ) (l1 l2 : Lane) → Memory
   finished Local x v l1 l2 = (l1, l2, s .buffer)
-  finished (Dealing d) x v l1 l2 = (l1, l2, set (s .buffer) (s .k) v)
-  finished (Product d) x v l1 l2 = (set l1 d (at A (s .a + 1)), set l2 d (at B (s .b)), set (s .buffer) (s .k) v)
+  finished (Dealing d) x v l1 l2 = (l1, l2, set (s .buffer) (s .deals) v)
+  finished (Product d) x v l1 l2 = (set l1 d (at A (s .a + 1)), set l2 d (at B (s .b)), set (s .buffer) (s .deals) v)
   finished (Refreshing d) x v l1 l2 = (set l1 d x, set l2 d (at B (s .b)), s .buffer)
 
   -- a step on each lane alone asks on-mask for no word, and at an exchange on-mask writes nothing

@@ -14,13 +14,13 @@ use Rattle.gates.specs.declared.Used.{Used}
 pub record Dealer : Type 0 where
   pub a : ℕ
   pub b : ℕ
-  pub k : ℕ
+  pub deals : ℕ
   pub l1 : Lane
   pub l2 : Lane
   pub buffer : List ℕ
 
 abbrev pub dealer : Used → (l1 l2 : Lane) (buffer : List ℕ) → Dealer
-dealer u l1 l2 buf = record { a = u .a; b = u .b; k = u .deals; l1 = l1; l2 = l2; buffer = buf }
+dealer u l1 l2 buf = record { a = u .a; b = u .b; deals = u .deals; l1 = l1; l2 = l2; buffer = buf }
 
 -- these are its lanes and its buffer
 abbrev pub Holds : Dealer → (l1 l2 : Lane) (buffer : List ℕ) → Type 0
@@ -30,7 +30,7 @@ Holds s l1 l2 buf = (l1 ≡ s .l1) × (l2 ≡ s .l2) × (buf ≡ s .buffer)
 
 -- a gate on each lane alone
 abbrev pub with-local : Step → Dealer → Dealer
-with-local x s = record { a = s .a; b = s .b; k = s .k; l1 = on-mask x 0 (s .l1); l2 = on-mask x 0 (s .l2); buffer = s .buffer }
+with-local x s = record { a = s .a; b = s .b; deals = s .deals; l1 = on-mask x 0 (s .l1); l2 = on-mask x 0 (s .l2); buffer = s .buffer }
 
 -- what is dealt at a step, with the next word of A
 abbrev pub next-deal : (A : List ℕ) → Step → Dealer → ℕ
@@ -42,10 +42,10 @@ with-deal A x d s =
     record {
       a = s .a + 1;
       b = s .b;
-      k = s .k + 1;
+      deals = s .deals + 1;
       l1 = set (s .l1) d (at A (s .a));
       l2 = set (s .l2) d (next-deal A x s);
-      buffer = set (s .buffer) (s .k) (next-deal A x s);
+      buffer = set (s .buffer) (s .deals) (next-deal A x s);
     }
 
 -- a product: "New masks: L1 from A, after g1, and L2 from B"
@@ -54,16 +54,16 @@ with-product A B x d s =
     record {
       a = s .a + 2;
       b = s .b + 1;
-      k = s .k + 1;
+      deals = s .deals + 1;
       l1 = set (s .l1) d (at A (s .a + 1));
       l2 = set (s .l2) d (at B (s .b));
-      buffer = set (s .buffer) (s .k) (next-deal A x s);
+      buffer = set (s .buffer) (s .deals) (next-deal A x s);
     }
 
 -- "new L1 from A, L2 from B"
 abbrev pub with-refresh : (A B : List ℕ) (d : ℕ) → Dealer → Dealer
 with-refresh A B d s =
-    record { a = s .a + 1; b = s .b + 1; k = s .k; l1 = set (s .l1) d (at A (s .a)); l2 = set (s .l2) d (at B (s .b)); buffer = s .buffer }
+    record { a = s .a + 1; b = s .b + 1; deals = s .deals; l1 = set (s .l1) d (at A (s .a)); l2 = set (s .l2) d (at B (s .b)); buffer = s .buffer }
 
 module _ (A B : List ℕ) where
   abbrev pub shaped : Shape → Step → Dealer → Dealer

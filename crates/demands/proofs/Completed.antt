@@ -57,19 +57,19 @@ unfolding prepared
 prepared-done zero f σ A B buf r e h = refl
 prepared-done (suc k) f σ A B buf r e h = absurd (omega arith)
 
-resumed : (L : Lent) (s : State) (v : ℕ) (ss : List Step) (c : Cursor) (d : ℕ) (e : Exchange)
-    → resume (worker-of L) s v (found (exchange d e ∷ ss) c) ≡ walks-on L ss (past (exchange d e) c) (worker-of L .hear d e c (s .m, s .mask) v)
+resumed : (loan : Lent) (s : State) (v : ℕ) (ss : List Step) (c : Cursor) (d : ℕ) (e : Exchange)
+    → resume (worker-of loan) s v (found (exchange d e ∷ ss) c) ≡ walks-on loan ss (past (exchange d e) c) (worker-of loan .hear d e c (s .m, s .mask) v)
 unfolding resume place-fault unless hear-walk
-resumed L s v ss c d e = refl
+resumed loan s v ss c d e = refl
 
-module _ (L : Lent) (s : State) (v : ℕ) (pre ss : List Step) (d : ℕ) (e : Exchange) (is : L .script .steps ≡ pre ++ (exchange d e ∷ ss))
+module _ (loan : Lent) (s : State) (v : ℕ) (pre ss : List Step) (d : ℕ) (e : Exchange) (is : loan .script .steps ≡ pre ++ (exchange d e ∷ ss))
     (o : s .order ≡ far pre origin .order) (x : s .turn ≡ far pre origin .turn) where
-  found-there : found-of L s ≡ found (exchange d e ∷ ss) (far pre origin)
+  found-there : found-of loan s ≡ found (exchange d e ∷ ss) (far pre origin)
   unfolding found-of
   found-there = rw (o, x, is) (seek-to pre ss d e origin)
 
-  heard : hear L s v .number ≡ 0 → hear L s v ≡ walks-on L ss (past (exchange d e) (far pre origin)) (worker-of L .hear d e (far pre origin) (s .m, s .mask) v)
-  heard h = hear-none L s v h .1 ∙ ap {B = Answer} (resume (worker-of L) s v) found-there ∙ resumed L s v ss (far pre origin) d e
+  heard : hear loan s v .number ≡ 0 → hear loan s v ≡ walks-on loan ss (past (exchange d e) (far pre origin)) (worker-of loan .hear d e (far pre origin) (s .m, s .mask) v)
+  heard h = hear-none loan s v h .1 ∙ ap {B = Answer} (resume (worker-of loan) s v) found-there ∙ resumed loan s v ss (far pre origin) d e
 
 -- ---- every place has its product or refresh
 
@@ -109,7 +109,7 @@ unfolding prepare script-deals prepare-walk fresh start-walk
 completed =
     record {
       preparing = λ σ A B buf r h. prepared-done (dealer-fault σ A B buf .0) (dealer-fault σ A B buf) σ A B buf r refl h;
-      starting = λ L r h. start-none L r h .1;
-      hearing = λ L s v pre ss d e is o x h. heard L s v pre ss d e is o x h;
+      starting = λ loan r h. start-none loan r h .1;
+      hearing = λ loan s v pre ss d e is o x h. heard loan s v pre ss d e is o x h;
       located = λ ss o x h. located ss origin o x h;
     }

@@ -65,22 +65,22 @@ prepare-rest : (σ : Script) (A B D : List ℕ) (r : Pair) → prepare σ A B D 
 unfolding prepare
 prepare-rest σ A B D r h = prepared-deals (dealer-fault σ A B D .0) (dealer-fault σ A B D) σ A B D r h
 
-start-rest : (L : Lent) (r : Pair) → start L r .number ≢ 0 → (start L r .spoken ≡ 0) × (start L r .word ≡ 0)
+start-rest : (loan : Lent) (r : Pair) → start loan r .number ≢ 0 → (start loan r .spoken ≡ 0) × (start loan r .word ≡ 0)
 unfolding start
-start-rest L r h = unless-rest (lent-fault L .0) (lent-fault L) (given r) (report (worker-of L) (start-walk L r)) h (λ k. absurd (k refl))
+start-rest loan r h = unless-rest (lent-fault loan .0) (lent-fault loan) (given r) (report (worker-of loan) (start-walk loan r)) h (λ k. absurd (k refl))
 
-hear-rest : (L : Lent) (s : State) (v : ℕ) → hear L s v .number ≢ 0 → (hear L s v .spoken ≡ 0) × (hear L s v .word ≡ 0)
+hear-rest : (loan : Lent) (s : State) (v : ℕ) → hear loan s v .number ≢ 0 → (hear loan s v .spoken ≡ 0) × (hear loan s v .word ≡ 0)
 unfolding hear resume
-hear-rest L s v h =
-    let f = found-of L s in
-    let a = report (worker-of L) (hear-walk (worker-of L) s v f) in
-    unless-rest (lent-fault L .0) (lent-fault L) s (unless (place-fault f) (place-fault f, 0) s a) h
+hear-rest loan s v h =
+    let f = found-of loan s in
+    let a = report (worker-of loan) (hear-walk (worker-of loan) s v f) in
+    unless-rest (lent-fault loan .0) (lent-fault loan) s (unless (place-fault f) (place-fault f, 0) s a) h
     (λ k. unless-rest (place-fault f) (place-fault f, 0) s a k (λ z. absurd (z refl)))
 
 -- the registers as they were given
-start-back : (L : Lent) (r : Pair) → start L r .number ≢ 0 → start L r .state ≡ given-back r
+start-back : (loan : Lent) (r : Pair) → start loan r .number ≢ 0 → start loan r .state ≡ given-back r
 unfolding given fresh
-start-back L r h = start-state L r h
+start-back loan r h = start-state loan r h
 
 pub demand1 : Demand1
 demand1 =
@@ -96,6 +96,6 @@ demand1 =
       told = told;
       single = single;
       preparing-unchanged = λ σ A B D r h. let p = prepare-back σ A B D r h in (p .0, p .1, prepare-rest σ A B D r h);
-      starting-unchanged = λ L r h. let p = start-rest L r h in (start-back L r h, p .0, p .1);
-      hearing-unchanged = λ L s v h. let p = hear-rest L s v h in (hear-state L s v h, p .0, p .1);
+      starting-unchanged = λ loan r h. let p = start-rest loan r h in (start-back loan r h, p .0, p .1);
+      hearing-unchanged = λ loan s v h. let p = hear-rest loan s v h in (hear-state loan s v h, p .0, p .1);
     }

@@ -100,40 +100,40 @@ host-known h = go (eqb h 1) (eqb h 2) refl refl
     go false true p q = second (eqb-true h 2 q)
     go false false p q = neither (eqb-false h 1 p) (eqb-false h 2 q)
 
-module _ (L : Lent) (T : Terms) (told : Told (L .script) T) where
+module _ (loan : Lent) (T : Terms) (told : Told (loan .script) T) where
   abbrev Starts : ℕ → ℕ → Type 0
-  Starts = StartIs T (L .host) (L .masks) (L .deals)
+  Starts = StartIs T (loan .host) (loan .masks) (loan .deals)
 
   -- 6 and 7 of host 1, where a says so, or of host 2
   abbrev lists-of : Bool → ℕ
   lists-of a =
-      cond a (cond (ltb (length (L .masks)) (T .needs .a)) 6 0)
-      (cond (ltb (length (L .masks)) (T .needs .b)) 6 (cond (ltb (length (L .deals)) (T .needs .deals)) 7 0))
+      cond a (cond (ltb (length (loan .masks)) (T .needs .a)) 6 0)
+      (cond (ltb (length (loan .masks)) (T .needs .b)) 6 (cond (ltb (length (loan .deals)) (T .needs .deals)) 7 0))
 
-  lent-is : Starts (lent-fault L .0) (lent-fault L .1)
+  lent-is : Starts (lent-fault loan .0) (lent-fault loan .1)
   unfolding lent-fault lists-fault short-a short-b short-deals
-  lent-is = rw (told .needs) (go (eqb (L .host) 1) (eqb (L .host) 2) refl (host-known (L .host)))
+  lent-is = rw (told .needs) (go (eqb (loan .host) 1) (eqb (loan .host) 2) refl (host-known (loan .host)))
     where
-      two-lists : (b d : Bool) → L .host ≡ 2 → T .own 0 0 → list-needed T (L .host) ≡ T .needs .b → Below (length (L .masks)) (T .needs .b) b
-          → Below (length (L .deals)) (T .needs .deals) d → Starts (cond b 6 (cond d 7 0)) 0
+      two-lists : (b d : Bool) → loan .host ≡ 2 → T .own 0 0 → list-needed T (loan .host) ≡ T .needs .b → Below (length (loan .masks)) (T .needs .b) b
+          → Below (length (loan .deals)) (T .needs .deals) d → Starts (cond b 6 (cond d 7 0)) 0
       two-lists true d q z e (below h) l = of-its-list (inr q) z (rw e h)
       two-lists false true q z e (above h) (below l) = of-its-deals q z (rw e h) l
       two-lists false false q z e (above h) (above l) = starts-well (inr q) z (rw e h) (λ u. l)
 
-      one-list : (b : Bool) → L .host ≡ 1 → T .own 0 0 → list-needed T (L .host) ≡ T .needs .a → Below (length (L .masks)) (T .needs .a) b
+      one-list : (b : Bool) → loan .host ≡ 1 → T .own 0 0 → list-needed T (loan .host) ≡ T .needs .a → Below (length (loan .masks)) (T .needs .a) b
           → Starts (cond b 6 0) 0
       one-list true q z e (below h) = of-its-list (inl q) z (rw e h)
       one-list false q z e (above h) = starts-well (inl q) z (rw e h) (λ u. absurd (omega arith))
 
-      go : (a b : Bool) → eqb (L .host) 1 ≡ a → Host (L .host) a b
-          → Starts (cond {A = Fault} (a || b) (or-else (L .script .fault) (lists-of a)) (1, 0) .0)
-          (cond {A = Fault} (a || b) (or-else (L .script .fault) (lists-of a)) (1, 0) .1)
+      go : (a b : Bool) → eqb (loan .host) 1 ≡ a → Host (loan .host) a b
+          → Starts (cond {A = Fault} (a || b) (or-else (loan .script .fault) (lists-of a)) (1, 0) .0)
+          (cond {A = Fault} (a || b) (or-else (loan .script .fault) (lists-of a)) (1, 0) .1)
       go true b t (first q) =
-          or-else-is Starts (L .script .fault .0) (L .script .fault .1) _
-          (λ e. one-list _ q (told .none e) (rw t) (below-of (length (L .masks)) (T .needs .a))) (λ k e. of-its-own (inl q) (told .some k e))
+          or-else-is Starts (loan .script .fault .0) (loan .script .fault .1) _
+          (λ e. one-list _ q (told .none e) (rw t) (below-of (length (loan .masks)) (T .needs .a))) (λ k e. of-its-own (inl q) (told .some k e))
       go false true t (second q) =
-          or-else-is Starts (L .script .fault .0) (L .script .fault .1) _
-          (λ e. two-lists _ _ q (told .none e) (rw t) (below-of (length (L .masks)) (T .needs .b)) (below-of (length (L .deals)) (T .needs .deals)))
+          or-else-is Starts (loan .script .fault .0) (loan .script .fault .1) _
+          (λ e. two-lists _ _ q (told .none e) (rw t) (below-of (length (loan .masks)) (T .needs .b)) (below-of (length (loan .deals)) (T .needs .deals)))
           (λ k e. of-its-own (inr q) (told .some k e))
       go false false t (neither p q) = stranger p q
 
@@ -144,24 +144,24 @@ module _ (L : Lent) (T : Terms) (told : Told (L .script) T) where
   start-none (of-its-deals p z h l) e = absurd (omega arith)
   start-none (starts-well p z h l) e = starts-well p z h l
 
-  pub start-is : (r : Pair) → Starts (start L r .number) (start L r .index)
+  pub start-is : (r : Pair) → Starts (start loan r .number) (start loan r .index)
   unfolding start
   start-is r =
-      unless-is Starts (lent-fault L .0) (lent-fault L) (given r) (report (worker-of L) (start-walk L r)) refl (λ e. start-none lent-is e) (λ k e. lent-is)
+      unless-is Starts (lent-fault loan .0) (lent-fault loan) (given r) (report (worker-of loan) (start-walk loan r)) refl (λ e. start-none lent-is e) (λ k e. lent-is)
 
 -- ---- hearing
 
-module _ (L : Lent) (T : Terms) (told : Told (L .script) T) (ok : Orderly (L .script)) (s : State) where
+module _ (loan : Lent) (T : Terms) (told : Told (loan .script) T) (ok : Orderly (loan .script)) (s : State) where
   abbrev Is : ℕ → ℕ → Type 0
-  Is = HearingIs T (L .host) (L .masks) (L .deals) (s .order, s .turn)
+  Is = HearingIs T (loan .host) (loan .masks) (loan .deals) (s .order, s .turn)
 
   abbrev all : List Step
-  all = L .script .steps
+  all = loan .script .steps
 
   end-turn : last-turn 0 all ≡ 0
   end-turn = last-turn-0 all 0 (ok .closed) (λ e. refl)
 
-  place-is : Starts L T told 0 0 → (n : ℕ) → Placed (s .order) (s .turn) (places-from 0 0 all) (ends all) (last-turn 0 all) n → Is n 0
+  place-is : Starts loan T told 0 0 → (n : ℕ) → Placed (s .order) (s .turn) (places-from 0 0 all) (ends all) (last-turn 0 all) n → Is n 0
   place-is z n (a-turn h q) = rw q (hears-well z (subst (Among (s .order, s .turn)) (told .places) h))
   place-is z n (the-end a b q) = rw q (ended z (ap₂ {C = Place} (λ (i j : ℕ). (i, j)) (a ∙ told .orders) (b ∙ end-turn)))
   place-is z n (nothing h g q) =
@@ -169,27 +169,27 @@ module _ (L : Lent) (T : Terms) (told : Told (L .script) T) (ok : Orderly (L .sc
       (misplaced z (λ k. h (subst (Among (s .order, s .turn)) (sym (told .places)) k))
       (λ e. g (ap (λ (p : Place). p .0) e ∙ sym (told .orders)) (ap (λ (p : Place). p .1) e ∙ sym end-turn)))
 
-  found-is : Starts L T told 0 0 → Is (place-fault (found-of L s)) 0
+  found-is : Starts loan T told 0 0 → Is (place-fault (found-of loan s)) 0
   unfolding found-of
   found-is z =
       let e : ends all ≡ 0 + ends all = omega arith in
       place-is z _ (rw e (placed (s .order) (s .turn) all origin))
 
-  resumed-is : Starts L T told 0 0 → (v : ℕ) → Is (resume (worker-of L) s v (found-of L s) .number) (resume (worker-of L) s v (found-of L s) .index)
+  resumed-is : Starts loan T told 0 0 → (v : ℕ) → Is (resume (worker-of loan) s v (found-of loan s) .number) (resume (worker-of loan) s v (found-of loan s) .index)
   unfolding resume
   resumed-is z v =
-      let f : Found = found-of L s in
-      unless-is Is (place-fault f) (place-fault f, 0) s (report (worker-of L) (hear-walk (worker-of L) s v f)) refl
+      let f : Found = found-of loan s in
+      unless-is Is (place-fault f) (place-fault f, 0) s (report (worker-of loan) (hear-walk (worker-of loan) s v f)) refl
       (λ e. subst (λ (n : ℕ). Is n 0) e (found-is z)) (λ k e. found-is z)
 
-  turned : {n i : ℕ} (k : ℕ) → Starts L T told n i → n ≡ suc k → Is n i
+  turned : {n i : ℕ} (k : ℕ) → Starts loan T told n i → n ≡ suc k → Is n i
   turned k q e = rw e (as-starting (rw e at q))
 
-  pub hearing-is : (v : ℕ) → Is (hear L s v .number) (hear L s v .index)
+  pub hearing-is : (v : ℕ) → Is (hear loan s v .number) (hear loan s v .index)
   unfolding hear
   hearing-is v =
-      unless-is Is (lent-fault L .0) (lent-fault L) s (resume (worker-of L) s v (found-of L s)) refl
-      (λ e. resumed-is (start-none L T told (lent-is L T told) e) v) (λ k e. turned k (lent-is L T told) e)
+      unless-is Is (lent-fault loan .0) (lent-fault loan) s (resume (worker-of loan) s v (found-of loan s)) refl
+      (λ e. resumed-is (start-none loan T told (lent-is loan T told) e) v) (λ k e. turned k (lent-is loan T told) e)
 
 -- ---- and no other: what each relation says is what the call gives
 
@@ -281,8 +281,8 @@ pub numbers : Numbers
 numbers =
     record {
       preparing = λ σ T t A B D r. preparation-is σ T t A B D r;
-      starting = λ L T t r. start-is L T t r;
-      hearing = λ L T t o s v. hearing-is L T t o s v;
+      starting = λ loan T t r. start-is loan T t r;
+      hearing = λ loan T t o s v. hearing-is loan T t o s v;
       one-preparation = λ T single A B D n i m j p q. one-preparation T single A B D p q;
       one-start = λ T single h M D n i m j p q. one-start T single h M D p q;
       one-hearing = λ σ T t ok single h M D o x n i m j p q. one-hearing T single h M D o x (apart σ T t ok o x) p q;

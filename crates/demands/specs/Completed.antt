@@ -19,7 +19,7 @@ with-kept r = (r .0 ++ replicate 8 0, r .1 ++ replicate 8 0)
 
 -- the host walks these steps from the cursor c on, up to the next product or refresh or to the end, and answers there
 abbrev pub walks-on : Lent → List Step → Cursor → Pair → Answer
-walks-on L ss c l = report (worker-of L) (walk (worker-of L .act) ss c l [])
+walks-on loan ss c l = report (worker-of loan) (walk (worker-of loan .act) ss c l [])
 
 -- host 0's deals, and the masks that it gives back
 abbrev pub all-deals : Script → (A B : List ℕ) → Pair → List ℕ
@@ -51,16 +51,16 @@ pub record Completed : Type 0 where
         buffer = all-deals σ A B r ++ drop (length (all-deals σ A B r)) buf;
       }
   -- "Starting host 1 or 2 runs to its first product or refresh and gives the word it speaks"
-  pub starting : (L : Lent) (r : Pair) → start L r .number ≡ 0
-      → start L r ≡ walks-on L (L .script .steps) origin (with-kept r)
+  pub starting : (loan : Lent) (r : Pair) → start loan r .number ≡ 0
+      → start loan r ≡ walks-on loan (loan .script .steps) origin (with-kept r)
   -- "hearing takes the other's word and runs to the next, or to the end", from the product or refresh e at the state's
   -- place, behind the steps pre; "Kept words in a forged state are taken as they come."
-  pub hearing : (L : Lent) (s : State) (v : ℕ) (pre ss : List Step) (d : ℕ) (e : Exchange)
-      → L .script .steps ≡ pre ++ (exchange d e ∷ ss) → s .order ≡ far pre origin .order
+  pub hearing : (loan : Lent) (s : State) (v : ℕ) (pre ss : List Step) (d : ℕ) (e : Exchange)
+      → loan .script .steps ≡ pre ++ (exchange d e ∷ ss) → s .order ≡ far pre origin .order
       → s .turn ≡ far pre origin .turn
-      → hear L s v .number ≡ 0
-      → hear L s v
-      ≡ walks-on L ss (past (exchange d e) (far pre origin))
-      (worker-of L .hear d e (far pre origin) (s .m, s .mask) v)
+      → hear loan s v .number ≡ 0
+      → hear loan s v
+      ≡ walks-on loan ss (past (exchange d e) (far pre origin))
+      (worker-of loan .hear d e (far pre origin) (s .m, s .mask) v)
   -- every place that 8 does not turn down has one
   pub located : (ss : List Step) (o x : ℕ) → Among (o, x) (places-from 0 0 ss) → Located ss origin o x

@@ -67,7 +67,7 @@ pub record Demand1 : Type 0 where
   -- "and changes no state and no lent word"; "every other number in a refused answer is 0"
   pub preparing-unchanged : (σ : Script) (A B D : List ℕ) (r : Pair) → prepare σ A B D r .number ≢ 0
       → (prepare σ A B D r .masks ≡ r) × (prepare σ A B D r .buffer ≡ D) × (prepare σ A B D r .deals ≡ 0)
-  pub starting-unchanged : (L : Lent) (r : Pair) → start L r .number ≢ 0
-      → (start L r .state ≡ given-back r) × (start L r .spoken ≡ 0) × (start L r .word ≡ 0)
-  pub hearing-unchanged : (L : Lent) (s : State) (v : ℕ) → hear L s v .number ≢ 0
-      → (hear L s v .state ≡ s) × (hear L s v .spoken ≡ 0) × (hear L s v .word ≡ 0)
+  pub starting-unchanged : (loan : Lent) (r : Pair) → start loan r .number ≢ 0
+      → (start loan r .state ≡ given-back r) × (start loan r .spoken ≡ 0) × (start loan r .word ≡ 0)
+  pub hearing-unchanged : (loan : Lent) (s : State) (v : ℕ) → hear loan s v .number ≢ 0
+      → (hear loan s v .state ≡ s) × (hear loan s v .spoken ≡ 0) × (hear loan s v .word ≡ 0)

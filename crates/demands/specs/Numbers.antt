@@ -23,10 +23,10 @@ pub record Told (σ : Script) (T : Terms) : Type 0 where
 pub record Numbers : Type 1 where
   pub preparing : (σ : Script) (T : Terms) → Told σ T → (A B buffer : List ℕ) (r : Pair)
       → PreparationIs T A B buffer (prepare σ A B buffer r .number) (prepare σ A B buffer r .index)
-  pub starting : (L : Lent) (T : Terms) → Told (L .script) T → (r : Pair)
-      → StartIs T (L .host) (L .masks) (L .deals) (start L r .number) (start L r .index)
-  pub hearing : (L : Lent) (T : Terms) → Told (L .script) T → Orderly (L .script) → (s : State) (v : ℕ)
-      → HearingIs T (L .host) (L .masks) (L .deals) (s .order, s .turn) (hear L s v .number) (hear L s v .index)
+  pub starting : (loan : Lent) (T : Terms) → Told (loan .script) T → (r : Pair)
+      → StartIs T (loan .host) (loan .masks) (loan .deals) (start loan r .number) (start loan r .index)
+  pub hearing : (loan : Lent) (T : Terms) → Told (loan .script) T → Orderly (loan .script) → (s : State) (v : ℕ)
+      → HearingIs T (loan .host) (loan .masks) (loan .deals) (s .order, s .turn) (hear loan s v .number) (hear loan s v .index)
   -- and each relation holds of one number and one index, where the script's own conditions do
   pub one-preparation : (T : Terms) → Single (T .own) → (A B buffer : List ℕ) → Single (PreparationIs T A B buffer)
   pub one-start : (T : Terms) → Single (T .own) → (h : ℕ) (M D : List ℕ) → Single (StartIs T h M D)

@@ -42,7 +42,7 @@ module _ (j : Triple) (d : ℕ) (s : Share ℕ) where
 record Moves (x : Step) (c : Cursor) : Type 0 where
   pub a : past x c .a ≡ c .a + step-cost x .a
   pub b : past x c .b ≡ c .b + step-cost x .b
-  pub k : past x c .k ≡ c .k + step-cost x .deals
+  pub deals : past x c .deals ≡ c .deals + step-cost x .deals
 
 moves : (x : Step) (c : Cursor) → Moves x c
 unfolding past step-cost new-at past-deal
@@ -69,9 +69,9 @@ module _ (A B : List ℕ) (c : Cursor) (j : Triple) where
         deals = deals;
         says1 = says1;
         says2 = says2;
-        a = z .a ∙ ap (λ (n : ℕ). c .a + n) q;
-        b = z .b ∙ ap (λ (n : ℕ). c .b + n) r;
-        k = z .k ∙ ap (λ (n : ℕ). c .k + n) p;
+        used-a = z .a ∙ ap (λ (n : ℕ). c .a + n) q;
+        used-b = z .b ∙ ap (λ (n : ℕ). c .b + n) r;
+        used-deals = z .deals ∙ ap (λ (n : ℕ). c .deals + n) p;
         counted-deals = p;
         counted-words = ap (λ (k : Cost). k .words) counts;
         counted-a = q;

@@ -37,7 +37,7 @@ module _ (A B : List ℕ) where
     unfolding deals dealt past
     keeps2 (local d m l) ss c j g = rw (← of0-act (local d m l) c j) g
     keeps2 (deal d f) ss c j g = rw (← of0-act (deal d f) c j) (g .1)
-    keeps2 (exchange d e) ss c j g = rw (← of0-act (exchange d e) c j) (supply-exchange e (c .k) _ _ g)
+    keeps2 (exchange d e) ss c j g = rw (← of0-act (exchange d e) c j) (supply-exchange e (c .deals) _ _ g)
     keeps2 end ss c j g = rw (← of0-act end c j) g
 
     same2 : (x : Step) (ss : List Step) (c : Cursor) (j : Triple) → Supplied A B D (x ∷ ss) c j → quiet x
@@ -64,7 +64,7 @@ module _ (A B : List ℕ) where
     pub says2 : (d : ℕ) (e : Exchange) (ss : List Step) (c : Cursor) (j : Triple) → Supplied A B D (exchange d e ∷ ss) c j
         → word-of2 B D e c (of2 j) ≡ joint2 A B e c j
     unfolding word-of2 joint2 deals dealt
-    says2 d e ss c j g = say2-part e (c .k) _ _ (j .0) (j .2) (at B c.b) g
+    says2 d e ss c j g = say2-part e (c .deals) _ _ (j .0) (j .2) (at B c.b) g
 
     pub hears1 : (d : ℕ) (e : Exchange) (c : Cursor) (j : Triple) (w : ℕ) → w ≡ joint2 A B e c j
         → hear1 A d e c (of1 j) w ≡ of1 (act A B (exchange d e) c j)

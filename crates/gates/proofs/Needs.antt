@@ -39,7 +39,7 @@ cost-append (x ∷ ss) ts = rw (cost-append ss ts) (cost-path (omega arith) (ome
 pub record Further (c : Cursor) (k : Cost) (e : Cursor) : Type 0 where
   pub a : e .a ≡ c .a + k .a
   pub b : e .b ≡ c .b + k .b
-  pub deals : e .k ≡ c .k + k .deals
+  pub deals : e .deals ≡ c .deals + k .deals
 
 pub past-used : (x : Step) (c : Cursor) → Further c (step-cost x) (past x c)
 unfolding past step-cost new-at past-deal
@@ -81,12 +81,12 @@ emitted (refresh O a) x k ds = refl
 swap : (n k : ℕ) → suc n + k ≡ n + suc k
 swap n k = omega arith
 
-deals-far : (A B : List ℕ) (ss : List Step) (c : Cursor) (s : Pair) → length (deals A B ss c s) + c .k ≡ far ss c .k
+deals-far : (A B : List ℕ) (ss : List Step) (c : Cursor) (s : Pair) → length (deals A B ss c s) + c .deals ≡ far ss c .deals
 unfolding deals dealt far past
-deals-far A B [] c s = zero-add (c .k)
+deals-far A B [] c s = zero-add (c .deals)
 deals-far A B (local d m l ∷ ss) c s = deals-far A B ss _ _
-deals-far A B (deal d f ∷ ss) c s = swap _ (c .k) ∙ deals-far A B ss _ _
-deals-far A B (exchange d e ∷ ss) c s = emitted e _ (c .k) _ ∙ deals-far A B ss _ _
+deals-far A B (deal d f ∷ ss) c s = swap _ (c .deals) ∙ deals-far A B ss _ _
+deals-far A B (exchange d e ∷ ss) c s = emitted e _ (c .deals) _ ∙ deals-far A B ss _ _
 deals-far A B (end ∷ ss) c s = deals-far A B ss _ _
 
 pub deals-length : (A B : List ℕ) (ss : List Step) (c : Cursor) (s : Pair) → length (deals A B ss c s) ≡ cost ss .deals

@@ -31,6 +31,6 @@ module _ (x : Step) (u : Used) (e : u ≡ used-at x) where
   unfolding used-at
   behind-a c = ap (λ (v : Used). c .a + v .a) e ∙ sym (past-used x c .a)
 
-  pub behind-k : (c : Cursor) → c .k + u .deals ≡ past x c .k
+  pub behind-deals : (c : Cursor) → c .deals + u .deals ≡ past x c .deals
   unfolding used-at
-  behind-k c = ap (λ (v : Used). c .k + v .deals) e ∙ sym (past-used x c .deals)
+  behind-deals c = ap (λ (v : Used). c .deals + v .deals) e ∙ sym (past-used x c .deals)

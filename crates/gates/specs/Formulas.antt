@@ -94,9 +94,9 @@ module _ (A B : List ℕ) (c : Cursor) (j : Triple) where
     pub says1 : (later : List ℕ) → utter (joint1 A B) x c j later ≡ e .says1 ++ later
     pub says2 : (later : List ℕ) → utter (joint2 A B) x c j later ≡ e .says2 ++ later
     -- behind it, the next word of A, of B and of the deals is the one after those that it took or dealt
-    pub a : past x c .a ≡ c .a + length (e .a)
-    pub b : past x c .b ≡ c .b + length (e .b)
-    pub k : past x c .k ≡ c .k + length (e .deals)
+    pub used-a : past x c .a ≡ c .a + length (e .a)
+    pub used-b : past x c .b ≡ c .b + length (e .b)
+    pub used-deals : past x c .deals ≡ c .deals + length (e .deals)
     -- and just these are counted
     pub counted-deals : step-cost x .deals ≡ length (e .deals)
     pub counted-words : step-cost x .words ≡ length (e .says1) + length (e .says2)
@@ -149,4 +149,4 @@ used count next (x ∷ ss) c = places (next c) (count x) ++ used count next ss (
 pub record InTurn (ss : List Step) : Type 0 where
   pub a : used (λ x. step-cost x .a) (λ c. c .a) ss origin ≡ places 0 (cost ss .a)
   pub b : used (λ x. step-cost x .b) (λ c. c .b) ss origin ≡ places 0 (cost ss .b)
-  pub deals : used (λ x. step-cost x .deals) (λ c. c .k) ss origin ≡ places 0 (cost ss .deals)
+  pub deals : used (λ x. step-cost x .deals) (λ c. c .deals) ss origin ≡ places 0 (cost ss .deals)

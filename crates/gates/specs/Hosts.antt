@@ -81,20 +81,20 @@ module _ (A : List ℕ) where
   word-of1 e c s = say1 e (s .0) (s .1) (at A c.a) (at A (new-at e c.a))
 
   unfoldable pub hear1 : ℕ → Exchange → Cursor → Pair → ℕ → Pair
-  hear1 d e c s w = (set (s .0) d (meet e (word-of1 e c s) w), set (s .1) d (at A (new-at e c.a)))
+  hear1 d e c s v = (set (s .0) d (meet e (word-of1 e c s) v), set (s .1) d (at A (new-at e c.a)))
 
 -- ---- host 2, with B and the deals
 
 module _ (B D : List ℕ) where
   -- the next deal is its mask of a deal
   unfoldable pub act2 : Step → Cursor → Pair → Pair
-  act2 x c s = (on-m x (s .0), on-mask x (at D c.k) (s .1))
+  act2 x c s = (on-m x (s .0), on-mask x (at D c.deals) (s .1))
 
   unfoldable pub word-of2 : Exchange → Cursor → Pair → ℕ
-  word-of2 e c s = say2 e (s .0) (s .1) (at D c.k) (at B c.b)
+  word-of2 e c s = say2 e (s .0) (s .1) (at D c.deals) (at B c.b)
 
   unfoldable pub hear2 : ℕ → Exchange → Cursor → Pair → ℕ → Pair
-  hear2 d e c s w = (set (s .0) d (meet e w (word-of2 e c s)), set (s .1) d (at B c.b))
+  hear2 d e c s v = (set (s .0) d (meet e v (word-of2 e c s)), set (s .1) d (at B c.b))
 
 -- ---- all three at once
 
@@ -120,4 +120,4 @@ Starts D k (d ∷ ds) = (at D k ≡ d) × Starts D (suc k) ds
 
 -- D has what host 0 deals from here on
 abbrev pub Supplied : (A B D : List ℕ) → List Step → Cursor → Triple → Type 0
-Supplied A B D ss c j = Starts D (c .k) (deals A B ss c (of0 j))
+Supplied A B D ss c j = Starts D (c .deals) (deals A B ss c (of0 j))

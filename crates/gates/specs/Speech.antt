@@ -26,11 +26,11 @@ spoken2 (exchange d e) m l g2 l2 = say2 e m l g2 l2
 spoken2 end m l g2 l2 = 0
 
 -- the new m, from host 1's word and host 2's
-unfoldable pub met : Step → (v w : ℕ) → ℕ
-met (local d p q) v w = 0
-met (deal d f) v w = 0
-met (exchange d e) v w = meet e v w
-met end v w = 0
+unfoldable pub met : Step → (u v : ℕ) → ℕ
+met (local d p q) u v = 0
+met (deal d f) u v = 0
+met (exchange d e) u v = meet e u v
+met end u v = 0
 
 -- the shape of a step that is a gate's, with the target where a walk needs it
 unfoldable pub shape : Step → Shape

@@ -37,8 +37,8 @@ say2 (refresh O a) m l g2 l2 = refresh-word2 O (at l a) l2
 
 -- "the new m is the sum" of host 1's word and host 2's
 unfoldable pub meet : Exchange → ℕ → ℕ → ℕ
-meet (product O a b) v w = O .add v w
-meet (refresh O a) v w = O .add v w
+meet (product O a b) u v = O .add u v
+meet (refresh O a) u v = O .add u v
 
 -- the deal g2 of a product; a refresh has none
 unfoldable pub part2 : Exchange → (g1 : ℕ) (l1 l2 : Lane) → ℕ
@@ -64,14 +64,14 @@ pub record Cursor : Type 0 where
   pub turn : ℕ
   pub a : ℕ
   pub b : ℕ
-  pub k : ℕ
+  pub deals : ℕ
 
 abbrev pub origin : Cursor
-origin = record { order = 0; turn = 0; a = 0; b = 0; k = 0 }
+origin = record { order = 0; turn = 0; a = 0; b = 0; deals = 0 }
 
 -- the cursor behind a step: a deal uses one word of A, a product two of A, one of B and a deal, a refresh one of A and one of B
 unfoldable pub past : Step → Cursor → Cursor
 past (local d m l) c = c
-past (deal d f) c = record { order = c.order; turn = c.turn; a = suc c.a; b = c.b; k = suc c.k }
-past (exchange d e) c = record { order = c.order; turn = suc c.turn; a = suc (new-at e c.a); b = suc c.b; k = past-deal e c.k }
-past end c = record { order = suc c.order; turn = 0; a = c.a; b = c.b; k = c.k }
+past (deal d f) c = record { order = c.order; turn = c.turn; a = suc c.a; b = c.b; deals = suc c.deals }
+past (exchange d e) c = record { order = c.order; turn = suc c.turn; a = suc (new-at e c.a); b = suc c.b; deals = past-deal e c.deals }
+past end c = record { order = suc c.order; turn = 0; a = c.a; b = c.b; deals = c.deals }

@@ -58,13 +58,13 @@ module _ (S : Stage) where
         (or-else-zero (S .script .fault) _ (acc .script)
         (rw (le-ltb (length (S .A)) (k .a) (acc .a), le-ltb (length (S .B)) (k .b) (acc .b), le-ltb (length buf) (k .deals) (acc .deals))))
 
-    start-zero : (L : Lent) (r : Pair) → lent-fault L .0 ≡ 0 → start L r .number ≡ 0
+    start-zero : (loan : Lent) (r : Pair) → lent-fault loan .0 ≡ 0 → start loan r .number ≡ 0
     unfolding start
-    start-zero L r e = ap (λ (a : Answer). a .number) (unless-zero (lent-fault L .0) (lent-fault L) (given r) (report (worker-of L) (start-walk L r)) e)
+    start-zero loan r e = ap (λ (a : Answer). a .number) (unless-zero (lent-fault loan .0) (lent-fault loan) (given r) (report (worker-of loan) (start-walk loan r)) e)
 
-    hear-zero : (L : Lent) (s : State) (v : ℕ) → lent-fault L .0 ≡ 0 → resume (worker-of L) s v (found-of L s) .number ≡ 0 → hear L s v .number ≡ 0
+    hear-zero : (loan : Lent) (s : State) (v : ℕ) → lent-fault loan .0 ≡ 0 → resume (worker-of loan) s v (found-of loan s) .number ≡ 0 → hear loan s v .number ≡ 0
     unfolding hear
-    hear-zero L s v e h = ap (λ (a : Answer). a .number) (unless-zero (lent-fault L .0) (lent-fault L) s (resume (worker-of L) s v (found-of L s)) e) ∙ h
+    hear-zero loan s v e h = ap (λ (a : Answer). a .number) (unless-zero (lent-fault loan .0) (lent-fault loan) s (resume (worker-of loan) s v (found-of loan s)) e) ∙ h
 
   -- both hosts' places are the end
   pub record Ended (v : World) : Type 0 where

@@ -26,24 +26,24 @@ unfolding unless
 unless-state zero f s a e h k = k h
 unless-state (suc n) f s a e h k = refl
 
-pub start-none : (L : Lent) (r : Pair) → start L r .number ≡ 0 → (lent-fault L .0 ≡ 0) × (start L r ≡ report (worker-of L) (start-walk L r))
+pub start-none : (loan : Lent) (r : Pair) → start loan r .number ≡ 0 → (lent-fault loan .0 ≡ 0) × (start loan r ≡ report (worker-of loan) (start-walk loan r))
 unfolding start
-start-none L r h = unless-none (lent-fault L .0) (lent-fault L) (given r) (report (worker-of L) (start-walk L r)) refl h
+start-none loan r h = unless-none (lent-fault loan .0) (lent-fault loan) (given r) (report (worker-of loan) (start-walk loan r)) refl h
 
-pub start-state : (L : Lent) (r : Pair) → start L r .number ≢ 0 → start L r .state ≡ given r
+pub start-state : (loan : Lent) (r : Pair) → start loan r .number ≢ 0 → start loan r .state ≡ given r
 unfolding start
-start-state L r h = unless-state (lent-fault L .0) (lent-fault L) (given r) (report (worker-of L) (start-walk L r)) refl h (λ k. absurd (k refl))
+start-state loan r h = unless-state (lent-fault loan .0) (lent-fault loan) (given r) (report (worker-of loan) (start-walk loan r)) refl h (λ k. absurd (k refl))
 
-pub hear-none : (L : Lent) (s : State) (v : ℕ) → hear L s v .number ≡ 0 → (lent-fault L .0 ≡ 0) × (hear L s v ≡ resume (worker-of L) s v (found-of L s))
+pub hear-none : (loan : Lent) (s : State) (v : ℕ) → hear loan s v .number ≡ 0 → (lent-fault loan .0 ≡ 0) × (hear loan s v ≡ resume (worker-of loan) s v (found-of loan s))
 unfolding hear
-hear-none L s v h = unless-none (lent-fault L .0) (lent-fault L) s (resume (worker-of L) s v (found-of L s)) refl h
+hear-none loan s v h = unless-none (lent-fault loan .0) (lent-fault loan) s (resume (worker-of loan) s v (found-of loan s)) refl h
 
-pub hear-state : (L : Lent) (s : State) (v : ℕ) → hear L s v .number ≢ 0 → hear L s v .state ≡ s
+pub hear-state : (loan : Lent) (s : State) (v : ℕ) → hear loan s v .number ≢ 0 → hear loan s v .state ≡ s
 unfolding hear resume
-hear-state L s v h =
-    let f = found-of L s in
-    let P = worker-of L in
-    unless-state (lent-fault L .0) (lent-fault L) s (unless (place-fault f) (place-fault f, 0) s (report P (hear-walk P s v f))) refl h
+hear-state loan s v h =
+    let f = found-of loan s in
+    let P = worker-of loan in
+    unless-state (lent-fault loan .0) (lent-fault loan) s (unless (place-fault f) (place-fault f, 0) s (report P (hear-walk P s v f))) refl h
     (λ k. unless-state (place-fault f) (place-fault f, 0) s (report P (hear-walk P s v f)) refl k (λ z. absurd (z refl)))
 
 prepared-back : (n : ℕ) (f : Fault) (σ : Script) (A B buf : List ℕ) (r : Pair) → f .0 ≡ n → prepared n f σ A B buf r .number ≢ 0
@@ -71,6 +71,6 @@ take-fresh n l h =
 
 pub turned-same : (n : ℕ) {s s′ : State} → Holds n s → Turned n s s′ → s′ ≡ s
 unfolding given
-turned-same n {s} z (at-start L h) =
-    rw (start-state L (registers n s) h, take-fresh n (s .m) (z .m), take-fresh n (s .mask) (z .mask))
-turned-same n {s} z (at-hearing L v h) = hear-state L s v h
+turned-same n {s} z (at-start loan h) =
+    rw (start-state loan (registers n s) h, take-fresh n (s .m) (z .m), take-fresh n (s .mask) (z .mask))
+turned-same n {s} z (at-hearing loan v h) = hear-state loan s v h

@@ -176,13 +176,13 @@ module _ (S : Stage) where
 
   -- ---- a call that can complete can be lent exactly what document 01 says
 
-  pub start-zero : (L : Lent) (r : Pair) → lent-fault L .0 ≡ 0 → start L r .number ≡ 0
+  pub start-zero : (loan : Lent) (r : Pair) → lent-fault loan .0 ≡ 0 → start loan r .number ≡ 0
   unfolding start
-  start-zero L r e = ap (λ (a : Answer). a .number) (unless-zero (lent-fault L .0) (lent-fault L) (given r) (report (worker-of L) (start-walk L r)) e)
+  start-zero loan r e = ap (λ (a : Answer). a .number) (unless-zero (lent-fault loan .0) (lent-fault loan) (given r) (report (worker-of loan) (start-walk loan r)) e)
 
-  pub hear-zero : (L : Lent) (s : State) (v : ℕ) → lent-fault L .0 ≡ 0 → resume (worker-of L) s v (found-of L s) .number ≡ 0 → hear L s v .number ≡ 0
+  pub hear-zero : (loan : Lent) (s : State) (v : ℕ) → lent-fault loan .0 ≡ 0 → resume (worker-of loan) s v (found-of loan s) .number ≡ 0 → hear loan s v .number ≡ 0
   unfolding hear
-  hear-zero L s v e h = ap (λ (a : Answer). a .number) (unless-zero (lent-fault L .0) (lent-fault L) s (resume (worker-of L) s v (found-of L s)) e) ∙ h
+  hear-zero loan s v e h = ap (λ (a : Answer). a .number) (unless-zero (lent-fault loan .0) (lent-fault loan) s (resume (worker-of loan) s v (found-of loan s)) e) ∙ h
 
   module _ (E : List ℕ) where
     pub start-other : (D : List ℕ) (r : Pair) → start (lent1 S D) r .number ≡ 0 → start (lent1 S E) r .number ≡ 0

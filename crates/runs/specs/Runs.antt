@@ -110,9 +110,9 @@ with-registers n s r =
 -- ---- refused calls, lent anything: what the host holds next is built from the call's answer
 
 pub data Turned (n : ℕ) : State → State → Type 0 where
-  at-start : {s : State} (L : Lent) → start L (registers n s) .number ≢ 0
-      → Turned n s (with-registers n s (registers n (start L (registers n s) .state)))
-  at-hearing : {s : State} (L : Lent) (v : ℕ) → hear L s v .number ≢ 0 → Turned n s (hear L s v .state)
+  at-start : {s : State} (loan : Lent) → start loan (registers n s) .number ≢ 0
+      → Turned n s (with-registers n s (registers n (start loan (registers n s) .state)))
+  at-hearing : {s : State} (loan : Lent) (v : ℕ) → hear loan s v .number ≢ 0 → Turned n s (hear loan s v .state)
 
 pub data Refuses (n : ℕ) : World → World → Type 0 where
   -- a preparation, lent the run's buffer
@@ -168,14 +168,14 @@ module _ (S : Stage) where
 
   -- a host after its starting, and after a hearing
   abbrev pub started : Lent → State → Side
-  started L s =
-      going (start L (held s) .state) (start-walk L (held s) .trail)
-      (utter (start L (held s) .state) (start L (held s) .word) ∷ [])
+  started loan s =
+      going (start loan (held s) .state) (start-walk loan (held s) .trail)
+      (utter (start loan (held s) .state) (start loan (held s) .word) ∷ [])
 
   abbrev pub stepped : Lent → State → (v : ℕ) → List Pair → List Spoken → Side
-  stepped L s v t said =
-      going (hear L s v .state) (t ++ hear-walk (worker-of L) s v (found-of L s) .trail)
-      (utter (hear L s v .state) (hear L s v .word) ∷ said)
+  stepped loan s v t said =
+      going (hear loan s v .state) (t ++ hear-walk (worker-of loan) s v (found-of loan s) .trail)
+      (utter (hear loan s v .state) (hear loan s v .word) ∷ said)
 
   pub data Completes : Call → World → World → Type 0 where
     prepares : {r : Pair} {buf : List ℕ} {one two : Side} → preparation buf r .number ≡ 0

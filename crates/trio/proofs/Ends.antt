@@ -38,7 +38,7 @@ far-closed (x ∷ ss) c h e = far-closed ss (past x c) (h .1) (λ n. end-alone x
 
 -- the steps ahead of a state's place
 abbrev pub ahead : Lending → State → ℕ
-ahead L s = steps-in (seek (s .order) (s .turn) (L .script .steps) origin)
+ahead loan s = steps-in (seek (s .order) (s .turn) (loan .script .steps) origin)
 
 -- an answer with no step left
 last-answer : (h : Triple → Pair) (say : Exchange → Cursor → Triple → ℕ) (ss : List Step) (c : Cursor) (j : Triple) (t : List Triple) (b o : ℕ) → ss ≡ [] → c .b ≡ b → c .order ≡ o

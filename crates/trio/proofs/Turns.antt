@@ -32,20 +32,20 @@ not-started (suc n) i m mask fm fl a h p q = rw (p, q)
 
 -- ---- preparation and both startings, from the answers of the calls
 
-pub begins : (L : Lending) (r : Triple) (buf D : List ℕ) (p : Prepared) (a b : Answer) → p ≡ preparation L r buf → p .buffer ≡ D
-    → a ≡ unless (p .number) (p .number, p .index) (given (of1 r)) (start (to1 L D) (of1 r)) → b ≡ unless (p .number) (p .number, p .index) (given (of2 r)) (start (to2 L D) (of2 r))
-    → record { number = p .number; index = p .index; deals = p .deals; masks = p .masks; one = a; two = b; buffer = D } ≡ begun L r buf
+pub begins : (loan : Lending) (r : Triple) (buf D : List ℕ) (p : Prepared) (a b : Answer) → p ≡ preparation loan r buf → p .buffer ≡ D
+    → a ≡ unless (p .number) (p .number, p .index) (given (of1 r)) (start (to1 loan D) (of1 r)) → b ≡ unless (p .number) (p .number, p .index) (given (of2 r)) (start (to2 loan D) (of2 r))
+    → record { number = p .number; index = p .index; deals = p .deals; masks = p .masks; one = a; two = b; buffer = D } ≡ begun loan r buf
 unfolding begun prepared
-begins L r buf D p a b e d f g = rw (f, g, ← d, e)
+begins loan r buf D p a b e d f g = rw (f, g, ← d, e)
 
 -- ---- the loop
 
-abbrev pub stage : (L : Lending) (r : Triple) → Full (L .script .slots) r → Stage
-stage L r h =
+abbrev pub stage : (loan : Lending) (r : Triple) → Full (loan .script .slots) r → Stage
+stage loan r h =
     record {
-      script = L .script;
-      A = L .A;
-      B = L .B;
+      script = loan .script;
+      A = loan .A;
+      B = loan .B;
       rm = r .0;
       r1 = r .1;
       r2 = r .2;
@@ -54,38 +54,38 @@ stage L r h =
       r2-full = h .l2;
     }
 
-prepared-none : (L : Lending) (r : Triple) (h : Full (L .script .slots) r) (buf : List ℕ) (s : Trio) → s ≡ begun L r buf → s .number ≡ 0 → P (stage L r h) buf .number ≡ 0
+prepared-none : (loan : Lending) (r : Triple) (h : Full (loan .script .slots) r) (buf : List ℕ) (s : Trio) → s ≡ begun loan r buf → s .number ≡ 0 → P (stage loan r h) buf .number ≡ 0
 unfolding begun prepared preparation
-prepared-none L r h buf s e z = ap (λ (x : Trio). x .number) (sym e) ∙ z
+prepared-none loan r h buf s e z = ap (λ (x : Trio). x .number) (sym e) ∙ z
 
 -- what the loop keeps of the three hosts s, whatever registers and buffer they began with
 abbrev pub Going : Lending → (first s : Trio) → Type 0
-Going L f s = (r : Triple) (h : Full (L .script .slots) r) (buf : List ℕ) → f ≡ begun L r buf → f .number ≡ 0 → Standing (stage L r h) buf s
+Going loan f s = (r : Triple) (h : Full (loan .script .slots) r) (buf : List ℕ) → f ≡ begun loan r buf → f .number ≡ 0 → Standing (stage loan r h) buf s
 
-pub going-in : (L : Lending) (s : Trio) → Going L s s
-going-in L s r h buf e z = rw e (begun-stands (stage L r h) buf (prepared-none L r h buf s e z))
+pub going-in : (loan : Lending) (s : Trio) → Going loan s s
+going-in loan s r h buf e z = rw e (begun-stands (stage loan r h) buf (prepared-none loan r h buf s e z))
 
 -- k is the number of orders
-module _ (L : Lending) (shut : Closed (L .script .steps)) (k : ℕ) (ek : orders-in (L .script) ≡ k) (f s : Trio) (g : Going L f s) where
-  turned : (r : Triple) (h : Full (L .script .slots) r) (buf : List ℕ) (e : f ≡ begun L r buf) (z : f .number ≡ 0) → s .one .state .order < k
-      → Turn (stage L r h) shut buf (prepared-none L r h buf f e z) s
-  turned r h buf e z l = turn (stage L r h) shut buf (prepared-none L r h buf f e z) s (g r h buf e z) (rw ek l)
+module _ (loan : Lending) (shut : Closed (loan .script .steps)) (k : ℕ) (ek : orders-in (loan .script) ≡ k) (f s : Trio) (g : Going loan f s) where
+  turned : (r : Triple) (h : Full (loan .script .slots) r) (buf : List ℕ) (e : f ≡ begun loan r buf) (z : f .number ≡ 0) → s .one .state .order < k
+      → Turn (stage loan r h) shut buf (prepared-none loan r h buf f e z) s
+  turned r h buf e z l = turn (stage loan r h) shut buf (prepared-none loan r h buf f e z) s (g r h buf e z) (rw ek l)
 
-  pub going-on : (t : Trio) → t ≡ heard L s → s .one .state .order < k → Going L f t
+  pub going-on : (t : Trio) → t ≡ heard loan s → s .one .state .order < k → Going loan f t
   going-on t p l r h buf e z = rw p (turned r h buf e z l .stands)
 
-  pub nearer : (r : Triple) (h : Full (L .script .slots) r) (buf : List ℕ) (e : f ≡ begun L r buf) (z : f .number ≡ 0) (t : Trio) → t ≡ heard L s → s .one .state .order < k
-      → ahead L (t .one .state) < ahead L (s .one .state)
+  pub nearer : (r : Triple) (h : Full (loan .script .slots) r) (buf : List ℕ) (e : f ≡ begun loan r buf) (z : f .number ≡ 0) (t : Trio) → t ≡ heard loan s → s .one .state .order < k
+      → ahead loan (t .one .state) < ahead loan (s .one .state)
   nearer r h buf e z t p l = rw p (turned r h buf e z l .fewer)
 
-  pub arrived : (r : Triple) (h : Full (L .script .slots) r) (buf : List ℕ) (e : f ≡ begun L r buf) (z : f .number ≡ 0) → k ≤ s .one .state .order → s ≡ together L r buf
-  arrived r h buf e z l = finish (stage L r h) shut buf (prepared-none L r h buf f e z) s (g r h buf e z) (rw ek l)
+  pub arrived : (r : Triple) (h : Full (loan .script .slots) r) (buf : List ℕ) (e : f ≡ begun loan r buf) (z : f .number ≡ 0) → k ≤ s .one .state .order → s ≡ together loan r buf
+  arrived r h buf e z l = finish (stage loan r h) shut buf (prepared-none loan r h buf f e z) s (g r h buf e z) (rw ek l)
 
 -- an accepted script has no fault; an accepted job is short
-begun-accepted : (L : Lending) (r : Triple) (buf : List ℕ) (s : Trio) → s ≡ begun L r buf → s .number ≡ 0 → L .script .fault .0 ≡ 0
+begun-accepted : (loan : Lending) (r : Triple) (buf : List ℕ) (s : Trio) → s ≡ begun loan r buf → s .number ≡ 0 → loan .script .fault .0 ≡ 0
 unfolding begun prepared preparation dealer-fault
-begun-accepted L r buf s e z =
-    or-else-none (L .script .fault) _ (prepare-number (L .script) (L .A) (L .B) buf (of0 r) ∙ ap (λ (x : Trio). x .number) (sym e) ∙ z) .0
+begun-accepted loan r buf s e z =
+    or-else-none (loan .script .fault) _ (prepare-number (loan .script) (loan .A) (loan .B) buf (of0 r) ∙ ap (λ (x : Trio). x .number) (sym e) ∙ z) .0
 
 module _ (job table A B : List ℕ) where
   pub few-words : (r : Triple) (buf : List ℕ) (s : Trio) → s ≡ begun (lending (job-script 32 job table) A B) r buf → s .number ≡ 0 → length job ≤ 256
@@ -101,11 +101,11 @@ unfolding unless
 ended-refused zero i s a b h = absurd (h refl)
 ended-refused (suc n) i s a b h = refl
 
-pub refused-together : (L : Lending) (r : Triple) (buf : List ℕ) (s : Trio) → s ≡ begun L r buf → s .number ≢ 0 → s ≡ together L r buf
+pub refused-together : (loan : Lending) (r : Triple) (buf : List ℕ) (s : Trio) → s ≡ begun loan r buf → s .number ≢ 0 → s ≡ together loan r buf
 unfolding begun together prepared
-refused-together L r buf s e h =
-    let n : preparation L r buf .number ≢ 0 = λ z. h (ap (λ (x : Trio). x .number) e ∙ z) in
+refused-together loan r buf s e h =
+    let n : preparation loan r buf .number ≢ 0 = λ z. h (ap (λ (x : Trio). x .number) e ∙ z) in
     e ∙ rw (
-      ended-refused (preparation L r buf .number) (preparation L r buf .index) (given (of1 r)) (start (to1 L (preparation L r buf .buffer)) (of1 r)) (ended L (of1 (left L r))) n,
-      ended-refused (preparation L r buf .number) (preparation L r buf .index) (given (of2 r)) (start (to2 L (preparation L r buf .buffer)) (of2 r)) (ended L (of2 (left L r))) n,
+      ended-refused (preparation loan r buf .number) (preparation loan r buf .index) (given (of1 r)) (start (to1 loan (preparation loan r buf .buffer)) (of1 r)) (ended loan (of1 (left loan r))) n,
+      ended-refused (preparation loan r buf .number) (preparation loan r buf .index) (given (of2 r)) (start (to2 loan (preparation loan r buf .buffer)) (of2 r)) (ended loan (of2 (left loan r))) n,
     )

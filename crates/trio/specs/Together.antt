@@ -58,14 +58,14 @@ pub record Full (n : ℕ) (r : Triple) : Type 0 where
 
 -- host 1 is lent A, host 2 B; both the deals, of which host 1 takes no notice
 abbrev pub to1 : Lending → (deals : List ℕ) → Lent
-to1 L D = record { host = 1; script = L .script; masks = L .A; deals = D }
+to1 loan D = record { host = 1; script = loan .script; masks = loan .A; deals = D }
 
 abbrev pub to2 : Lending → (deals : List ℕ) → Lent
-to2 L D = record { host = 2; script = L .script; masks = L .B; deals = D }
+to2 loan D = record { host = 2; script = loan .script; masks = loan .B; deals = D }
 
-module _ (L : Lending) where
+module _ (loan : Lending) where
   unfoldable pub preparation : Triple → (buffer : List ℕ) → Prepared
-  preparation r buf = prepare (L .script) (L .A) (L .B) buf (of0 r)
+  preparation r buf = prepare (loan .script) (loan .A) (loan .B) buf (of0 r)
 
   -- the three hosts after the preparation, with these answers of hosts 1 and 2; neither starts where the preparation is
   -- refused
@@ -84,8 +84,8 @@ module _ (L : Lending) where
   -- preparation, then both startings
   unfoldable pub begun : Triple → (buffer : List ℕ) → Trio
   begun r buf =
-      prepared r (preparation r buf) (start (to1 L (preparation r buf .buffer)) (of1 r))
-      (start (to2 L (preparation r buf .buffer)) (of2 r))
+      prepared r (preparation r buf) (start (to1 loan (preparation r buf .buffer)) (of1 r))
+      (start (to2 loan (preparation r buf .buffer)) (of2 r))
 
   -- each hears "the word the other host spoke"
   unfoldable pub heard : Trio → Trio
@@ -95,14 +95,14 @@ module _ (L : Lending) where
         index = s .index;
         deals = s .deals;
         masks = s .masks;
-        one = hear (to1 L (s .buffer)) (s .one .state) (s .two .word);
-        two = hear (to2 L (s .buffer)) (s .two .state) (s .one .word);
+        one = hear (to1 loan (s .buffer)) (s .one .state) (s .two .word);
+        two = hear (to2 loan (s .buffer)) (s .two .state) (s .one .word);
         buffer = s .buffer;
       }
 
   -- the three hosts' lanes m, L1 and L2 when every gate is done
   unfoldable pub left : Triple → Triple
-  left r = whole (act (L .A) (L .B)) (L .script .steps) origin (fresh (r .0), fresh (r .1), fresh (r .2)) [] .state
+  left r = whole (act (loan .A) (loan .B)) (loan .script .steps) origin (fresh (r .0), fresh (r .1), fresh (r .2)) [] .state
 
   -- a host at the end: "the end is the number of orders and 0", "the word given is 0", and each host has spoken a word
   -- for each word of B, half the script's words
@@ -111,9 +111,9 @@ module _ (L : Lending) where
       record {
         number = 0;
         index = 0;
-        spoken = script-cost (L .script) .b;
+        spoken = script-cost (loan .script) .b;
         word = 0;
-        state = record { m = s .0; mask = s .1; order = orders-in (L .script); turn = 0 };
+        state = record { m = s .0; mask = s .1; order = orders-in (loan .script); turn = 0 };
       }
 
   -- the whole script

@@ -48,7 +48,7 @@ pub record There (J T : List ℕ) (o x i a b k : ℕ) : Type 0 where
   pub few-turns : x < 1000
   pub few-a : a < 2 ^ 30
   pub few-b : b < 2 ^ 30
-  pub few-k : k < 2 ^ 30
+  pub few-deals : k < 2 ^ 30
   pub is : seek o x (job-steps 32 (job-gates 32 J T)) origin ≡ found (steps-from 32 i (drop o (job-gates 32 J T))) (cursor o x a b k)
 
 module _ (J T : List ℕ) (Z : Sized J T) (o x : ℕ) (e : o < length J / 4) where
@@ -69,7 +69,7 @@ module _ (J T : List ℕ) (Z : Sized J T) (o x : ℕ) (e : o < length J / 4) whe
         few-turns = omega (arith, p .turns);
         few-a = omega (arith, p .few-a, b .few-a, Z .few-words);
         few-b = omega (arith, p .turns, b .few-b, Z .few-words);
-        few-k = omega (arith, p .few-k, b .few-deals, Z .few-words);
+        few-deals = omega (arith, p .few-deals, b .few-deals, Z .few-words);
         is = at-place 32 (job-gates 32 J T) o x (omega (arith, gates-count 32 J T)) i a k p ∙ ap (λ (ss : List Step). found ss (cursor o x (before 32 (job-gates 32 J T) o .a + a) (before 32 (job-gates 32 J T) o .b + x) (before 32 (job-gates 32 J T) o .deals + k))) (steps p ei eg at);
       }
     where

@@ -13,7 +13,7 @@ use Rattle.gates.specs.Steps.{Lane, Step, local, deal, exchange, end, Cursor, p
 use Rattle.gates.specs.Meaning.{meaning, order-steps, job-steps}
 use Rattle.gates.specs.Walk.{Exchanging}
 use Rattle.gates.specs.Hosts.{Pair}
-use Rattle.gates.proofs.Uses.{behind-a, behind-k}
+use Rattle.gates.proofs.Uses.{behind-a, behind-deals}
 use Rattle.programs.specs.declared.Order.{Order}
 use Rattle.program_fetch.specs.declared.Fetched.{Fetched}
 use Rattle.program_fetch.specs.declared.Fetched.the-variants.{At, Past}
@@ -32,7 +32,7 @@ use Rattle.worker.proofs.Advancing.{word-any}
 -- ---- the cursor behind a product or refresh
 
 past-exchange : (y : Step) → Exchanging (y ∷ []) → (o x a b k : ℕ)
-    → past y (cursor o x a b k) ≡ cursor o (suc x) (past y (cursor 0 0 a 0 k) .a) (suc b) (past y (cursor 0 0 a 0 k) .k)
+    → past y (cursor o x a b k) ≡ cursor o (suc x) (past y (cursor 0 0 a 0 k) .a) (suc b) (past y (cursor 0 0 a 0 k) .deals)
 unfolding past
 past-exchange (local d m l) h o x a b k = absurd h
 past-exchange (deal d f) h o x a b k = absurd h
@@ -72,7 +72,7 @@ module _ (h : ℕ) (M D : List ℕ) (os : List (List Gate)) (o i : ℕ) (gs : Li
       ≡ report (worker-with h M D) (hear-walk (worker-with h M D) s v (found (steps-from 32 i (drop o os)) (cursor o (s .turn) a b k)))
   resumed w s v a b k i′ a′ k′ m l u eu em ei ea ek =
       let y = meaning 32 g in
-      let c : past y (cursor o (s .turn) a b k) ≡ cursor o (s .turn + 1) a′ (b + 1) k′ = rw (add-one (s .turn), add-one b, ea, ek, behind-a y u eu (cursor 0 0 a 0 k), behind-k y u eu (cursor 0 0 a 0 k)) (past-exchange y w o (s .turn) a b k) in
+      let c : past y (cursor o (s .turn) a b k) ≡ cursor o (s .turn + 1) a′ (b + 1) k′ = rw (add-one (s .turn), add-one b, ea, ek, behind-a y u eu (cursor 0 0 a 0 k), behind-deals y u eu (cursor 0 0 a 0 k)) (past-exchange y w o (s .turn) a b k) in
       ap (λ (n : ℕ). reported (worker-with h M D) (steps-from 32 n (drop o os)) (cursor o (s .turn + 1) a′ (b + 1) k′) (m, l)) ei
       ∙ sym
       (ap (λ (ss : List Step). report (worker-with h M D) (hear-walk (worker-with h M D) s v (found ss (cursor o (s .turn) a b k)))) steps-at

@@ -18,8 +18,8 @@ use Rattle.worker_gate.specs.Exchanges.{cursor}
 use Rattle.worker.proofs.Walking.{OfGate, of-gate}
 use Rattle.worker.proofs.Seeking.{not-here, just-here, not-yet, Placed, not-placed}
 
-cursor-path : {c d : Cursor} → c .order ≡ d .order → c .turn ≡ d .turn → c .a ≡ d .a → c .b ≡ d .b → c .k ≡ d .k → c ≡ d
-cursor-path p q r s t = λ i. record { order = p i; turn = q i; a = r i; b = s i; k = t i }
+cursor-path : {c d : Cursor} → c .order ≡ d .order → c .turn ≡ d .turn → c .a ≡ d .a → c .b ≡ d .b → c .deals ≡ d .deals → c ≡ d
+cursor-path p q r s t = λ i. record { order = p i; turn = q i; a = r i; b = s i; deals = t i }
 
 -- ---- the orders before a place
 
@@ -105,4 +105,4 @@ module _ (w : ℕ) (os : List (List Gate)) (o x : ℕ) where
       let r = q .reached o x (p .0 .cur) (omega (arith, p .0 .in-order)) (omega (arith, p .0 .at-turn)) in
       let e : seek o x (job-steps w (drop o os)) (p .0 .cur) ≡ found (meaning w (q .gate) ∷ order-steps w (drop (suc (q .j)) (getD os o [])) (job-steps w (drop (suc o) os))) (r .cur) = rw (drop-cons os o [] h) (r .is) in
       p .0 .same ∙ e ∙ ap (λ (c : Cursor). found (meaning w (q .gate) ∷ order-steps w (drop (suc (q .j)) (getD os o [])) (job-steps w (drop (suc o) os))) c)
-      (cursor-path (omega (arith, p .0 .in-order, r .in-order)) (omega (arith, p .0 .at-turn, r .at-turn)) (omega (arith, u .a, r .used-a)) (omega (arith, u .b, r .used-b)) (omega (arith, u .deals, r .used-k)))
+      (cursor-path (omega (arith, p .0 .in-order, r .in-order)) (omega (arith, p .0 .at-turn, r .at-turn)) (omega (arith, u .a, r .used-a)) (omega (arith, u .b, r .used-b)) (omega (arith, u .deals, r .used-deals)))

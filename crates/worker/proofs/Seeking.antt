@@ -55,7 +55,7 @@ pub record Reached (f : Found) (ss : List Step) (c : Cursor) (n a k a′ k′ : 
   pub at-turn : cur .turn ≡ c .turn + n
   pub used-a : cur .a + a ≡ c .a + a′
   pub used-b : cur .b ≡ c .b + n
-  pub used-k : cur .k + k ≡ c .k + k′
+  pub used-deals : cur .deals + k ≡ c .deals + k′
 
 -- the n-th product or refresh of gs stands j gates on
 pub record Placed (w : ℕ) (gs : List Gate) (ss : List Step) (n i a k i′ a′ k′ : ℕ) : Type 0 where
@@ -67,7 +67,7 @@ pub record Placed (w : ℕ) (gs : List Gate) (ss : List Step) (n i a k i′ a′
   pub inside : j < length gs
   pub turns : n ≤ j
   pub few-a : a′ ≤ a + 2 * j
-  pub few-k : k′ ≤ k + j
+  pub few-deals : k′ ≤ k + j
   pub reached : (o x : ℕ) (c : Cursor) → c .order ≡ o → x ≡ c .turn + n
       → Reached (seek o x (order-steps w gs ss) c) (meaning w gate ∷ order-steps w (drop (suc j) gs) ss) c n a k a′ k′
 
@@ -98,7 +98,7 @@ module _ (w : ℕ) (g : Gate) (gs : List Gate) (ss : List Step) (i a k i′ a′
         inside = omega (arith, p .inside);
         turns = omega (arith, p .turns);
         few-a = omega (arith, p .few-a);
-        few-k = omega (arith, p .few-k);
+        few-deals = omega (arith, p .few-deals);
         reached = λ o x c ho hx. r o x c ho hx p;
       }
 
@@ -118,7 +118,7 @@ module _ (w : ℕ) (g : Gate) (gs : List Gate) (ss : List Step) (i a k i′ a′
         inside = omega arith;
         turns = omega arith;
         few-a = omega arith;
-        few-k = omega arith;
+        few-deals = omega arith;
         reached = λ o x c ho hx. record {
           cur = c;
           is = rw (m, just-here o x c ho (omega arith));
@@ -126,7 +126,7 @@ module _ (w : ℕ) (g : Gate) (gs : List Gate) (ss : List Step) (i a k i′ a′
           at-turn = omega arith;
           used-a = omega arith;
           used-b = omega arith;
-          used-k = omega arith;
+          used-deals = omega arith;
         };
       }
 
@@ -137,7 +137,7 @@ module _ (w : ℕ) (g : Gate) (gs : List Gate) (ss : List Step) (i a k i′ a′
       let t = takes e a k in
       further (suc n) n (suc (new-at e a)) (past-deal e k) z (omega arith) (omega arith) (omega arith) (λ o x c ho hx q.
       let r = q .reached o x (past (exchange d e) c) ho (omega arith) in
-      let t′ = takes e (c .a) (c .k) in
+      let t′ = takes e (c .a) (c .deals) in
       record {
         cur = r .cur;
         is = rw (m, not-yet o x c (λ h. omega arith)) (r .is);
@@ -145,7 +145,7 @@ module _ (w : ℕ) (g : Gate) (gs : List Gate) (ss : List Step) (i a k i′ a′
         at-turn = omega (arith, r .at-turn);
         used-a = omega (arith, r .used-a);
         used-b = omega (arith, r .used-b);
-        used-k = omega (arith, r .used-k);
+        used-deals = omega (arith, r .used-deals);
       })
 
   passed : ((m j b l : ℕ) → sought w gs m j b l ≡ Sought.Found i′ a′ k′ → Placed w gs ss m j b l i′ a′ k′)
@@ -156,7 +156,7 @@ module _ (w : ℕ) (g : Gate) (gs : List Gate) (ss : List Step) (i a k i′ a′
   passed ih (deal d m) n e h f =
       further n n (suc a) (suc k) (ih n (suc i) (suc a) (suc k) f) (omega arith) (omega arith) (omega arith) (λ o x c ho hx q.
       let r = q .reached o x (past (deal d m) c) ho hx in
-      record { cur = r .cur; is = rw e (r .is); in-order = r .in-order; at-turn = r .at-turn; used-a = omega (arith, r .used-a); used-b = r .used-b; used-k = omega (arith, r .used-k) })
+      record { cur = r .cur; is = rw e (r .is); in-order = r .in-order; at-turn = r .at-turn; used-a = omega (arith, r .used-a); used-b = r .used-b; used-deals = omega (arith, r .used-deals) })
   passed ih (exchange d (product O p q)) zero e h f = arrived d (product O p q) e f
   passed ih (exchange d (product O p q)) (suc n) e h f =
       let two : 2 + a ≡ suc (suc a) = omega arith in

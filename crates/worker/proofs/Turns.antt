@@ -12,7 +12,7 @@ use Rattle.gates.specs.Costs.{step-cost, used-at}
 use Rattle.gates.specs.Meaning.{meaning, order-steps}
 use Rattle.gates.specs.Walk.{Exchanging}
 use Rattle.gates.specs.Hosts.{Pair, on-m, on-mask}
-use Rattle.gates.proofs.Uses.{few-used, used-b, behind-a, behind-k}
+use Rattle.gates.proofs.Uses.{few-used, used-b, behind-a, behind-deals}
 use Rattle.program_fetch.specs.declared.Fetched.{Fetched}
 use Rattle.program_fetch.specs.declared.Fetched.the-variants.{At, Past}
 use Rattle.program_fetch.specs.Fetch.{fetched}
@@ -26,10 +26,10 @@ pub record Going (w : ℕ) (P : Worker) (gs : List Gate) (i a k : ℕ) (s : Pair
   pub same : (ss : List Step) (o x b : ℕ) → reported P (order-steps w (drop i gs) ss) (cursor o x a b k) s ≡ reported P (order-steps w (drop j gs) ss) (cursor o x a′ b k′) t
   pub few : j ≤ 1000
   pub few-a : a′ + i ≤ a + j
-  pub few-k : k′ + i ≤ k + j
+  pub few-deals : k′ + i ≤ k + j
 
 pub going-from : (w : ℕ) (P : Worker) (gs : List Gate) (i a k : ℕ) (s : Pair) → i ≤ 1000 → Going w P gs i a k s i a k s
-going-from w P gs i a k s h = record { same = λ ss o x b. refl; few = h; few-a = omega arith; few-k = omega arith }
+going-from w P gs i a k s h = record { same = λ ss o x b. refl; few = h; few-a = omega arith; few-deals = omega arith }
 
 -- where a word of B is used, words are exchanged
 exchanges : (y : Step) → (step-cost y .b ≡ 0 → ⊥) → Exchanging (y ∷ [])
@@ -42,7 +42,7 @@ exchanges end h = absurd (h refl)
 module _ (w h : ℕ) (M D : List ℕ) (gs : List Gate) (i a k : ℕ) (s : Pair) (j a′ k′ : ℕ) (m l : Lane) (G : Going w (worker-with h M D) gs i a k s j a′ k′ (m, l))
     (f : Fetched) (ef : f ≡ fetched gs j) where
   halted : Halting w f → Walked w (worker-with h M D) gs i a k s j a′ k′ (m, l)
-  halted q = record { same = G .same; halts = subst (λ (x : Fetched). Halting w x) ef q; few = G .few; few-a = G .few-a; few-k = G .few-k }
+  halted q = record { same = G .same; halts = subst (λ (x : Fetched). Halting w x) ef q; few = G .few; few-a = G .few-a; few-deals = G .few-deals }
 
   pub ran-out : f ≡ Past → Walked w (worker-with h M D) gs i a k s j a′ k′ (m, l)
   ran-out p = halted (subst (λ (x : Fetched). Halting w x) (sym p) tt)
@@ -65,8 +65,8 @@ module _ (w h : ℕ) (M D : List ℕ) (gs : List Gate) (i a k : ℕ) (s : Pair) 
           let n = few-used y u eu in
           record {
             same = λ ss o x b. G .same ss o x b
-                ∙ rw (at-gate w gs j g ss (sym ef ∙ eg), passes (worker-with h M D) (order-steps w (drop (suc j) gs) ss) o x a′ b k′ (m, l) y (of-gate w g) (sym (used-b y u eu) ∙ no), lanes o x b, ej, ea, ek, behind-a y u eu (cursor 0 0 a′ 0 k′), behind-k y u eu (cursor 0 0 a′ 0 k′), add-one j);
+                ∙ rw (at-gate w gs j g ss (sym ef ∙ eg), passes (worker-with h M D) (order-steps w (drop (suc j) gs) ss) o x a′ b k′ (m, l) y (of-gate w g) (sym (used-b y u eu) ∙ no), lanes o x b, ej, ea, ek, behind-a y u eu (cursor 0 0 a′ 0 k′), behind-deals y u eu (cursor 0 0 a′ 0 k′), add-one j);
             few = omega (arith, within, ej);
             few-a = omega (arith, G .few-a, n, no, ej, ea);
-            few-k = omega (arith, G .few-k, n, ej, ek);
+            few-deals = omega (arith, G .few-deals, n, ej, ek);
           }

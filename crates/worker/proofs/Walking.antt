@@ -62,7 +62,7 @@ never e = absurd (omega arith)
 
 module _ (P : Worker) (ss : List Step) (o x a b k : ℕ) (s : Pair) where
   pub passes : (y : Step) → OfGate y → step-cost y .b ≡ 0
-      → reported P (y ∷ ss) (cursor o x a b k) s ≡ reported P ss (cursor o x (past y (cursor 0 0 a 0 k) .a) b (past y (cursor 0 0 a 0 k) .k)) (P .act y (cursor o x a b k) s)
+      → reported P (y ∷ ss) (cursor o x a b k) s ≡ reported P ss (cursor o x (past y (cursor 0 0 a 0 k) .a) b (past y (cursor 0 0 a 0 k) .deals)) (P .act y (cursor o x a b k) s)
   unfolding reported walk past step-cost
   passes (local d m l) g e = refl
   passes (deal d f) g e = refl
@@ -113,11 +113,11 @@ inside (h ∷ gs) (suc i) g e = let k : i < length gs = inside gs i g e in omega
 -- ---- what a host does at a step
 
 pub acts : (h : ℕ) (M D : List ℕ) (y : Step) (c : Cursor) (s : Pair)
-    → worker-with h M D .act y c s ≡ (on-m y (s .0), on-mask y (deal-taken h M D (c .a) (c .k)) (s .1))
+    → worker-with h M D .act y c s ≡ (on-m y (s .0), on-mask y (deal-taken h M D (c .a) (c .deals)) (s .1))
 unfolding worker-with deal-taken act1 act2
 acts h M D y c s = go (eqb h 1)
   where
-    go : (b : Bool) → cond {A = Worker} b (worker1 M) (worker2 M D) .act y c s ≡ (on-m y (s .0), on-mask y (cond b (at M (c .a)) (at D (c .k))) (s .1))
+    go : (b : Bool) → cond {A = Worker} b (worker1 M) (worker2 M D) .act y c s ≡ (on-m y (s .0), on-mask y (cond b (at M (c .a)) (at D (c .deals))) (s .1))
     go true = refl
     go false = refl
 

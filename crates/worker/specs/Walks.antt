@@ -39,7 +39,7 @@ pub record Walked (w : ℕ) (P : Worker) (gs : List Gate) (i a k : ℕ) (s : Pai
   pub halts : Halting w (fetched gs j)
   pub few : j ≤ 1000
   pub few-a : a′ + i ≤ a + j
-  pub few-k : k′ + i ≤ k + j
+  pub few-deals : k′ + i ≤ k + j
 
 -- what is known of an accepted job: at most 64 orders, each of at most 1000 gates, and a curve's table is short
 pub record Sized (job table : List ℕ) : Type 0 where

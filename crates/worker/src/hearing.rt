@@ -54,13 +54,13 @@ fn resume(
 ) -> Answer
     requires { ⌜ Sized (now job) (now table) × Standing (now job) (now table) (s .order) (at .gate) × (at .gate < 1000)
         × (s .turn < 1000)
-        × (at .a < 2 ^ 30) × (at .k < 2 ^ 30) × (b < 2 ^ 30) ⌝ }
+        × (at .a < 2 ^ 30) × (at .deals < 2 ^ 30) × (b < 2 ^ 30) ⌝ }
     ensures { λ r.
         ⌜ answer-of r
         ≡ Calls.report (worker-with host (now (masks .entry)) (now (deals .entry)))
         (Calls.hear-walk (worker-with host (now (masks .entry)) (now (deals .entry))) (state-of s) heard
         (found (steps-from 32 (at .gate) (drop (s .order) (job-gates 32 (now (job .entry)) (now (table .entry)))))
-        (cursor (s .order) (s .turn) (at .a) b (at .k)))) ⌝ }
+        (cursor (s .order) (s .turn) (at .a) b (at .deals)))) ⌝ }
 {
     let order = s.order;
     let turn = s.turn + 1;
@@ -120,12 +120,12 @@ impl State {
         }
         match seek(order_at(job, order), table, s.turn) {
             Sought::Nowhere => refused(8, 0, s),
-            Sought::Found { gate, a, deals: k } => {
+            Sought::Found { gate, a, deals: dealt } => {
                 let used = lent.counts;
                 let at = Reach {
                     gate,
                     a: used.a as usize + a,
-                    k: used.deals as usize + k,
+                    deals: used.deals as usize + dealt,
                 };
                 let b = used.b as usize + turn;
                 resume(host, job, table, masks, deals, s, heard, at, b)

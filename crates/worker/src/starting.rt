@@ -45,7 +45,7 @@ pub fn start(
     let from = Reach {
         gate: 0,
         a: 0,
-        k: 0,
+        deals: 0,
     };
     advance(host, job, table, masks, deals, s, from, 0)
 }

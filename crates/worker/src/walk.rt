@@ -24,13 +24,13 @@ use gate_shape::used_by;
 
 // Behind a gate at which so much is used.
 pub(crate) fn behind(used: Used, at: Reach) -> Reach
-    requires { ⌜ (used .a ≤ 2) × (used .deals ≤ 1) × (at .gate < 2 ^ 62) × (at .a < 2 ^ 62) × (at .k < 2 ^ 62) ⌝ }
-    ensures { λ r. ⌜ (r .gate ≡ at .gate + 1) × (r .a ≡ at .a + used .a) × (r .k ≡ at .k + used .deals) ⌝ }
+    requires { ⌜ (used .a ≤ 2) × (used .deals ≤ 1) × (at .gate < 2 ^ 62) × (at .a < 2 ^ 62) × (at .deals < 2 ^ 62) ⌝ }
+    ensures { λ r. ⌜ (r .gate ≡ at .gate + 1) × (r .a ≡ at .a + used .a) × (r .deals ≡ at .deals + used .deals) ⌝ }
 {
     Reach {
         gate: at.gate + 1,
         a: at.a + used.a,
-        k: at.k + used.deals,
+        deals: at.deals + used.deals,
     }
 }
 
@@ -45,10 +45,10 @@ fn walk_order(
     m: &mut [u32; 24],
     mask: &mut [u32; 24],
 ) -> Reach
-    requires { ⌜ (length (program 32 (rows (now table)) o) ≤ 1000) × (from .gate ≤ 1000) × (from .a < 2 ^ 61) × (from .k < 2 ^ 61) ⌝ }
+    requires { ⌜ (length (program 32 (rows (now table)) o) ≤ 1000) × (from .gate ≤ 1000) × (from .a < 2 ^ 61) × (from .deals < 2 ^ 61) ⌝ }
     ensures { λ r.
         ⌜ Walked 32 (worker-with host (now (masks .entry)) (now (deals .entry))) (program 32 (rows (now (table .entry))) o)
-        (from .gate) (from .a) (from .k) (now (m .entry), now (mask .entry)) (r .gate) (r .a) (r .k) (now (m .exit), now (mask .exit)) ⌝ }
+        (from .gate) (from .a) (from .deals) (now (m .entry), now (mask .entry)) (r .gate) (r .a) (r .deals) (now (m .exit), now (mask .exit)) ⌝ }
 {
     let mut at = from;
     loop {
@@ -59,7 +59,7 @@ fn walk_order(
         if used.b != 0 {
             return at;
         }
-        step(host, g, masks, deals, at.a, at.k, m, mask);
+        step(host, g, masks, deals, at.a, at.deals, m, mask);
         at = behind(used, at);
     }
 }
@@ -75,12 +75,12 @@ pub(crate) fn advance(
     from: Reach,
     b: usize,
 ) -> Answer
-    requires { ⌜ Sized (now job) (now table) × (from .gate ≤ 1000) × (from .a < 2 ^ 40) × (from .k < 2 ^ 40) × (b < 2 ^ 31) ⌝ }
+    requires { ⌜ Sized (now job) (now table) × (from .gate ≤ 1000) × (from .a < 2 ^ 40) × (from .deals < 2 ^ 40) × (b < 2 ^ 31) ⌝ }
     ensures { λ r.
         ⌜ answer-of r
         ≡ reported (worker-with host (now (masks .entry)) (now (deals .entry)))
         (steps-from 32 (from .gate) (drop (s .order) (job-gates 32 (now (job .entry)) (now (table .entry)))))
-        (cursor (s .order) (s .turn) (from .a) b (from .k)) (s .m, s .mask) ⌝ }
+        (cursor (s .order) (s .turn) (from .a) b (from .deals)) (s .m, s .mask) ⌝ }
 {
     let n = job.len() / 4;
     let mut m = s.m;
@@ -96,8 +96,8 @@ pub(crate) fn advance(
             return answered(b as u32 + 1, word, m, mask, order as u32, turn);
         }
         let a = at.a;
-        let k = at.k;
-        at = Reach { gate: 0, a, k };
+        let dealt = at.deals;
+        at = Reach { gate: 0, a, deals: dealt };
         order += 1;
         turn = 0;
     }

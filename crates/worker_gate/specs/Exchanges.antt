@@ -8,12 +8,12 @@ use Rattle.gates.specs.Hosts.{Pair}
 use Rattle.gates.specs.Speech.{met}
 use Rattle.calls.specs.Lent.{Worker}
 
-abbrev pub cursor : (order turn a b k : ℕ) → Cursor
-cursor o x a b k = record { order = o; turn = x; a = a; b = b; k = k }
+abbrev pub cursor : (order turn a b deals : ℕ) → Cursor
+cursor o x a b n = record { order = o; turn = x; a = a; b = b; deals = n }
 
 -- its word of a deal: host 1 takes the next word of A, host 2 the next deal
-unfoldable pub deal-taken : (host : ℕ) (masks deals : List ℕ) (a k : ℕ) → ℕ
-deal-taken h M D a k = cond (eqb h 1) (at M a) (at D k)
+unfoldable pub deal-taken : (host : ℕ) (masks deals : List ℕ) (a dealt : ℕ) → ℕ
+deal-taken h M D a n = cond (eqb h 1) (at M a) (at D n)
 
 -- where L1 of a product or refresh stands in A: after g1
 unfoldable pub first-at : Step → ℕ → ℕ
@@ -28,7 +28,7 @@ new-mask h M y a b = cond (eqb h 1) (at M (first-at y a)) (at M b)
 
 -- the new m from the host's own word and the other's
 unfoldable pub sum-of : (host : ℕ) → Step → (own heard : ℕ) → ℕ
-sum-of h y v w = cond (eqb h 1) (met y v w) (met y w v)
+sum-of h y u v = cond (eqb h 1) (met y u v) (met y v u)
 
 -- the lanes when the other's word v is heard at a step
 unfoldable pub heard-at : Worker → Step → Cursor → Pair → (v : ℕ) → Pair

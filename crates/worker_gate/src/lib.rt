@@ -24,17 +24,17 @@ use gate_speak::word2;
 pub struct Reach {
     pub gate: usize,
     pub a: usize,
-    pub k: usize,
+    pub deals: usize,
 }
 
 // Host 1 takes its mask of a deal from A, host 2 takes the deal.
-fn deal_taken(host: u32, masks: &[u32], deals: &[u32], a: usize, k: usize) -> u32
-    ensures { λ r. ⌜ r ≡ deal-taken host (now (masks .entry)) (now (deals .entry)) a k ⌝ }
+fn deal_taken(host: u32, masks: &[u32], deals: &[u32], a: usize, dealt: usize) -> u32
+    ensures { λ r. ⌜ r ≡ deal-taken host (now (masks .entry)) (now (deals .entry)) a dealt ⌝ }
 {
     if host == 1 {
         word_at(masks, a)
     } else {
-        word_at(deals, k)
+        word_at(deals, dealt)
     }
 }
 
@@ -45,17 +45,17 @@ pub fn step(
     masks: &[u32],
     deals: &[u32],
     a: usize,
-    k: usize,
+    dealt: usize,
     m: &mut [u32; 24],
     mask: &mut [u32; 24],
 )
     ensures { λ r.
         ⌜ (now (m .exit) ≡ on-m (meaning 32 g) (now (m .entry)))
         × (now (mask .exit)
-        ≡ on-mask (meaning 32 g) (deal-taken host (now (masks .entry)) (now (deals .entry)) a k) (now (mask .entry))) ⌝ }
+        ≡ on-mask (meaning 32 g) (deal-taken host (now (masks .entry)) (now (deals .entry)) a dealt) (now (mask .entry))) ⌝ }
 {
     step_m(g, m);
-    step_mask(g, deal_taken(host, masks, deals, a, k), mask);
+    step_mask(g, deal_taken(host, masks, deals, a, dealt), mask);
 }
 
 // Host 1's new mask is from A, after g1 where the gate uses two words of it, host 2's from B.
@@ -85,14 +85,14 @@ pub fn say(
 ) -> u32
     ensures { λ r.
         ⌜ r
-        ≡ word-at (worker-with host (now (masks .entry)) (now (deals .entry)) .say) (meaning 32 g ∷ []) (cursor 0 0 (at .a) b (at .k))
+        ≡ word-at (worker-with host (now (masks .entry)) (now (deals .entry)) .say) (meaning 32 g ∷ []) (cursor 0 0 (at .a) b (at .deals))
         (now (m .entry), now (mask .entry)) ⌝ }
 {
     let new = new_mask(host, g, masks, at.a, b);
     if host == 1 {
         word1(g, m, mask, word_at(masks, at.a), new)
     } else {
-        word2(g, m, mask, word_at(deals, at.k), new)
+        word2(g, m, mask, word_at(deals, at.deals), new)
     }
 }
 
@@ -121,7 +121,7 @@ pub fn meet(
 )
     ensures { λ r.
         ⌜ (now (m .exit), now (mask .exit))
-        ≡ heard-at (worker-with host (now (masks .entry)) (now (deals .entry))) (meaning 32 g) (cursor 0 0 (at .a) b (at .k))
+        ≡ heard-at (worker-with host (now (masks .entry)) (now (deals .entry))) (meaning 32 g) (cursor 0 0 (at .a) b (at .deals))
         (now (m .entry), now (mask .entry)) heard ⌝ }
 {
     let own = say(host, g, masks, deals, at, b, m, mask);

@@ -14,10 +14,10 @@ use Rattle.calls.specs.Lent.{worker-with}
 at-shape : (c : tie.After-shape-of) (t : Shape) → c .shape-of .result ≡ t
     → let a = c .before .before .before .before .before .before .before .before .args in
     heard-by t (c .before .sum-of .result) (c .before .before .new-mask .result) (now (a .m), now (a .mask))
-    ≡ heard-at (worker-with (a .host) (now (a .masks)) (now (a .deals))) (meaning 32 (a .g)) (cursor 0 0 (a .at .a) (a .b) (a .at .k)) (now (a .m), now (a .mask)) (a .heard)
+    ≡ heard-at (worker-with (a .host) (now (a .masks)) (now (a .deals))) (meaning 32 (a .g)) (cursor 0 0 (a .at .a) (a .b) (a .at .deals)) (now (a .m), now (a .mask)) (a .heard)
 at-shape c t e =
     let a = c .before .before .before .before .before .before .before .before .args in
-    hears (now (a .masks)) (now (a .deals)) (a .at .a) (a .b) (a .at .k) (now (a .m)) (now (a .mask)) (a .host) (meaning 32 (a .g)) _ (a .heard) _ _ _
+    hears (now (a .masks)) (now (a .deals)) (a .at .a) (a .b) (a .at .deals) (now (a .m)) (now (a .mask)) (a .host) (meaning 32 (a .g)) _ (a .heard) _ _ _
     (c .shape-of .ensures) (c .before .before .before .say .ensures) (c .before .before .new-mask .ensures) (c .before .sum-of .ensures) t e
 
 say-requires : tie.Need-say-requires

@@ -44,7 +44,7 @@ behind-requires c κs =
     let l = c .before .before .before .before .before .before .before .before .before .before .loop in
     let r = room-here 32 (now (s .a)) (now (s .b)) (program 32 (rows (now (s .table))) (s .o)) (l .i) (order-steps 32 (program 32 (rows (now (s .table))) (s .o)) []) (dealer (s .used) (now (s .l1)) (now (s .l2)) (now (s .deals))) (dealer (l .at) (l .l1) (l .l2) (l .deals)) (l .inv) _ (c .before .before .before .before .before .before .before .before .before .fetch .ensures) _ (c .before .before .before .before .before .before .before .gate .given .1) in
     let g = c .before .before .before .before .before .before .before .before .before .before .before .before .before .before .before .good in
-    omega (arith, r .a, r .b, r .k, l .inv .size, g .1 .1 .0, g .1 .1 .1 .0, g .1 .1 .1 .1 .1 .1 .1)
+    omega (arith, r .a, r .b, r .deals, l .inv .size, g .1 .1 .0, g .1 .1 .1 .0, g .1 .1 .1 .1 .1 .1 .1)
 
 add-i : tie.Need-add-i Inv-loop μ-loop
 add-i c =

@@ -83,7 +83,7 @@ cast-t27 : tie.Need-cast-t27
 cast-t27 c = search needs
 
 add-t28 : tie.Need-add-t28
-add-t28 c = omega (arith, there (c .before .before) .few-k)
+add-t28 c = omega (arith, there (c .before .before) .few-deals)
 
 cast-b : tie.Need-cast-b
 cast-b c = search needs
@@ -101,7 +101,7 @@ resume-requires c κs =
       h .few-gates,
       h .few-turns,
       h .few-a,
-      h .few-k,
+      h .few-deals,
       h .few-b,
     )
 

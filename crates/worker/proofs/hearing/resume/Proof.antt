@@ -77,7 +77,7 @@ returns-2 c =
     c .advance .ensures
     ∙ resumed (a .host) (now (a .masks)) (now (a .deals)) (job-gates 32 (now (a .job)) (now (a .table))) (a .s .order) (a .at .gate) _ (gates-drop 32 (now (a .job)) (now (a .table)) (a .s .order) (p .1 .in-job)) _
     (fetched-there (now (a .job)) (now (a .table)) (a .s .order) (a .at .gate) (p .1) _ (f .before .order-at .ensures) _ (f .fetch .ensures) _ (g .g .given .1)) (speaks-there (now (a .job)) (now (a .table)) (a .s .order) (a .at .gate) (p .1) _ (f .before .order-at .ensures) _ (f .fetch .ensures) _ (g .g .given .1))
-    (state-of (a .s)) (a .heard) (a .at .a) (a .b) (a .at .k) _ _ _ _ _ _ (u .used-by .ensures) (u .before .meet .ensures) (b .0) (b .1) (b .2)
+    (state-of (a .s)) (a .heard) (a .at .a) (a .b) (a .at .deals) _ _ _ _ _ _ (u .used-by .ensures) (u .before .meet .ensures) (b .0) (b .1) (b .2)
 
 pub resume-spec : {M : Type 1} → statement M
 resume-spec =

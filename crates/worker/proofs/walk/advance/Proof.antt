@@ -18,9 +18,9 @@ use Rattle.calls.specs.Lent.{worker-with}
 
 abbrev Inv-loop : tie.InvT-loop
 Inv-loop host job table masks deals b n m₀ mask₀ order₀ turn₀ at₀ m mask order turn at =
-    (n ≡ length job / 4) × (at .gate ≤ 1000) × (order < 2 ^ 32) × (at .a ≤ 2 ^ 40 + 1000 * order) × (at .k ≤ 2 ^ 40 + 1000 * order)
-    × (reported (worker-with host masks deals) (steps-from 32 (at .gate) (drop order (job-gates 32 job table))) (cursor order turn (at .a) b (at .k)) (m, mask)
-    ≡ reported (worker-with host masks deals) (steps-from 32 (at₀ .gate) (drop order₀ (job-gates 32 job table))) (cursor order₀ turn₀ (at₀ .a) b (at₀ .k)) (m₀, mask₀))
+    (n ≡ length job / 4) × (at .gate ≤ 1000) × (order < 2 ^ 32) × (at .a ≤ 2 ^ 40 + 1000 * order) × (at .deals ≤ 2 ^ 40 + 1000 * order)
+    × (reported (worker-with host masks deals) (steps-from 32 (at .gate) (drop order (job-gates 32 job table))) (cursor order turn (at .a) b (at .deals)) (m, mask)
+    ≡ reported (worker-with host masks deals) (steps-from 32 (at₀ .gate) (drop order₀ (job-gates 32 job table))) (cursor order₀ turn₀ (at₀ .a) b (at₀ .deals)) (m₀, mask₀))
 
 abbrev μ-loop : tie.MeasureT-loop
 μ-loop host job table masks deals b n m₀ mask₀ order₀ turn₀ at₀ m mask order turn at = n - order
@@ -95,7 +95,7 @@ returns c =
     let w = c .before .before .before .before .before .before .before in
     let h : l .order < length (now (a .job)) / 4 = omega (arith, c .before .before .before .before .before .before .before .before .before .before .before .before .loop-test .taken, l .inv .0) in
     c .answered .ensures
-    ∙ sym (halted (a .host) (now (a .masks)) (now (a .deals)) (job-gates 32 (now (a .job)) (now (a .table))) (l .order) (l .turn) (l .at .gate) (l .at .a) (a .b) (l .at .k) (l .m, l .mask) _ (order-there 32 (now (a .job)) (now (a .table)) (l .order) h _ (w .before .before .before .before .order-at .ensures)) _ _ _ _ _ (w .before .walk-order .ensures) _ (w .fetch .ensures) _ _ (c .before .before .before .before .before .g .given .1) (c .before .say .ensures)) ∙ l .inv .5
+    ∙ sym (halted (a .host) (now (a .masks)) (now (a .deals)) (job-gates 32 (now (a .job)) (now (a .table))) (l .order) (l .turn) (l .at .gate) (l .at .a) (a .b) (l .at .deals) (l .m, l .mask) _ (order-there 32 (now (a .job)) (now (a .table)) (l .order) h _ (w .before .before .before .before .order-at .ensures)) _ _ _ _ _ (w .before .walk-order .ensures) _ (w .fetch .ensures) _ _ (c .before .before .before .before .before .g .given .1) (c .before .say .ensures)) ∙ l .inv .5
 
 enum-told : tie.Need-enum-told Inv-loop μ-loop
 enum-told c = search needs
@@ -118,8 +118,8 @@ loop-again c =
       omega arith,
       omega (arith, h, p .0 .few-words),
       omega (arith, w .few, w .few-a, l .inv .3),
-      omega (arith, w .few, w .few-k, l .inv .4),
-      sym (next-order (a .host) (now (a .masks)) (now (a .deals)) (job-gates 32 (now (a .job)) (now (a .table))) (l .order) (l .turn) (l .at .gate) (l .at .a) (a .b) (l .at .k) (l .m, l .mask) _ (order-there 32 (now (a .job)) (now (a .table)) (l .order) h _ (c .before .before .before .before .before .before .order-at .ensures)) _ _ _ _ _ w _ (c .before .before .fetch .ensures) (c .enum-told .given .1)) ∙ l .inv .5,
+      omega (arith, w .few, w .few-deals, l .inv .4),
+      sym (next-order (a .host) (now (a .masks)) (now (a .deals)) (job-gates 32 (now (a .job)) (now (a .table))) (l .order) (l .turn) (l .at .gate) (l .at .a) (a .b) (l .at .deals) (l .m, l .mask) _ (order-there 32 (now (a .job)) (now (a .table)) (l .order) h _ (c .before .before .before .before .before .before .order-at .ensures)) _ _ _ _ _ w _ (c .before .before .fetch .ensures) (c .enum-told .given .1)) ∙ l .inv .5,
     )
 
 cast-answered-3 : tie.Need-cast-answered-3 Inv-loop μ-loop
@@ -141,7 +141,7 @@ returns-2 c =
     let l = t .loop in
     let a = t .before .before .before .before .before .before .before .before .args in
     let p = t .before .before .before .before .before .before .before .before .pre in
-    c .answered2 .ensures ∙ sym (finished (a .host) (now (a .masks)) (now (a .deals)) (job-gates 32 (now (a .job)) (now (a .table))) (l .order) (l .turn) (l .at .gate) (l .at .a) (a .b) (l .at .k) (l .m, l .mask) (gates-over 32 (now (a .job)) (now (a .table)) (l .order) (omega (arith, c .before .loop-test .left, l .inv .0)))) ∙ l .inv .5
+    c .answered2 .ensures ∙ sym (finished (a .host) (now (a .masks)) (now (a .deals)) (job-gates 32 (now (a .job)) (now (a .table))) (l .order) (l .turn) (l .at .gate) (l .at .a) (a .b) (l .at .deals) (l .m, l .mask) (gates-over 32 (now (a .job)) (now (a .table)) (l .order) (omega (arith, c .before .loop-test .left, l .inv .0)))) ∙ l .inv .5
 
 pub advance-spec : {M : Type 1} → statement M
 advance-spec =

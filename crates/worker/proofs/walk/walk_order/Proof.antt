@@ -13,7 +13,7 @@ use Rattle.calls.specs.Lent.{worker-with}
 
 abbrev Inv-loop : tie.InvT-loop
 Inv-loop host o table masks deals m₀ mask₀ at₀ m mask at =
-    Going 32 (worker-with host masks deals) (program 32 (rows table) o) (at₀ .gate) (at₀ .a) (at₀ .k) (m₀, mask₀) (at .gate) (at .a) (at .k) (m, mask)
+    Going 32 (worker-with host masks deals) (program 32 (rows table) o) (at₀ .gate) (at₀ .a) (at₀ .deals) (m₀, mask₀) (at .gate) (at .a) (at .deals) (m, mask)
 
 abbrev μ-loop : tie.MeasureT-loop
 μ-loop host o table masks deals m₀ mask₀ at₀ m mask at = 1001 - at .gate
@@ -35,7 +35,7 @@ returns c =
     let f = c .before .before in
     let l = f .before .loop in
     let a = f .before .before .before .before .before .args in
-    ran-out 32 (a .host) (now (a .masks)) (now (a .deals)) (program 32 (rows (now (a .table))) (a .o)) (a .from .gate) (a .from .a) (a .from .k) (now (a .m), now (a .mask)) (l .at .gate) (l .at .a) (l .at .k) (l .m) (l .mask) (l .inv) _ (f .fetch .ensures) (c .enum-told .given .1)
+    ran-out 32 (a .host) (now (a .masks)) (now (a .deals)) (program 32 (rows (now (a .table))) (a .o)) (a .from .gate) (a .from .a) (a .from .deals) (now (a .m), now (a .mask)) (l .at .gate) (l .at .a) (l .at .deals) (l .m) (l .mask) (l .inv) _ (f .fetch .ensures) (c .enum-told .given .1)
 
 used-by-requires : tie.Need-used-by-requires Inv-loop μ-loop
 used-by-requires c κs = search needs
@@ -46,7 +46,7 @@ returns-2 c =
     let f = w .before .before .before .before in
     let l = f .before .loop in
     let a = f .before .before .before .before .before .args in
-    at-exchange 32 (a .host) (now (a .masks)) (now (a .deals)) (program 32 (rows (now (a .table))) (a .o)) (a .from .gate) (a .from .a) (a .from .k) (now (a .m), now (a .mask)) (l .at .gate) (l .at .a) (l .at .k) (l .m) (l .mask) (l .inv)
+    at-exchange 32 (a .host) (now (a .masks)) (now (a .deals)) (program 32 (rows (now (a .table))) (a .o)) (a .from .gate) (a .from .a) (a .from .deals) (now (a .m), now (a .mask)) (l .at .gate) (l .at .a) (l .at .deals) (l .m) (l .mask) (l .inv)
     _ (f .fetch .ensures) _ (w .before .before .g .given .1) _ (w .used-by .ensures) (c .if1 .taken)
 
 step-requires : tie.Need-step-requires Inv-loop μ-loop
@@ -59,7 +59,7 @@ behind-requires c κs =
     let l = f .before .loop .inv in
     let p = f .before .before .before .before .before .pre in
     let n = few-used (meaning 32 (w .before .before .g .given .0 .0)) _ (w .used-by .ensures) in
-    (omega (arith, n), omega (arith, n), omega (arith, l .few), omega (arith, l .few, l .few-a, p), omega (arith, l .few, l .few-k, p))
+    (omega (arith, n), omega (arith, n), omega (arith, l .few), omega (arith, l .few, l .few-a, p), omega (arith, l .few, l .few-deals, p))
 
 loop-less : tie.Need-loop-less Inv-loop μ-loop
 loop-less c = omega (arith, c .behind .ensures .0, c .before .before .before .before .before .before .before .before .before .before .before .loop .inv .few)
@@ -71,7 +71,7 @@ loop-again c =
     let l = f .before .loop in
     let s = f .before .before .before .before .before in
     let a = s .args in
-    passed 32 (a .host) (now (a .masks)) (now (a .deals)) (program 32 (rows (now (a .table))) (a .o)) (a .from .gate) (a .from .a) (a .from .k) (now (a .m), now (a .mask)) (l .at .gate) (l .at .a) (l .at .k) (l .m) (l .mask) (l .inv)
+    passed 32 (a .host) (now (a .masks)) (now (a .deals)) (program 32 (rows (now (a .table))) (a .o)) (a .from .gate) (a .from .a) (a .from .deals) (now (a .m), now (a .mask)) (l .at .gate) (l .at .a) (l .at .deals) (l .m) (l .mask) (l .inv)
     _ (f .fetch .ensures) _ (w .before .before .g .given .1) _ (w .used-by .ensures) (c .before .before .before .before .if1 .left) (s .pre .0) _ _ (c .before .step .ensures .0) (c .before .step .ensures .1) _ _ _ (c .behind .ensures .0) (c .behind .ensures .1) (c .behind .ensures .2)
 
 pub walk-order-spec : {M : Type 1} → statement M
