@@ -25,14 +25,14 @@ shr-past w k x h l = div-eq-of-lt (lt-of-lt-of-le l (pow-mono h))
 
 -- ---- the low j bits
 
-pub ones : (j : ℕ) → j < 32 → (1 * 2 ^ j) % 2 ^ 32 ≡ 2 ^ j
-ones j h = rw (one-mul (2 ^ j)) (mod-eq-of-lt (pow-lt h))
+pub ones : (w j : ℕ) → j < w → (1 * 2 ^ j) % 2 ^ w ≡ 2 ^ j
+ones w j h = rw (one-mul (2 ^ j)) (mod-eq-of-lt (pow-lt h))
 
-pub ones-positive : (j : ℕ) → j < 32 → 1 ≤ (1 * 2 ^ j) % 2 ^ 32
-ones-positive j h = rw (ones j h) (pow-pos j)
+pub ones-positive : (w j : ℕ) → j < w → 1 ≤ (1 * 2 ^ j) % 2 ^ w
+ones-positive w j h = rw (ones w j h) (pow-pos j)
 
-pub low-masked : (x j : ℕ) → j < 32 → bitAnd x ((1 * 2 ^ j) % 2 ^ 32 - 1) ≡ x % 2 ^ j
-low-masked x j h = ap (λ (n : ℕ). bitAnd x (n - 1)) (ones j h) ∙ and-mask x j
+pub low-masked : (w x j : ℕ) → j < w → bitAnd x ((1 * 2 ^ j) % 2 ^ w - 1) ≡ x % 2 ^ j
+low-masked w x j h = ap (λ (n : ℕ). bitAnd x (n - 1)) (ones w j h) ∙ and-mask x j
 
 pub low-whole : (w x j : ℕ) → w ≤ j → x < 2 ^ w → x % 2 ^ j ≡ x
 low-whole w x j h l = mod-eq-of-lt (lt-of-lt-of-le l (pow-mono h))

@@ -66,12 +66,12 @@ module _ (A B : List ℕ) where
     unfolding word-of2 joint2 deals dealt
     says2 d e ss c j g = say2-part e (c .deals) _ _ (j .0) (j .2) (at B c.b) g
 
-    pub hears1 : (d : ℕ) (e : Exchange) (c : Cursor) (j : Triple) (w : ℕ) → w ≡ joint2 A B e c j
-        → hear1 A d e c (of1 j) w ≡ of1 (act A B (exchange d e) c j)
+    pub hears1 : (d : ℕ) (e : Exchange) (c : Cursor) (j : Triple) (v : ℕ) → v ≡ joint2 A B e c j
+        → hear1 A d e c (of1 j) v ≡ of1 (act A B (exchange d e) c j)
     unfolding hear1 word-of1 joint1 act
-    hears1 d e c j w h = rw h
+    hears1 d e c j v h = rw h
 
-    pub hears2 : (d : ℕ) (e : Exchange) (ss : List Step) (c : Cursor) (j : Triple) (w : ℕ) → Supplied A B D (exchange d e ∷ ss) c j
-        → w ≡ joint1 A B e c j → hear2 B D d e c (of2 j) w ≡ of2 (act A B (exchange d e) c j)
+    pub hears2 : (d : ℕ) (e : Exchange) (ss : List Step) (c : Cursor) (j : Triple) (v : ℕ) → Supplied A B D (exchange d e ∷ ss) c j
+        → v ≡ joint1 A B e c j → hear2 B D d e c (of2 j) v ≡ of2 (act A B (exchange d e) c j)
     unfolding hear2 act
-    hears2 d e ss c j w g h = rw (h, says2 d e ss c j g)
+    hears2 d e ss c j v g h = rw (h, says2 d e ss c j g)

@@ -6,9 +6,9 @@ use Prim.Native.Nat.{ℕ, _+_, _-_, _%_, _^_, _≤_, _<_}
 use native.Mathlib.Nat.{mod-lt}
 use native.Mathlib.Omega.{arith}
 use borrow.Author.Tests.{ltb-true, ltb-false, le-leb, lt-leb, eq-eqb, ne-eqb}
-use lib.Dec.{T, lit<}
+use lib.Dec.{T}
 use lib.IntN.{ℤ, pos, negsuc}
-use lib.Pow.{pow-mono}
+use lib.Pow.{pow-pos, pow-mono}
 use lib.Signed.{leZ, ltZ}
 use mir.Syntax.{w64}
 use mir.Val.{SFits, ofZ, toZ}
@@ -64,31 +64,31 @@ module _ (z : ℤ) (h : SFits w64 z) (l1 l2 : ℕ) where
 
 -- ---- opening
 
-module _ (s : Six) where
-  pub not-l1 : s .l1-of-0 ≢ s .l1-of-1 → (10, pos 0) ≡ reconstruction 32 s
+module _ (w : ℕ) (s : Six) where
+  pub not-l1 : s .l1-of-0 ≢ s .l1-of-1 → (10, pos 0) ≡ reconstruction w s
   unfolding reconstruction
   not-l1 f = rw (ne-eqb (s .l1-of-0) (s .l1-of-1) f)
 
   module _ (e : s .l1-of-0 ≡ s .l1-of-1) where
-    pub not-l2 : s .l2-of-0 ≢ s .l2-of-2 → (10, pos 0) ≡ reconstruction 32 s
+    pub not-l2 : s .l2-of-0 ≢ s .l2-of-2 → (10, pos 0) ≡ reconstruction w s
     unfolding reconstruction
     not-l2 f = rw (eq-eqb (s .l1-of-0) (s .l1-of-1) e, ne-eqb (s .l2-of-0) (s .l2-of-2) f)
 
     module _ (f : s .l2-of-0 ≡ s .l2-of-2) where
-      pub not-m : s .m-of-1 ≢ s .m-of-2 → (10, pos 0) ≡ reconstruction 32 s
+      pub not-m : s .m-of-1 ≢ s .m-of-2 → (10, pos 0) ≡ reconstruction w s
       unfolding reconstruction
       not-m g = rw (eq-eqb (s .l1-of-0) (s .l1-of-1) e, eq-eqb (s .l2-of-0) (s .l2-of-2) f, ne-eqb (s .m-of-1) (s .m-of-2) g)
 
-      pub opened : s .m-of-1 ≡ s .m-of-2 → (mask x : ℕ) (z : ℤ) → x < 2 ^ 32 → SFits w64 z
-          → mask ≡ (s .l1-of-0 + s .l2-of-0) % 2 ^ 32 → (x + mask) % 2 ^ 32 ≡ s .m-of-1 → z ≡ signed 32 x
-          → (0, toZ w64 (ofZ w64 z)) ≡ reconstruction 32 s
+      pub opened : s .m-of-1 ≡ s .m-of-2 → (mask x : ℕ) (z : ℤ) → x < 2 ^ w → SFits w64 z
+          → mask ≡ (s .l1-of-0 + s .l2-of-0) % 2 ^ w → (x + mask) % 2 ^ w ≡ s .m-of-1 → z ≡ signed w x
+          → (0, toZ w64 (ofZ w64 z)) ≡ reconstruction w s
       unfolding reconstruction add
       opened g mask x z hx hz i j k =
           rw (eq-eqb (s .l1-of-0) (s .l1-of-1) e, eq-eqb (s .l2-of-0) (s .l2-of-2) f, eq-eqb (s .m-of-1) (s .m-of-2) g)
           (ap {B = ℕ × ℤ} (λ (y : ℤ). (0, y))
           (toZ-ofZ w64 z hz ∙ k
-          ∙ ap (signed 32)
-          (sub-of 32 x mask hx (rw i (mod-lt (s .l1-of-0 + s .l2-of-0) (lit< tt))) j ∙ ap (sub 32 (s .m-of-1)) i)))
+          ∙ ap (signed w)
+          (sub-of w x mask hx (rw i (mod-lt (s .l1-of-0 + s .l2-of-0) (pow-pos w))) j ∙ ap (sub w (s .m-of-1)) i)))
 
 -- ---- splitting, then opening
 

@@ -1,5 +1,8 @@
+use mathlib.Core.Path.{ap}
+use Rattle.words.specs.Words.{numbers, bits}
+use Rattle.gates.specs.Meaning.{meaning}
 use Rattle.gates.proofs.Others.{undealt}
-use Rattle.gates.proofs.Spoken.{dealt-product, dealt-and, dealt-mask, dealt-bits}
+use Rattle.gates.proofs.Spoken.{dealt-product, dealt-mask, dealt-bits}
 use borrow.Author.Needs.{needs}
 use Rattle.gate_deal.proofs.deal_word.Statement.{statement}
 use Rattle.gate_deal.proofs.deal_word.Tie as tie
@@ -70,30 +73,35 @@ wrapping-add-u32-requires c κs = search needs
 negated-requires : tie.Need-negated-requires
 negated-requires c κs = search needs
 
+-- a product of numbers, or of bits
 returns : tie.Need-returns
+unfolding meaning
 returns c =
-    dealt-product _ _ _ _ _ _ _ (c .before .before .before .before .before .before .g .given .1) (c .before .before .before .before .at .ensures) (c .before .before .before .at2 .ensures) (c .before .before .at3 .ensures) (c .before .at4 .ensures)
+    let f = c .before .before .before .before in
+    dealt-product (numbers 32) _ _ _ _ _ _ _ (ap (meaning 32) (f .before .before .g .given .1)) (f .at .ensures)
+    (c .before .before .before .at2 .ensures) (c .before .before .at3 .ensures) (c .before .at4 .ensures)
     (c .product-deal .ensures)
 
 returns-2 : tie.Need-returns-2
+unfolding meaning
 returns-2 c =
-    dealt-and _ _ _ _ _ _ _ (c .before .before .before .before .before .before .g2 .given .1) (c .before .before .before .before .at5 .ensures) (c .before .before .before .at6 .ensures) (c .before .before .at7 .ensures) (c .before .at8 .ensures)
+    let f = c .before .before .before .before in
+    dealt-product (bits 32) _ _ _ _ _ _ _ (ap (meaning 32) (f .before .before .g2 .given .1)) (f .at5 .ensures)
+    (c .before .before .before .at6 .ensures) (c .before .before .at7 .ensures) (c .before .at8 .ensures)
     (c .and-deal .ensures)
 
 returns-3 : tie.Need-returns-3
 returns-3 c =
-    dealt-mask _ _ _ _ _ _ _ (c .before .before .before .before .before .g3 .given .1) (c .before .before .before .at9 .ensures) (c .before .before .at10 .ensures)
-    (c .before .dealt-number .ensures)
-    (c .second-mask .ensures)
+    dealt-mask 32 _ _ _ _ _ _ _ (c .before .before .before .before .before .g3 .given .1) (c .before .before .before .at9 .ensures)
+    (c .before .before .at10 .ensures) (c .before .dealt-number .ensures) (c .second-mask .ensures)
 
 returns-4 : tie.Need-returns-4
 returns-4 c =
-    dealt-bits _ _ _ _ _ _ (c .before .before .before .before .before .g4 .given .1) (c .before .before .before .at11 .ensures) (c .before .before .at12 .ensures)
-    (c .before .wrapping-add-u32 .ensures)
-    (c .negated .ensures)
+    dealt-bits 32 _ _ _ _ _ _ (c .before .before .before .before .before .g4 .given .1) (c .before .before .before .at11 .ensures)
+    (c .before .before .at12 .ensures) (c .before .wrapping-add-u32 .ensures) (c .negated .ensures)
 
 returns-5 : tie.Need-returns-5
-returns-5 c = undealt (c .before .args .g) (c .match .keys5) _ _ _
+returns-5 c = undealt 32 (c .before .args .g) (c .match .keys5) _ _ _
 
 pub deal-word-spec : {M : Type 1} → statement M
 deal-word-spec =

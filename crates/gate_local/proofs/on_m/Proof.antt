@@ -49,7 +49,7 @@ unfolding meaning on-m
 returns-3 c = rw (c .before .before .before .g3 .given .1, c .part-of .ensures, c .before .at2 .ensures) refl
 
 returns-4 : tie.Need-returns-4
-returns-4 c = rw (c .on-mask .ensures) (as-mask (c .before .before .args .g) (c .before .match .keys4) _)
+returns-4 c = rw (c .on-mask .ensures) (as-mask 32 (c .before .before .args .g) (c .before .match .keys4) _)
 
 pub on-m-spec : {M : Type 1} → statement M
 on-m-spec =

@@ -132,7 +132,7 @@ unfolding meaning on-mask
 returns-11 c = rw (c .before .g11 .given .1) refl
 
 returns-12 : tie.Need-returns-12
-returns-12 c = kept (c .before .args .g) (c .match .keys12) _ _
+returns-12 c = kept 32 (c .before .args .g) (c .match .keys12) _ _
 
 pub on-mask-spec : {M : Type 1} → statement M
 on-mask-spec =

@@ -41,7 +41,7 @@ unfolding meaning shape
 returns-5 c = rw (c .before .g5 .given .1)
 
 returns-6 : tie.Need-returns-6
-returns-6 c = alone (c .before .args .g) (c .match .keys6)
+returns-6 c = alone 32 (c .before .args .g) (c .match .keys6)
 
 pub shape-of-spec : {M : Type 1} → statement M
 shape-of-spec =

@@ -35,7 +35,7 @@ unfolding add meaning met meet
 returns-3 c = rw (c .before .enum-told3 .given .1) (c .wrapping-add-u322 .ensures)
 
 returns-4 : tie.Need-returns-4
-returns-4 c = silent (c .before .args .g) (c .match .keys4) .neither _ _
+returns-4 c = silent 32 (c .before .args .g) (c .match .keys4) .neither _ _
 
 pub met-word-spec : {M : Type 1} → statement M
 met-word-spec =

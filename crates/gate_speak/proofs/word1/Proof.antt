@@ -1,5 +1,8 @@
+use mathlib.Core.Path.{ap}
+use Rattle.words.specs.Words.{numbers, bits}
+use Rattle.gates.specs.Meaning.{meaning}
 use Rattle.gates.proofs.Others.{silent}
-use Rattle.gates.proofs.Spoken.{product-said1, and-said1, refresh-said1}
+use Rattle.gates.proofs.Spoken.{product-said1, refresh-said1}
 use borrow.Author.Needs.{needs}
 use Rattle.gate_speak.proofs.word1.Statement.{statement}
 use Rattle.gate_speak.proofs.word1.Tie as tie
@@ -52,22 +55,31 @@ at-requires-10 c κs = search needs
 refresh-word1-requires : tie.Need-refresh-word1-requires
 refresh-word1-requires c κs = search needs
 
+-- a product of numbers, or of bits
 returns : tie.Need-returns
+unfolding meaning
 returns c =
-    product-said1 _ _ _ _ _ _ _ _ (c .before .before .before .before .before .before .g .given .1) (c .before .before .before .before .at .ensures) (c .before .before .before .at2 .ensures) (c .before .before .at3 .ensures) (c .before .at4 .ensures)
+    let f = c .before .before .before .before in
+    product-said1 (numbers 32) _ _ _ _ _ _ _ _ (ap (meaning 32) (f .before .before .g .given .1)) (f .at .ensures)
+    (c .before .before .before .at2 .ensures) (c .before .before .at3 .ensures) (c .before .at4 .ensures)
     (c .product-word1 .ensures)
 
 returns-2 : tie.Need-returns-2
+unfolding meaning
 returns-2 c =
-    and-said1 _ _ _ _ _ _ _ _ (c .before .before .before .before .before .before .g2 .given .1) (c .before .before .before .before .at5 .ensures) (c .before .before .before .at6 .ensures) (c .before .before .at7 .ensures) (c .before .at8 .ensures)
+    let f = c .before .before .before .before in
+    product-said1 (bits 32) _ _ _ _ _ _ _ _ (ap (meaning 32) (f .before .before .g2 .given .1)) (f .at5 .ensures)
+    (c .before .before .before .at6 .ensures) (c .before .before .at7 .ensures) (c .before .at8 .ensures)
     (c .and-word1 .ensures)
 
 returns-3 : tie.Need-returns-3
+unfolding meaning
 returns-3 c =
-    refresh-said1 _ _ _ _ _ _ _ (c .before .before .before .before .g3 .given .1) (c .before .before .at9 .ensures) (c .before .at10 .ensures) (c .refresh-word1 .ensures)
+    refresh-said1 (numbers 32) _ _ _ _ _ _ _ (ap (meaning 32) (c .before .before .before .before .g3 .given .1))
+    (c .before .before .at9 .ensures) (c .before .at10 .ensures) (c .refresh-word1 .ensures)
 
 returns-4 : tie.Need-returns-4
-returns-4 c = silent (c .before .args .g) (c .match .keys4) .first _ _ _ _
+returns-4 c = silent 32 (c .before .args .g) (c .match .keys4) .first _ _ _ _
 
 pub word1-spec : {M : Type 1} → statement M
 word1-spec =

@@ -1,5 +1,8 @@
+use mathlib.Core.Path.{ap}
+use Rattle.words.specs.Words.{numbers, bits}
+use Rattle.gates.specs.Meaning.{meaning}
 use Rattle.gates.proofs.Others.{silent}
-use Rattle.gates.proofs.Spoken.{product-said2, and-said2, refresh-said2}
+use Rattle.gates.proofs.Spoken.{product-said2, refresh-said2}
 use borrow.Author.Needs.{needs}
 use Rattle.gate_speak.proofs.word2.Statement.{statement}
 use Rattle.gate_speak.proofs.word2.Tie as tie
@@ -49,21 +52,31 @@ at-requires-9 c κs = search needs
 refresh-word2-requires : tie.Need-refresh-word2-requires
 refresh-word2-requires c κs = search needs
 
+-- a product of numbers, or of bits
 returns : tie.Need-returns
+unfolding meaning
 returns c =
-    product-said2 _ _ _ _ _ _ _ _ (c .before .before .before .before .before .before .g .given .1) (c .before .before .before .before .at .ensures) (c .before .before .before .at2 .ensures) (c .before .before .at3 .ensures) (c .before .at4 .ensures)
+    let f = c .before .before .before .before in
+    product-said2 (numbers 32) _ _ _ _ _ _ _ _ (ap (meaning 32) (f .before .before .g .given .1)) (f .at .ensures)
+    (c .before .before .before .at2 .ensures) (c .before .before .at3 .ensures) (c .before .at4 .ensures)
     (c .product-word2 .ensures)
 
 returns-2 : tie.Need-returns-2
+unfolding meaning
 returns-2 c =
-    and-said2 _ _ _ _ _ _ _ _ (c .before .before .before .before .before .before .g2 .given .1) (c .before .before .before .before .at5 .ensures) (c .before .before .before .at6 .ensures) (c .before .before .at7 .ensures) (c .before .at8 .ensures)
+    let f = c .before .before .before .before in
+    product-said2 (bits 32) _ _ _ _ _ _ _ _ (ap (meaning 32) (f .before .before .g2 .given .1)) (f .at5 .ensures)
+    (c .before .before .before .at6 .ensures) (c .before .before .at7 .ensures) (c .before .at8 .ensures)
     (c .and-word2 .ensures)
 
 returns-3 : tie.Need-returns-3
-returns-3 c = refresh-said2 _ _ _ _ _ _ _ (c .before .before .before .g3 .given .1) (c .before .at9 .ensures) (c .refresh-word2 .ensures)
+unfolding meaning
+returns-3 c =
+    refresh-said2 (numbers 32) _ _ _ _ _ _ _ (ap (meaning 32) (c .before .before .before .g3 .given .1)) (c .before .at9 .ensures)
+    (c .refresh-word2 .ensures)
 
 returns-4 : tie.Need-returns-4
-returns-4 c = silent (c .before .args .g) (c .match .keys4) .second _ _ _ _
+returns-4 c = silent 32 (c .before .args .g) (c .match .keys4) .second _ _ _ _
 
 pub word2-spec : {M : Type 1} → statement M
 word2-spec =

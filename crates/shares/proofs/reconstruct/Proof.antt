@@ -5,15 +5,15 @@ use Rattle.shares.proofs.reconstruct.Statement.{statement}
 use Rattle.shares.proofs.reconstruct.Tie as tie
 
 returns : tie.Need-returns
-returns c = not-l1 (words (c .before .before .args .s)) (c .if1 .taken)
+returns c = not-l1 32 (words (c .before .before .args .s)) (c .if1 .taken)
 
 returns-2 : tie.Need-returns-2
-returns-2 c = not-l2 (words (c .before .before .before .before .args .s)) (c .before .before .if1 .left) (c .if2 .taken)
+returns-2 c = not-l2 32 (words (c .before .before .before .before .args .s)) (c .before .before .if1 .left) (c .if2 .taken)
 
 returns-3 : tie.Need-returns-3
 returns-3 c =
     let e = c .before .before in
-    not-m (words (e .before .before .before .before .args .s)) (e .before .before .if1 .left) (e .if2 .left) (c .if3 .taken)
+    not-m 32 (words (e .before .before .before .before .args .s)) (e .before .before .if1 .left) (e .if2 .left) (c .if3 .taken)
 
 wrapping-add-u32-requires : tie.Need-wrapping-add-u32-requires
 wrapping-add-u32-requires c κs = search needs
@@ -27,7 +27,7 @@ signed-reading-requires c κs = search needs
 returns-4 : tie.Need-returns-4
 returns-4 c =
     let e = c .before .before .before in
-    opened (words (e .before .before .before .before .before .before .args .s)) (e .before .before .before .before .if1 .left) (e .before .before .if2 .left) (e .if3 .left)
+    opened 32 (words (e .before .before .before .before .before .before .args .s)) (e .before .before .before .before .if1 .left) (e .before .before .if2 .left) (e .if3 .left)
     _ _ _ (c .before .wrapping-sub-u32 .ok) (record { sfits = c .signed-reading .ok })
     (c .before .before .wrapping-add-u32 .ensures) (c .before .wrapping-sub-u32 .ensures) (c .signed-reading .ensures)
 

@@ -9,10 +9,10 @@ shl-result : tie.Need-shl-result
 shl-result c = search needs
 
 sub-result : tie.Need-sub-result
-sub-result c = ones-positive _ (c .if1 .taken)
+sub-result c = ones-positive 32 _ (c .if1 .taken)
 
 returns : tie.Need-returns
-returns c = low-masked _ _ (c .if1 .taken)
+returns c = low-masked 32 _ _ (c .if1 .taken)
 
 returns-2 : tie.Need-returns-2
 returns-2 c = sym (low-whole 32 _ _ (c .if1 .left) (omega arith))
