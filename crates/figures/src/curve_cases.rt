@@ -1,4 +1,5 @@
-// The curve on the house table and on others: what it opens, how close to the line, and that it is level from the last row on.
+// The curve on the house table and on others: what it opens, how close to the line, and that it is level from the last
+// row on.
 use crate::draw::table;
 use crate::lists::entry;
 use crate::lists::nth;
@@ -19,8 +20,9 @@ use crate::trials::opened;
 use crate::trials::run_trial;
 use std::num::wrapping_add_u32;
 
-// Where each of six tables begins here and how many words it has; then their words: four of two rows, sixteen rows that fall all the
-// way, with slopes that are no whole numbers, and sixteen neighbouring counts, from one end of the range to the other and back.
+// Where each of six tables begins here and how many words it has; then their words: four of two rows, sixteen rows that
+// fall all the way, with slopes that are no whole numbers, and sixteen neighbouring counts, from one end of the range
+// to the other and back.
 const TABLES: [u32; 92] = [
     12,
     4, //
@@ -185,8 +187,8 @@ const ABOVE: [u32; 12] = [
     2147479552,
 ];
 
-// Under the same lists a reading above the last row's count opens what that count opens: twelve readings, in both modes. No word's
-// number is above 2^31 - 1.
+// Under the same lists a reading above the last row's count opens what that count opens: twelve readings, in both
+// modes. No word's number is above 2^31 - 1.
 fn unlike(rows: &[u32], last: u32, i: u32) -> u32 {
     let mode = i / 12 % 2;
     let due = opened_at(rows, mode, last);

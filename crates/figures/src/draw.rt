@@ -49,8 +49,8 @@ pub(crate) fn list(seed: u32) -> [u32; 512] {
     drawn
 }
 
-// Not 0 where a list has changed: from a place on it is to have the first n words of the stream and then, to 512, only 0 or no more
-// words.
+// Not 0 where a list has changed: from a place on it is to have the first n words of the stream and then, to 512, only
+// 0 or no more words.
 pub(crate) fn changed(list: &[u32], seed: u32, from: u32, n: u32) -> u32 {
     let mut difference: u32 = 0;
     let mut i = from;

@@ -1,4 +1,5 @@
-// The curve by plain arithmetic: the scaled sum Y, and whether a value lies close enough to the line C through the rows.
+// The curve by plain arithmetic: the scaled sum Y, and whether a value lies close enough to the line C through the
+// rows.
 use crate::lists::entry;
 use crate::lists::part;
 use crate::plain::floor;
@@ -7,8 +8,8 @@ use crate::plain::product;
 use std::num::wrapping_add_u32;
 use std::num::wrapping_sub_u32;
 
-// What lies between two rows: the first's value, the change to the next, the counts from the one to the other, and how many of these
-// the reading has come.
+// What lies between two rows: the first's value, the change to the next, the counts from the one to the other, and how
+// many of these the reading has come.
 pub(crate) struct Segment {
     c: u32,
     change: u32,
@@ -16,7 +17,8 @@ pub(crate) struct Segment {
     come: u32,
 }
 
-// A table's rows, 16 at most; Y, from -4095 to some 82 million; the last segment that the reading has come into, or the first.
+// A table's rows, 16 at most; Y, from -4095 to some 82 million; the last segment that the reading has come into, or the
+// first.
 pub(crate) struct Curve {
     pub(crate) rows: u32,
     pub(crate) sum: u32,
@@ -56,9 +58,9 @@ pub(crate) fn curve_at(x: u32, table: &[u32]) -> Curve {
     Curve { rows, sum, last }
 }
 
-// Whether v > C - 2 and v < C + 1 for C = c + change * come / width: v + 2 - C, times width, lies between 0 and 3 * width.
-// It stays far below 2^31 in size, so that a negative one wraps to a large word. Before the first row and past the last the way
-// ends, and so the line is level.
+// Whether v > C - 2 and v < C + 1 for C = c + change * come / width: v + 2 - C, times width, lies between 0 and 3 *
+// width. It stays far below 2^31 in size, so that a negative one wraps to a large word. Before the first row and past
+// the last the way ends, and so the line is level.
 pub(crate) fn close_to_line(v: u32, curve: Curve) -> bool {
     let s = curve.last;
     let lifted = wrapping_add_u32(v, 2);

@@ -94,7 +94,8 @@ pub(crate) fn numbered(words: u32, n: u32) {
     io::print_decimal(1, n as u64);
 }
 
-// A line of which the name has three pieces: the cases, those that went wrong, and, where there are any, the input of the first.
+// A line of which the name has three pieces: the cases, those that went wrong, and, where there are any, the input of
+// the first.
 pub(crate) fn print(head: u32, middle: u32, tail: u32, cases: u32, wrong: u32, first: u32) {
     piece(head);
     piece(middle);

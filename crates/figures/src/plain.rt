@@ -50,7 +50,8 @@ pub(crate) fn carry(x: u32, l: u32, k: u32) -> u32 {
     (low < wrapping_add_u32(x & low, l & low)) as u32
 }
 
-// Kind 7 for any word x = m - l: what its steps give. The top bit of l is taken from m before the shift, the rest of l after it.
+// Kind 7 for any word x = m - l: what its steps give. The top bit of l is taken from m before the shift, the rest of l
+// after it.
 fn one_bit_steps(m: u32, l: u32, k: u32) -> u32 {
     let shift = k % 32;
     let rest = l % 2147483648;

@@ -1,5 +1,5 @@
-// The calls that turn a case down (document 01, "Turned down"). A refused call is to give back what it was given, write nothing, and
-// answer 0 for every other number. Each function here answers 0 where it does.
+// The calls that turn a case down (document 01, "Turned down"). A refused call is to give back what it was given, write
+// nothing, and answer 0 for every other number. Each function here answers 0 where it does.
 use crate::draw::changed;
 use crate::draw::lane;
 use crate::draw::list;
@@ -8,16 +8,17 @@ use crate::lists::part;
 use dealer::Masks;
 use dealer::Prepared;
 use dealer::prepare;
+use jobs::Checked;
+use jobs::Which;
 use worker::Answer;
 use worker::Registers;
 use worker::State;
 use worker::start;
-use jobs::Checked;
-use jobs::Which;
 
 // A call and what it is to answer: the number and the order's index.
 pub(crate) struct Case {
-    // 0 and 1 starting host 1 and host 2, 2 and 3 hearing, 4 and 5 unused masks of A and of B, 6 preparation, 7 checking
+    // 0 and 1 starting host 1 and host 2, 2 and 3 hearing, 4 and 5 unused masks of A and of B, 6 preparation, 7
+    // checking
     call: u32,
     pub(crate) host: u32,
     pub(crate) order: u32,
@@ -53,7 +54,8 @@ pub(crate) fn in_call(call: u32, number: u32, index: u32) -> Case {
     }
 }
 
-// A host's answer: the number and the order's index that are due, and the state that it was given, with so many drawn words to a lane.
+// A host's answer: the number and the order's index that are due, and the state that it was given, with so many drawn
+// words to a lane.
 fn host_answer(c: Case, given: u32, r: Answer) -> u32 {
     let m = r.state.m;
     let mask = r.state.mask;

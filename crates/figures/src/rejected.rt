@@ -6,8 +6,8 @@ use crate::refusals::Case;
 use crate::refusals::in_call;
 use crate::refusals::refused;
 
-// At 0 one kind 9: 26 words of A, 12 of B, 14 deals, 12 products. At 4 a bad order. At 8 three orders of which only the second has a
-// product, and only one.
+// At 0 one kind 9: 26 words of A, 12 of B, 14 deals, 12 products. At 4 a bad order. At 8 three orders of which only the
+// second has a product, and only one.
 const JOBS: [u32; 20] = [9, 0, 1, 0, 11, 16, 0, 0, 0, 1, 2, 3, 4, 5, 6, 7, 6, 1, 1, 4];
 
 // A case on one of these, with no table.
@@ -166,8 +166,8 @@ pub(crate) fn faulty_order(number: u32, i: u32) -> u32 {
     refused(in_call(i % 8, number, index), job, &tables::HOUSE)
 }
 
-// Where each of ten tables begins here and how many words it has; then the words: seventeen rows, of which the first table has all, the
-// next three 0, 2 and 5 words, and six tables of two rows.
+// Where each of ten tables begins here and how many words it has; then the words: seventeen rows, of which the first
+// table has all, the next three 0, 2 and 5 words, and six tables of two rows.
 const TABLES: [u32; 78] = [
     20,
     34, //

@@ -6,8 +6,8 @@ use crate::output::OTHER_REGISTERS;
 use crate::output::print;
 use std::num::wrapping_add_u32;
 
-// The trials, and of these the ones with a wrong value, too far from the curve's line, with another register changed and with wrong
-// counts or a changed rest of the deal buffer; the reading of the first with any of these.
+// The trials, and of these the ones with a wrong value, too far from the curve's line, with another register changed
+// and with wrong counts or a changed rest of the deal buffer; the reading of the first with any of these.
 pub(crate) struct Sums {
     pub(crate) cases: u32,
     pub(crate) value: u32,

@@ -19,7 +19,8 @@ use std::num::wrapping_sub_u32;
 use trio::Shared;
 use trio::Trio;
 
-// An order, what its source opens, and the seed of everything else: of l1, l2 and m of the registers, A, B and the deal buffer.
+// An order, what its source opens, and the seed of everything else: of l1, l2 and m of the registers, A, B and the deal
+// buffer.
 pub(crate) struct Trial {
     pub(crate) kind: u32,
     pub(crate) target: u32,
@@ -42,8 +43,8 @@ fn value(c: Trial, r: u32) -> u32 {
     }
 }
 
-// The floor of Y / 4096. The one-bit curve, mode 1, adds a carry under the mask sum of its refresh: each row's kind 9 uses 26 words of
-// A and 12 of B before that.
+// The floor of Y / 4096. The one-bit curve, mode 1, adds a carry under the mask sum of its refresh: each row's kind 9
+// uses 26 words of A and 12 of B before that.
 fn curve_value(c: Trial, sum: u32, rows: u32) -> u32 {
     let l1 = word(word(c.seed, 4), product(rows, 26));
     let l2 = word(word(c.seed, 5), product(rows, 12));
@@ -76,8 +77,8 @@ fn plain_value(c: Trial, sum: u32, rows: u32) -> u32 {
 // Deals, and words spoken by both hosts.
 struct Cost(u32, u32);
 
-// Document 01's table of costs. Here 10 is what the exact curve has after its rows, a kind 8, and 11 what the one-bit curve has, the
-// kinds 5 and 7.
+// Document 01's table of costs. Here 10 is what the exact curve has after its rows, a kind 8, and 11 what the one-bit
+// curve has, the kinds 5 and 7.
 fn due_cost(kind: u32) -> Cost {
     match kind {
         4 => Cost(1, 2),
@@ -117,7 +118,8 @@ fn others_changed(s: Trio, c: Trial) -> u32 {
     any as u32
 }
 
-// 0 where nothing is refused, and both hosts at the end of one order have spoken half the words. A curve has a kind 9 for each row.
+// 0 where nothing is refused, and both hosts at the end of one order have spoken half the words. A curve has a kind 9
+// for each row.
 fn miscounted(s: Trio, c: Trial, rows: u32) -> u32 {
     let curve = (c.kind == 10) as u32;
     let relus = product(curve, rows);
@@ -131,8 +133,8 @@ fn miscounted(s: Trio, c: Trial, rows: u32) -> u32 {
     ((refusal | turn | order | spoken | (s.deals ^ due_deals)) != 0) as u32
 }
 
-// A job run by the three hosts on drawn lists, with so many words of B. Where a word of the deal buffer past the deals has changed, a
-// number says so.
+// A job run by the three hosts on drawn lists, with so many words of B. Where a word of the deal buffer past the deals
+// has changed, a number says so.
 pub(crate) fn run(job: &[u32], table: &[u32], seed: u32, b_words: u32, shares: Shared) -> Trio {
     let a = list(word(seed, 4));
     let b = list(word(seed, 5));

@@ -1,5 +1,5 @@
-// The cases of "House table by hand" that document 01 does not mark, the limits of splitting, and shares that disagree. Each function
-// answers 0 where a case goes right.
+// The cases of "House table by hand" that document 01 does not mark, the limits of splitting, and shares that disagree.
+// Each function answers 0 where a case goes right.
 use crate::lists::part;
 use crate::trials::opened;
 use crate::trials::opening;
@@ -47,7 +47,8 @@ pub(crate) fn splitting(i: u32) -> u32 {
     }
 }
 
-// Number 10: shares of 7 that differ in l1, in l2, in m, in both masks of host 0, or have the masks the wrong way round.
+// Number 10: shares of 7 that differ in l1, in l2, in m, in both masks of host 0, or have the masks the wrong way
+// round.
 pub(crate) fn disagreeing(i: u32) -> u32 {
     let mut p0 = DealerShare { l1: 5, l2: 8 };
     let mut p1 = WorkerShare { m: 20, l: 5 };

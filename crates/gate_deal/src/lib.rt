@@ -1,4 +1,5 @@
-// What host 0 deals at a gate: document 01's formulas on words. The definitions stand with the gates (`Speech`, `Meaning`).
+// What host 0 deals at a gate: document 01's formulas on words. The definitions stand with the gates (`Speech`,
+// `Meaning`).
 ghost use mathlib.Core.Path.{_≡_};
 ghost use Rattle.words.specs.Words.{sub, neg, numbers, bits};
 ghost use Rattle.shares.specs.Gates.{product-deal};
@@ -6,8 +7,8 @@ ghost use Rattle.gates.specs.Speech.{dealt-word};
 ghost use Rattle.gates.specs.Meaning.{meaning, dealt-of};
 use gates::Dealt;
 use gates::Gate;
-use word_parts::part_of;
 use word_lists::at;
+use word_parts::part_of;
 
 // -x modulo 2^32.
 fn negated(x: u32) -> u32

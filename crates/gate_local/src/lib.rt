@@ -1,15 +1,15 @@
-// What a gate writes on a lane before any word is exchanged: one slot, in place. The walks of all three hosts go through
-// `step_mask` and `step_m`.
+// What a gate writes on a lane before any word is exchanged: one slot, in place. The walks of all three hosts go
+// through `step_mask` and `step_m`.
 ghost use mathlib.Core.Path.{_≡_};
 ghost use Rattle.gates.specs.Hosts.{on-m, on-mask};
 ghost use Rattle.gates.specs.Meaning.{meaning};
 ghost use Rattle.gate_local.specs.Writes.{written};
 use gates::Gate;
+use word_lists::at;
+use word_lists::put;
 use word_parts::bit_of;
 use word_parts::part_of;
 use word_parts::shift_up;
-use word_lists::at;
-use word_lists::put;
 
 // A slot and its new word; nothing where words are exchanged first.
 enum Written {

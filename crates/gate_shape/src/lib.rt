@@ -1,4 +1,5 @@
-// What a walk does at a gate, and what it uses there. The definitions stand with the gates (`Speech`, `Meaning`, `Costs`).
+// What a walk does at a gate, and what it uses there. The definitions stand with the gates (`Speech`, `Meaning`,
+// `Costs`).
 ghost use mathlib.Core.Path.{_≡_};
 ghost use Rattle.gates.specs.Speech.{shape};
 ghost use Rattle.gates.specs.Meaning.{meaning};

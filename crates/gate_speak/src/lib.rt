@@ -1,4 +1,5 @@
-// The words that are spoken at a gate: document 01's formulas on words. The definitions stand with the gates (`Speech`, `Meaning`).
+// The words that are spoken at a gate: document 01's formulas on words. The definitions stand with the gates (`Speech`,
+// `Meaning`).
 ghost use mathlib.Core.Path.{_≡_};
 ghost use Rattle.words.specs.Words.{numbers, bits};
 ghost use Rattle.shares.specs.Gates.{product-word1, product-word2, refresh-word1, refresh-word2};

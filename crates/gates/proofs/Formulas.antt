@@ -54,10 +54,13 @@ moves end c = omega arith
 
 module _ (A B : List ℕ) (c : Cursor) (j : Triple) where
   -- a step's effect, from what it leaves, deals and speaks, and from its counts
-  has : (x : Step) (d : ℕ) (e : Effect) → (Slot j d → share (act A B x c j) d ≡ e .left) → ((i : ℕ) → i ≢ d → share (act A B x c j) i ≡ share j i)
-      → ((later : List ℕ) → dealt A B x c (of0 j) later ≡ e .deals ++ later) → ((later : List ℕ) → utter (joint1 A B) x c j later ≡ e .says1 ++ later)
+  has : (x : Step) (d : ℕ) (e : Effect) → (Slot j d → share (act A B x c j) d ≡ e .left)
+      → ((i : ℕ) → i ≢ d → share (act A B x c j) i ≡ share j i)
+      → ((later : List ℕ) → dealt A B x c (of0 j) later ≡ e .deals ++ later)
+      → ((later : List ℕ) → utter (joint1 A B) x c j later ≡ e .says1 ++ later)
       → ((later : List ℕ) → utter (joint2 A B) x c j later ≡ e .says2 ++ later)
-      → step-cost x ≡ cost-of (length (e .deals)) (length (e .says1) + length (e .says2)) (length (e .a)) (length (e .b)) → Has A B c j x d e
+      → step-cost x ≡ cost-of (length (e .deals)) (length (e .says1) + length (e .says2)) (length (e .a)) (length (e .b))
+      → Has A B c j x d e
   has x d e target others deals says1 says2 counts =
       let z : Moves x c = moves x c in
       let p : step-cost x .deals ≡ length (e .deals) = ap (λ (k : Cost). k .deals) counts in
@@ -100,7 +103,8 @@ module _ (A B : List ℕ) (c : Cursor) (j : Triple) where
       → Has A B c j (exchange d (Steps.product O a b)) d (a-product O (share j a) (share j b) g1 l1 l2)
   unfolding act dealt utter step-cost joint1 joint2 say1 say2 meet part2 new-at emit
   has-product d O a b g1 l1 l2 h k n =
-      rw (← h, ← k, ← n) (has (exchange d (Steps.product O a b)) d _ (there j d _) (elsewhere j d _) (λ r. refl) (λ r. refl) (λ r. refl) refl)
+      rw (← h, ← k, ← n) (has (exchange d (Steps.product O a b)) d _ (there j d _) (elsewhere j d _) (λ r. refl) (λ r. refl)
+      (λ r. refl) refl)
 
   has-refresh : (d : ℕ) (O : Ops ℕ) (a l1 l2 : ℕ) → at A (c .a) ≡ l1 → at B (c .b) ≡ l2
       → Has A B c j (exchange d (Steps.refresh O a)) d (a-refresh O (share j a) l1 l2)

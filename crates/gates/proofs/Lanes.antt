@@ -2,8 +2,10 @@
 use mathlib.Core.Path.{_≡_, refl}
 use mathlib.Core.List.{List, _∷_}
 use Prim.Native.Nat.{ℕ}
-use Rattle.gates.specs.Steps.{Lane, at, Exchange, product, refresh, Step, local, deal, exchange, end, say2, past-deal, emit, Cursor, past}
-use Rattle.gates.specs.Hosts.{on-m, on-mask, Triple, of0, of1, of2, act0, dealt, deals, act1, word-of1, hear1, act2, word-of2, hear2, joint1, joint2, act, Starts, Supplied}
+use Rattle.gates.specs.Steps.{Lane, at, Exchange, product, refresh, Step, local, deal, exchange, end, say2, past-deal, emit, Cursor}
+use Rattle.gates.specs.Steps.{past}
+use Rattle.gates.specs.Hosts.{on-m, on-mask, Triple, of0, of1, of2, act0, dealt, deals, act1, word-of1, hear1, act2, word-of2, hear2}
+use Rattle.gates.specs.Hosts.{joint1, joint2, act, Starts, Supplied}
 use Rattle.gates.proofs.Seen.{Seen, quiet, Always, Any}
 
 module _ (A B : List ℕ) where
@@ -33,7 +35,8 @@ module _ (A B : List ℕ) where
     supply-exchange (product O a b) k x ds h = h .1
     supply-exchange (refresh O a) k x ds h = h
 
-    keeps2 : (x : Step) (ss : List Step) (c : Cursor) (j : Triple) → Supplied A B D (x ∷ ss) c j → Supplied A B D ss (past x c) (act A B x c j)
+    keeps2 : (x : Step) (ss : List Step) (c : Cursor) (j : Triple) → Supplied A B D (x ∷ ss) c j
+        → Supplied A B D ss (past x c) (act A B x c j)
     unfolding deals dealt past
     keeps2 (local d m l) ss c j g = rw (← of0-act (local d m l) c j) g
     keeps2 (deal d f) ss c j g = rw (← of0-act (deal d f) c j) (g .1)
@@ -56,7 +59,8 @@ module _ (A B : List ℕ) where
     unfolding word-of1 joint1
     says1 e c j = refl
 
-    say2-part : (e : Exchange) (k x : ℕ) (ds : List ℕ) (m l : Lane) (new : ℕ) → Starts D k (emit e x ds) → say2 e m l (at D k) new ≡ say2 e m l x new
+    say2-part : (e : Exchange) (k x : ℕ) (ds : List ℕ) (m l : Lane) (new : ℕ) → Starts D k (emit e x ds)
+        → say2 e m l (at D k) new ≡ say2 e m l x new
     unfolding emit say2
     say2-part (product O a b) k x ds m l new h = rw (h .0)
     say2-part (refresh O a) k x ds m l new h = refl

@@ -1,5 +1,5 @@
--- What a list of steps needs of A, of B and of the deals, and what it speaks, as sums over the list; what the lists hold beyond does not matter.
--- Assumes nothing.
+-- What a list of steps needs of A, of B and of the deals, and what it speaks, as sums over the list; what the lists hold beyond does not
+-- matter. Assumes nothing.
 use mathlib.Core.Path.{_≡_, refl, sym, ap, _∙_}
 use mathlib.Core.List.{List, [], _∷_, _++_}
 use Prim.Native.Nat.{ℕ, _*_, suc, _+_, _≤_, _<_}
@@ -13,7 +13,8 @@ use Rattle.gates.specs.Walk.{whole, far}
 use Rattle.gates.specs.Hosts.{Pair, Triple, of0, act0, dealt, deals, act, joint1, joint2}
 use Rattle.gates.proofs.Lanes.{of0-act}
 
-pub whole-cursor : {S : Type 0} (f : Step → Cursor → S → S) (ss : List Step) (c : Cursor) (s : S) (t : List S) → whole f ss c s t .cur ≡ far ss c
+pub whole-cursor : {S : Type 0} (f : Step → Cursor → S → S) (ss : List Step) (c : Cursor) (s : S) (t : List S)
+    → whole f ss c s t .cur ≡ far ss c
 unfolding whole far
 whole-cursor f [] c s t = refl
 whole-cursor f (x ∷ ss) c s t = whole-cursor f ss _ _ _
@@ -58,7 +59,8 @@ far-used (x ∷ ss) c =
     record { a = omega arith; b = omega arith; deals = omega arith }
 
 -- the two hosts speak as many words as are counted
-utter-length : {S : Type 0} (say : Exchange → Cursor → S → ℕ) (x : Step) (c : Cursor) (s : S) (ws : List ℕ) → length (utter say x c s ws) * 2 ≡ step-cost x .words + length ws * 2
+utter-length : {S : Type 0} (say : Exchange → Cursor → S → ℕ) (x : Step) (c : Cursor) (s : S) (ws : List ℕ)
+    → length (utter say x c s ws) * 2 ≡ step-cost x .words + length ws * 2
 unfolding utter step-cost
 utter-length say (local d m l) c s ws = omega arith
 utter-length say (deal d f) c s ws = omega arith
@@ -70,7 +72,11 @@ pub words-length : {S : Type 0} (f : Step → Cursor → S → S) (say : Exchang
     → length (words f say ss c s) * 2 ≡ cost ss .words
 unfolding words cost plus
 words-length f say [] c s = refl
-words-length f say (x ∷ ss) c s = omega (arith, utter-length say x c s (words f say ss (past x c) (f x c s)), words-length f say ss (past x c) (f x c s))
+words-length f say (x ∷ ss) c s = omega (
+  arith,
+  utter-length say x c s (words f say ss (past x c) (f x c s)),
+  words-length f say ss (past x c) (f x c s),
+)
 
 -- preparation writes as many deals as the steps need
 emitted : (e : Exchange) (x k : ℕ) (ds : List ℕ) → length (emit e x ds) + k ≡ length ds + past-deal e k
@@ -133,7 +139,8 @@ module _ (A A′ B B′ : List ℕ) where
 
   abbrev Says : (say say′ : Exchange → Cursor → Triple → ℕ) → Type 0
   Says say say′ =
-      (d : ℕ) (e : Exchange) (c : Cursor) (j : Triple) → Alike A A′ (past (exchange d e) c .a) → Alike B B′ (past (exchange d e) c .b) → say e c j ≡ say′ e c j
+      (d : ℕ) (e : Exchange) (c : Cursor) (j : Triple) → Alike A A′ (past (exchange d e) c .a) → Alike B B′ (past (exchange d e) c .b)
+      → say e c j ≡ say′ e c j
 
   says1 : Says (joint1 A B) (joint1 A′ B′)
   unfolding joint1 past new-at
@@ -146,7 +153,8 @@ module _ (A A′ B B′ : List ℕ) where
   says2 d (refresh O a) c j h k = rw (h (c .a) (omega arith), k (c .b) (omega arith))
 
   module _ (say say′ : Exchange → Cursor → Triple → ℕ) (same : Says say say′) where
-    utter-alike : (x : Step) (c : Cursor) (j : Triple) (ws : List ℕ) → Alike A A′ (past x c .a) → Alike B B′ (past x c .b) → utter say x c j ws ≡ utter say′ x c j ws
+    utter-alike : (x : Step) (c : Cursor) (j : Triple) (ws : List ℕ) → Alike A A′ (past x c .a) → Alike B B′ (past x c .b)
+        → utter say x c j ws ≡ utter say′ x c j ws
     unfolding utter
     utter-alike (local d m l) c j ws h k = refl
     utter-alike (deal d f) c j ws h k = refl
@@ -186,7 +194,8 @@ module _ (A A′ B B′ : List ℕ) where
   dealt-alike (exchange d (refresh O a)) c s ds h = rw (h (c .a) (omega arith))
   dealt-alike end c s ds h = refl
 
-  pub deals-alike : (ss : List Step) (c : Cursor) (s : Pair) → Alike A A′ (far ss c .a) → Alike B B′ (far ss c .b) → deals A B ss c s ≡ deals A′ B′ ss c s
+  pub deals-alike : (ss : List Step) (c : Cursor) (s : Pair) → Alike A A′ (far ss c .a) → Alike B B′ (far ss c .b)
+      → deals A B ss c s ≡ deals A′ B′ ss c s
   unfolding deals far
   deals-alike [] c s h k = refl
   deals-alike (x ∷ ss) c s h k =

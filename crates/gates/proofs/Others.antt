@@ -1,4 +1,5 @@
--- The gates that a `match` leaves to its last arm, where all that is known is that the variant's number is one of those left. Assumes nothing.
+-- The gates that a `match` leaves to its last arm, where all that is known is that the variant's number is one of those left. Assumes
+-- nothing.
 use mathlib.Core.Path.{_≡_, refl}
 use mathlib.Core.List.{List, [], _∷_}
 use Prim.Native.Nat.{ℕ}
@@ -6,7 +7,8 @@ use types.Run.{OneOf, miss}
 use denote.Enum.Declared.{tagOf}
 use Rattle.gates.proofs.Gate.{the-type}
 use Rattle.gates.specs.declared.Gate.{Gate}
-use Rattle.gates.specs.declared.Gate.the-variants.{Add, Sub, Xor, Mul, And, Refresh, Scale, Plus, Up, Bit, Const, Public, Deal, DealBits}
+use Rattle.gates.specs.declared.Gate.the-variants.{Add, Sub, Xor, Mul, And, Refresh, Scale, Plus, Up, Bit, Const, Public, Deal}
+use Rattle.gates.specs.declared.Gate.the-variants.{DealBits}
 use Rattle.gates.specs.declared.Shape.the-variants.{Local}
 use Rattle.gates.specs.Steps.{Lane, Step, local, deal, part2}
 use Rattle.gates.specs.Meaning.{meaning}

@@ -29,7 +29,8 @@ Always ss c s = Unit
 abbrev pub Any : Step → Type 0
 Any x = Unit
 
-module _ {S R : Type 0} (act : Step → Cursor → S → S) (act′ : Step → Cursor → R → R) (h : S → R) (Good : List Step → Cursor → S → Type 0) where
+module _ {S R : Type 0} (act : Step → Cursor → S → S) (act′ : Step → Cursor → R → R) (h : S → R)
+    (Good : List Step → Cursor → S → Type 0) where
   pub see-walk : Seen act act′ h Good quiet → (ss : List Step) (c : Cursor) (s : S) (t : List S) → Good ss c s
       → walk act′ ss c (h s) (map h t) ≡ through h (walk act ss c s t)
   unfolding walk

@@ -1,4 +1,5 @@
--- Document 01's counts, of a step and of a list of steps: deals, words spoken, and words used of A and of B. Assumes nothing.
+-- Document 01's counts, of a step and of a list of steps: deals, words spoken, and words used of A and of B. Assumes
+-- nothing.
 use mathlib.Core.List.{List, [], _∷_}
 use Prim.Native.Nat.{ℕ, _+_}
 use Rattle.gates.specs.declared.Used.{Used}

@@ -1,11 +1,13 @@
--- The steps of a walk: what a walk sees of a gate. The words of a product or refresh, and the cursor that counts what is used. Assumes nothing.
+-- The steps of a walk: what a walk sees of a gate. The words of a product or refresh, and the cursor that counts what
+-- is used. Assumes nothing.
 use mathlib.Core.List.{List, _∷_}
 use Prim.Native.Nat.{ℕ, suc}
 use lib.ListN.{getD}
 use Rattle.words.specs.Ring.{Ops}
 use Rattle.shares.specs.Gates.{product-deal, product-word1, product-word2, refresh-word1, refresh-word2}
 
--- a host's words of one kind, m or a mask: slots 0 to 15 are the registers, 16 to 23 the temporaries ("the words kept between gates")
+-- a host's words of one kind, m or a mask: slots 0 to 15 are the registers, 16 to 23 the temporaries ("the words kept
+-- between gates")
 abbrev pub Lane : Type 0
 Lane = List ℕ
 
@@ -17,8 +19,8 @@ pub data Exchange : Type 0 where
   product : (O : Ops ℕ) (a b : ℕ) → Exchange
   refresh : (O : Ops ℕ) (a : ℕ) → Exchange
 
--- What a walk sees of a gate with the target d. A local step gives slot d on the lane m and on a mask lane; a deal gives the second mask of slot d
--- from the first, the next word of A, and from the two mask lanes. `end` ends an order
+-- What a walk sees of a gate with the target d. A local step gives slot d on the lane m and on a mask lane; a deal
+-- gives the second mask of slot d from the first, the next word of A, and from the two mask lanes. `end` ends an order
 pub data Step : Type 0 where
   local : (d : ℕ) (m l : Lane → ℕ) → Step
   deal : (d : ℕ) (f : ℕ → Lane → Lane → ℕ) → Step
@@ -58,7 +60,8 @@ unfoldable pub emit : Exchange → ℕ → List ℕ → List ℕ
 emit (product O a b) x ds = x ∷ ds
 emit (refresh O a) x ds = ds
 
--- how far a walk has come: its place (order, and which of its products and refreshes), and the words used of A, of B and of the deals
+-- how far a walk has come: its place (order, and which of its products and refreshes), and the words used of A, of B
+-- and of the deals
 pub record Cursor : Type 0 where
   pub order : ℕ
   pub turn : ℕ
@@ -69,9 +72,17 @@ pub record Cursor : Type 0 where
 abbrev pub origin : Cursor
 origin = record { order = 0; turn = 0; a = 0; b = 0; deals = 0 }
 
--- the cursor behind a step: a deal uses one word of A, a product two of A, one of B and a deal, a refresh one of A and one of B
+-- the cursor behind a step: a deal uses one word of A, a product two of A, one of B and a deal, a refresh one of A and
+-- one of B
 unfoldable pub past : Step → Cursor → Cursor
 past (local d m l) c = c
 past (deal d f) c = record { order = c.order; turn = c.turn; a = suc c.a; b = c.b; deals = suc c.deals }
-past (exchange d e) c = record { order = c.order; turn = suc c.turn; a = suc (new-at e c.a); b = suc c.b; deals = past-deal e c.deals }
+past (exchange d e) c = record {
+  order = c.order;
+  turn = suc c.turn;
+  a = suc (new-at e c.a);
+  b = suc c.b;
+  deals =
+      past-deal e c.deals;
+}
 past end c = record { order = suc c.order; turn = 0; a = c.a; b = c.b; deals = c.deals }

@@ -6,8 +6,8 @@ ghost use lib.ListN.{length};
 ghost use Rattle.tables.specs.Table.{rows, keeps-rules};
 ghost use Rattle.gates.specs.Costs.{cost-of, plus};
 ghost use Rattle.jobs.specs.Walk.{counted, Small, kind-cost};
-use programs::Order;
 use jobs::Counts;
+use programs::Order;
 
 pub(crate) fn count_of(deals: u32, words: u32, a: u32, b: u32) -> Counts
     ensures { λ r. ⌜ counted r ≡ cost-of deals words a b ⌝ }

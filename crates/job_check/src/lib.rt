@@ -8,10 +8,10 @@ use crate::cost::none;
 use crate::cost::order_counts;
 use crate::cost::plus;
 use crate::cost::rows_of;
-use jobs::Checked;
-use jobs::Findings;
 use job_order::order_at;
 use job_order::order_fault;
+use jobs::Checked;
+use jobs::Findings;
 
 mod cost;
 

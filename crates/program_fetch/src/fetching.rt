@@ -11,8 +11,8 @@ use crate::templates::exact_gate;
 use crate::templates::one_bit_gate;
 use crate::templates::relu_gate;
 use crate::templates::slack_gate;
-use programs::Order;
 use gates::Gate;
+use programs::Order;
 
 // Kinds 0 to 5: a program of one gate.
 fn one_gate(o: Order, i: usize) -> Fetched

@@ -1,12 +1,12 @@
 // The rehearsal (document 01, "House table by hand"): answers each line of standard input on standard output. How the
-// input is cut into lines is proved of `text_lines::cut`, what a line is answered of `rehearsal_answer::rehearsed`; here bytes are
-// read and written.
+// input is cut into lines is proved of `text_lines::cut`, what a line is answered of `rehearsal_answer::rehearsed`;
+// here bytes are read and written.
+use rehearsal_answer::rehearsed;
 use text_lines::Line;
 use text_lines::blank;
 use text_lines::cut;
 use text_lines::front;
 use text_prints::Text;
-use rehearsal_answer::rehearsed;
 
 // Whether there was anything more to read, and the line that it left open.
 struct Input {

@@ -30,16 +30,24 @@ multiples-fit f j (suc n) (suc i) = multiples-fit f (suc j) n i
 
 -- the next word is one more multiple
 pub next-multiple : (f k word : ℕ) → word ≡ f * k % 2 ^ 32 → (word + f) % 2 ^ 32 ≡ f * suc k % 2 ^ 32
-next-multiple f k word e = ap (λ (x : ℕ). (x + f) % 2 ^ 32) e ∙ mod-add-mod (f * k) (2 ^ 32) f ∙ ap (λ (x : ℕ). x % 2 ^ 32) (omega (arith, mul-suc f k))
+next-multiple f k word e = ap (λ (x : ℕ). (x + f) % 2 ^ 32) e ∙ mod-add-mod (f * k) (2 ^ 32) f
+    ∙ ap (λ (x : ℕ). x % 2 ^ 32) (omega (arith, mul-suc f k))
 
 -- word i of the list is written
 pub fill-more : (d : List ℕ) (f o i word : ℕ) → i < length d → word ≡ f * suc (o + i) % 2 ^ 32
     → set (copied d (multiples f (o + 1) (length d)) i) i word ≡ copied d (multiples f (o + 1) (length d)) (i + 1)
 fill-more d f o i word h e =
-    ap (set (copied d (multiples f (o + 1) (length d)) i) i) (e ∙ ap (λ (x : ℕ). f * x % 2 ^ 32) (omega arith) ∙ sym (multiples-at f (o + 1) (length d) i h))
+    ap (set (copied d (multiples f (o + 1) (length d)) i) i)
+    (e ∙ ap (λ (x : ℕ). f * x % 2 ^ 32) (omega arith) ∙ sym (multiples-at f (o + 1) (length d) i h))
     ∙ copy-more d (multiples f (o + 1) (length d)) i h (omega (arith, multiples-length f (o + 1) (length d)))
 
-pub filled : (d : List ℕ) (f o i : ℕ) → length d ≤ i → i ≤ length d → copied d (multiples f (o + 1) (length d)) i ≡ multiples f (o + 1) (length d)
+pub filled : (d : List ℕ) (f o i : ℕ) → length d ≤ i → i ≤ length d
+    → copied d (multiples f (o + 1) (length d)) i ≡ multiples f (o + 1) (length d)
 filled d f o i h k =
     let e : i ≡ length d = omega arith in
-    rw (e, take-all (length d) (multiples f (o + 1) (length d)) (omega (arith, multiples-length f (o + 1) (length d))), drop-length d, append-nil)
+    rw (
+      e,
+      take-all (length d) (multiples f (o + 1) (length d)) (omega (arith, multiples-length f (o + 1) (length d))),
+      drop-length d,
+      append-nil,
+    )

@@ -19,12 +19,15 @@ opens O R =
       product-opens =
           λ a b.
           solve O R 9
-          (λ ma a1 a2 mb b1 b2 g1 l1 l2.
-          (value exprs (product exprs (vars ma a1 a2) (vars mb b1 b2) g1 l1 l2), exprs .mul (value exprs (vars ma a1 a2)) (value exprs (vars mb b1 b2))))
+          (λ ma a1 a2 mb b1 b2 g1 l1 l2. (
+            value exprs (product exprs (vars ma a1 a2) (vars mb b1 b2) g1 l1 l2),
+            exprs .mul (value exprs (vars ma a1 a2)) (value exprs (vars mb b1 b2)),
+          ))
           refl (a .m) (a .l1) (a .l2) (b .m) (b .l1) (b .l2);
       refresh-opens =
           λ a.
-          solve O R 5 (λ m a1 a2 l1 l2. (value exprs (refresh exprs (vars m a1 a2) l1 l2), value exprs (vars m a1 a2))) refl (a .m) (a .l1) (a .l2);
+          solve O R 5 (λ m a1 a2 l1 l2. (value exprs (refresh exprs (vars m a1 a2) l1 l2), value exprs (vars m a1 a2))) refl (a .m) (a .l1)
+          (a .l2);
     }
 
 -- words modulo 2^w

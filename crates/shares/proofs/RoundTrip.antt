@@ -1,4 +1,5 @@
--- The code's tests and sums are those of `split` and `reconstruction`; and splitting, then opening, gives back the reading. Assumes nothing.
+-- The code's tests and sums are those of `split` and `reconstruction`; and splitting, then opening, gives back the reading. Assumes
+-- nothing.
 use mathlib.Core.Path.{_≡_, refl, sym, ap, ap₂, _∙_}
 use mathlib.Core.Bool.{Bool, true, false, not}
 use mathlib.Core.Logic.{_≢_}
@@ -60,7 +61,8 @@ module _ (z : ℤ) (h : SFits w64 z) (l1 l2 : ℕ) where
     unfolding split in-range add
     accepted u m mask word e f g =
         rw (low, turn-back (pos 1073741824) z false (rw (toZ-ofZ w64 z h) at u))
-        (ap {B = ℕ × Six} (λ (y : ℕ). (0, hand-out (record { m = y; l1 = l1; l2 = l2 }))) (g ∙ ap₂ (λ (x y : ℕ). (x + y) % 2 ^ 32) (f ∙ ap (wrap 32) (toZ-ofZ w64 z h)) e))
+        (ap {B = ℕ × Six} (λ (y : ℕ). (0, hand-out (record { m = y; l1 = l1; l2 = l2 })))
+        (g ∙ ap₂ (λ (x y : ℕ). (x + y) % 2 ^ 32) (f ∙ ap (wrap 32) (toZ-ofZ w64 z h)) e))
 
 -- ---- opening
 
@@ -114,8 +116,11 @@ round-trip w z l1 l2 o r h1 h2 =
     let v : value (numbers w) s ≡ wrap w z =
     ap (λ (x : Word w). x .0) (numbers-open w .masked-opens (wrap w z, wrap-lt w z) (l1, h1) (l2, h2)) in
     let q : 2 ^ (w - 2) ≤ 2 ^ (w - 1) = pow-mono (omega arith) in
-    rw e
-    (refl, rw (agreed s) (ap {B = ℕ × ℤ} (λ (y : ℤ). (0, y)) (ap (signed w) v ∙ signed-wrap w z (omega arith) (omega (arith, in-range-mag w z r)))))
+    rw e (
+      refl,
+      rw (agreed s) (ap {B = ℕ × ℤ} (λ (y : ℤ). (0, y))
+          (ap (signed w) v ∙ signed-wrap w z (omega arith) (omega (arith, in-range-mag w z r)))),
+    )
 
 -- and a reading outside is refused
 pub outside : (w : ℕ) (reading : ℤ) (l1 l2 : ℕ) → in-range w reading ≡ false → split w reading l1 l2 ≡ (11, nothing)

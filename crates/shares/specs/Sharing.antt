@@ -1,4 +1,5 @@
--- Document 01, "Shares": splitting a reading for the three hosts and opening their six words; conditions 10 and 11. Assumes nothing.
+-- Document 01, "Shares": splitting a reading for the three hosts and opening their six words; conditions 10 and 11.
+-- Assumes nothing.
 use mathlib.Core.Bool.{Bool, _&&_, cond}
 use Prim.Native.Nat.{ℕ}
 use lib.Dec.{eqb}
@@ -35,4 +36,5 @@ agree s = eqb (s .l1-of-0) (s .l1-of-1) && eqb (s .l2-of-0) (s .l2-of-2) && eqb 
 -- Opening: the number, or 0, and the value as a signed number. "10. The opened shares disagree in L1, in L2 or in m."
 unfoldable pub reconstruction : (w : ℕ) → Six → ℕ × ℤ
 reconstruction w s =
-    cond (agree s) (0, signed w (value (numbers w) (record { m = s .m-of-1; l1 = s .l1-of-0; l2 = s .l2-of-0 }))) (10, pos 0)
+    cond (agree s) (0, signed w (value (numbers w) (record { m = s .m-of-1; l1 = s .l1-of-0; l2 = s .l2-of-0 })))
+    (10, pos 0)

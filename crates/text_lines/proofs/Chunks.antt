@@ -13,7 +13,8 @@ use lib.ListN.{length, getD, take, drop, drop-of-length-le, length-append}
 use lib.Seq.{take-all, take-append-le, length-take-le, drop-cons, drop-drop}
 use Rattle.text_lines.specs.Lines.{parsed}
 use Rattle.text_lines.specs.Buffers.{Buffer, filled, with-byte}
-use Rattle.text_lines.specs.Input.{Cut, cut-is, cut-from, cut-then, cuts, cut-chunk, Split, split-is, line-then, lines-in, kept, all-kept}
+use Rattle.text_lines.specs.Input.{Cut, cut-is, cut-from, cut-then, cuts, cut-chunk, Split, split-is, line-then, lines-in, kept}
+use Rattle.text_lines.specs.Input.{all-kept}
 use Rattle.text_lines.proofs.Reading.{long}
 use Rattle.text_lines.proofs.Buffers.{byte-fills}
 
@@ -57,7 +58,8 @@ pub chunks : (before xs ys : List ℕ) → lines-in before (xs ++ ys)
 unfolding lines-in
 chunks before [] ys = refl
 chunks before (b ∷ xs) ys =
-    go (eqb b 10) (lines-in [] xs) (lines-in more xs) (lines-in [] (xs ++ ys)) (lines-in more (xs ++ ys)) (chunks [] xs ys) (chunks more xs ys)
+    go (eqb b 10) (lines-in [] xs) (lines-in more xs) (lines-in [] (xs ++ ys)) (lines-in more (xs ++ ys)) (chunks [] xs ys)
+    (chunks more xs ys)
   where
     more : List ℕ
     more = before ++ (b ∷ [])

@@ -60,7 +60,8 @@ module _ (mode : ℕ) (minus : Bool) (n : ℕ) (s : List ℕ) (i : ℕ) where
   pub above : i < length s → 48 ≤ getD s i 0 → 57 < getD s i 0 → digits mode minus n (drop i s) ≡ malformed
   above h l u = rw (next h, le-leb 48 (getD s i 0) l, lt-leb (getD s i 0) 57 u)
 
-  pub digit : i < length s → 48 ≤ getD s i 0 → getD s i 0 ≤ 57 → digits mode minus n (drop i s) ≡ digits mode minus (n * 10 + (getD s i 0 - 48)) (drop (i + 1) s)
+  pub digit : i < length s → 48 ≤ getD s i 0 → getD s i 0 ≤ 57
+      → digits mode minus n (drop i s) ≡ digits mode minus (n * 10 + (getD s i 0 - 48)) (drop (i + 1) s)
   digit h l u = rw (next h, le-leb 48 (getD s i 0) l, le-leb (getD s i 0) 57 u)
 
   pub ended : length s ≤ i → digits mode minus n (drop i s) ≡ asking mode (with-sign minus n)
@@ -68,7 +69,8 @@ module _ (mode : ℕ) (minus : Bool) (n : ℕ) (s : List ℕ) (i : ℕ) where
   ended l = rw (drop-of-length-le s l)
 
   -- what the digits from i on show is what all of them do
-  pub all : (length s ≡ 0 → ⊥) → length s ≤ 10 → digits mode minus n (drop i s) ≡ digits mode minus 0 s → {p : Parsed} → digits mode minus n (drop i s) ≡ p → p ≡ after-sign mode minus s
+  pub all : (length s ≡ 0 → ⊥) → length s ≤ 10 → digits mode minus n (drop i s) ≡ digits mode minus 0 s → {p : Parsed}
+      → digits mode minus n (drop i s) ≡ p → p ≡ after-sign mode minus s
   all f h e q = sym (some mode minus s f h ∙ sym e ∙ q)
 
 -- ---- the number's size

@@ -89,11 +89,16 @@ module _ (start e : ℕ) (l : List ℕ) (ends : e ≡ start + digits l) where
     written = let count : e - start ≡ digits l = omega arith in rw count at w
 
     pub too-large : 4294967295 < v → no-word start ≡ word-at start l
-    too-large m = rw (lt-ltb 0 (digits l) some, le-leb (digits l) 10 few, lt-leb (decimal 0 (take (digits l) l)) 4294967295 (above _ written m))
+    too-large m = rw (
+      lt-ltb 0 (digits l) some,
+      le-leb (digits l) 10 few,
+      lt-leb (decimal 0 (take (digits l) l)) 4294967295 (above _ written m),
+    )
 
     pub whole : v ≤ 4294967295 → record { good = true; value = v; next = e } ≡ word-at start l
     whole m =
         let same : v ≡ decimal 0 (take (digits l) l) = exactly _ written m in
         let fits : decimal 0 (take (digits l) l) ≤ 4294967295 = omega arith in
         rw (lt-ltb 0 (digits l) some, le-leb (digits l) 10 few, le-leb (decimal 0 (take (digits l) l)) 4294967295 fits)
-        (ap (λ (x : ℕ). record { good = true; value = x; next = e }) same ∙ ap (λ (x : ℕ). record { good = true; value = decimal 0 (take (digits l) l); next = x }) ends)
+        (ap (λ (x : ℕ). record { good = true; value = x; next = e }) same
+        ∙ ap (λ (x : ℕ). record { good = true; value = decimal 0 (take (digits l) l); next = x }) ends)

@@ -8,7 +8,8 @@ use lib.ListN.{length, getD, set}
 use lib.Seq.{getD-set-same, getD-set-other}
 
 -- f i is stored at i, behind what f gives
-pub filled : (f : ℕ → ℕ) (l : List ℕ) (i v : ℕ) → i < length l → v ≡ f i → ((k : ℕ) → k < i → getD l k 0 ≡ f k) → (k : ℕ) → k < i + 1 → getD (set l i v) k 0 ≡ f k
+pub filled : (f : ℕ → ℕ) (l : List ℕ) (i v : ℕ) → i < length l → v ≡ f i → ((k : ℕ) → k < i → getD l k 0 ≡ f k) → (k : ℕ) → k < i + 1
+    → getD (set l i v) k 0 ≡ f k
 filled f l i v h e all =
     below-more (λ k. getD (set l i v) k 0 ≡ f k) i
     (λ k below. getD-set-other l i k v 0 (λ same. omega arith) ∙ all k below)

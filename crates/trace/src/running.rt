@@ -3,12 +3,12 @@ use crate::fronts::front;
 use crate::printing::put_line;
 use dealer::Masks;
 use dealer::prepare;
+use sample_masks::fill;
+use shares::Opening;
+use trio_open::opened;
 use worker::Answer;
 use worker::Registers;
 use worker::start;
-use sample_masks::fill;
-use trio_open::opened;
-use shares::Opening;
 
 // The longest accepted job is 64 exact curve orders on 16 rows. One of them needs 444 words of A, 204 of B and
 // 240 deals, and each host speaks 204 words.

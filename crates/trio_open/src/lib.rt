@@ -4,13 +4,13 @@ ghost use Rattle.gates.specs.Steps.{at};
 ghost use Rattle.shares.specs.Answers.{opening};
 ghost use Rattle.runs.specs.Runs.{opened-slot};
 use dealer::Masks;
-use worker::State;
 use shares::DealerShare;
 use shares::Opening;
 use shares::Shares;
 use shares::WorkerShare;
 use shares::reconstruct;
 use word_lists::word_at;
+use worker::State;
 
 // What host 1 or 2 holds of a register.
 fn held(s: State, register: usize) -> WorkerShare

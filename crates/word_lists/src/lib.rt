@@ -1,5 +1,5 @@
-// A lane's slots and a list's words. Reading past the last one gives 0 and writing there does nothing, so that every gate
-// has a meaning on every lane.
+// A lane's slots and a list's words. Reading past the last one gives 0 and writing there does nothing, so that every
+// gate has a meaning on every lane.
 ghost use mathlib.Core.Path.{_≡_};
 ghost use Prim.Native.Nat.{_+_};
 ghost use lib.ListN.{set};

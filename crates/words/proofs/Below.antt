@@ -1,5 +1,5 @@
--- Identities of the numbers below 2^w, under operations that a commutative ring of words carries: `solve-below`, for numbers and for bits at once.
--- Assumes nothing.
+-- Identities of the numbers below 2^w, under operations that a commutative ring of words carries: `solve-below`, for numbers and for bits
+-- at once. Assumes nothing.
 use mathlib.Core.Path.{_≡_, refl, sym, ap, ap₂, _∙_}
 use mathlib.Core.List.{List, [], _∷_}
 use Prim.Native.Nat.{ℕ, zero, suc, _^_, _<_}

@@ -38,7 +38,14 @@ unfolding bit shl
 bit-shl-low w d x i h k =
     let e : d ≡ (d - suc i + 1) + i = omega arith in
     bit-mod (x * 2 ^ d) w i h
-    ∙ rw (e, pow-add 2 (d - suc i + 1) i, pow-add 2 (d - suc i) 1, ← mul-assoc x (2 ^ (d - suc i) * 2) (2 ^ i), shl-shr (x * (2 ^ (d - suc i) * 2)) i, ← mul-assoc x (2 ^ (d - suc i)) 2)
+    ∙ rw (
+      e,
+      pow-add 2 (d - suc i + 1) i,
+      pow-add 2 (d - suc i) 1,
+      ← mul-assoc x (2 ^ (d - suc i) * 2) (2 ^ i),
+      shl-shr (x * (2 ^ (d - suc i) * 2)) i,
+      ← mul-assoc x (2 ^ (d - suc i)) 2,
+    )
     (mul-mod-left (x * 2 ^ (d - suc i)) 2)
 
 pub bit-shl-high : (w d x i : ℕ) → d + i < w → bit (shl w d x) (d + i) ≡ bit x i

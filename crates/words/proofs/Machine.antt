@@ -32,7 +32,11 @@ module _ (x : ℕ) (h : Fits w32 x) where
 -- ---- word_of
 
 sign-of : (z : ℤ) → (ltZ z (pos 0) ≡ true → z ≡ negsuc (mag z)) × (ltZ z (pos 0) ≡ false → z ≡ pos (mag z))
-sign-of (pos n) = (λ t. let e : _≡_ {A = Bool} false true = sym (leb·suc-zero n) ∙ t in let f : _≡_ {A = ℕ} 0 1 = cc in absurd (omega arith), λ t. refl)
+sign-of (pos n) = (
+  λ t. let e : _≡_ {A = Bool} false true = sym (leb·suc-zero n) ∙ t in let f : _≡_ {A = ℕ} 0 1 = cc in
+      absurd (omega arith),
+  λ t. refl,
+)
 sign-of (negsuc n) = (λ t. refl, λ t. let f : _≡_ {A = ℕ} 0 1 = cc in absurd (omega arith))
 
 -- -1 - z, for z = -(n + 1), is n

@@ -3,7 +3,8 @@ use mathlib.Core.Path.{_≡_, sym, ap, _∙_}
 use mathlib.Core.Bool.{true, cond}
 use mathlib.Core.Logic.{_⊎_, inl, inr, ⊎-elim}
 use Prim.Native.Nat.{ℕ, suc, _+_, _-_, _*_, _/_, _%_, _^_, _≤_, _<_}
-use native.Mathlib.Nat.{mod-lt, mod-eq-of-lt, mod-add-mod, add-mod-mod, add-mod-right, mul-add-mod-self-right, div-add-mod', div-le-self, lt-of-le-of-lt, pow-suc, div-eq-of-lt}
+use native.Mathlib.Nat.{mod-lt, mod-eq-of-lt, mod-add-mod, add-mod-mod, add-mod-right, mul-add-mod-self-right, div-add-mod', div-le-self}
+use native.Mathlib.Nat.{lt-of-le-of-lt, pow-suc, div-eq-of-lt}
 use native.Mathlib.Omega.{arith}
 use borrow.Author.Tests.{lt-ltb, le-ltb}
 use lib.Arith.{digits-div}
@@ -50,7 +51,8 @@ wrap-sub w a b =
     rw (sub-ge a b l, mod-add-mod (a - b) (2 ^ w) b, e))
     (λ (l : a < b).
     let t : (b - suc a) % 2 ^ w < 2 ^ w = mod-lt (b - suc a) (pow-pos w) in
-    let e : 2 ^ w - suc ((b - suc a) % 2 ^ w) + b ≡ ((b - suc a) / 2 ^ w + 1) * 2 ^ w + a = omega (arith, div-add-mod' (b - suc a) (2 ^ w)) in
+    let e : 2 ^ w - suc ((b - suc a) % 2 ^ w) + b ≡ ((b - suc a) / 2 ^ w + 1) * 2 ^ w + a =
+    omega (arith, div-add-mod' (b - suc a) (2 ^ w)) in
     rw (sub-below a b l, e) (mul-add-mod-self-right ((b - suc a) / 2 ^ w + 1) (2 ^ w) a))
     (le-or-lt b a))
 
@@ -85,7 +87,8 @@ biased w x c hx hc f g =
     (λ (l : 2 ^ (w - 1) ≤ x).
     let k : 2 ^ w ≤ x + c = g l in
     let e : x + c ≡ x + c - 2 ^ w + 2 ^ w = omega arith in
-    let m : (x + c) % 2 ^ w ≡ x + c - 2 ^ w = ap (λ (n : ℕ). n % 2 ^ w) e ∙ add-mod-right (x + c - 2 ^ w) (2 ^ w) ∙ mod-eq-of-lt (omega arith) in
+    let m : (x + c) % 2 ^ w ≡ x + c - 2 ^ w =
+    ap (λ (n : ℕ). n % 2 ^ w) e ∙ add-mod-right (x + c - 2 ^ w) (2 ^ w) ∙ mod-eq-of-lt (omega arith) in
     rw (m, signed-high w x l) (sub-same x (2 ^ w) (x + c - 2 ^ w) c (omega arith)))
     (λ (l : x < 2 ^ (w - 1)).
     rw (mod-eq-of-lt {n = x + c} {m = 2 ^ w} (f l), signed-low w x l) (sym (sub-ge (x + c) c (omega arith) ∙ ap pos (omega arith))))

@@ -183,7 +183,8 @@ module _ {A : Type 0} (O : Ops A) (R : Ring O) where
   pub neg-add : (a b : A) → neg (a + b) ≡ neg a + neg b
   neg-add a b =
       sym (neg-unique (a + b) (neg a + neg b)
-      (add-assoc a b (neg a + neg b) ∙ ap (λ (x : A). a + x) (add-left b (neg a) (neg b) ∙ ap (λ (x : A). neg a + x) (add-neg b) ∙ add-nil (neg a)) ∙ add-neg a))
+      (add-assoc a b (neg a + neg b) ∙ ap (λ (x : A). a + x)
+      (add-left b (neg a) (neg b) ∙ ap (λ (x : A). neg a + x) (add-neg b) ∙ add-nil (neg a)) ∙ add-neg a))
 
   -- a * 0 added to itself is itself
   pub mul-nil : (a : A) → a * nil ≡ nil
@@ -218,7 +219,8 @@ module _ {A : Type 0} (O : Ops A) (R : Ring O) where
     mulT-ok (plus m) (minus n) = ap neg (mulM-ok m n) ∙ sym (mul-neg (evM O ρ m) (evM O ρ n))
     mulT-ok (minus m) (plus n) = ap neg (mulM-ok m n) ∙ sym (neg-mul (evM O ρ m) (evM O ρ n))
     mulT-ok (minus m) (minus n) =
-        mulM-ok m n ∙ sym (neg-neg (evM O ρ m * evM O ρ n)) ∙ ap neg (sym (mul-neg (evM O ρ m) (evM O ρ n))) ∙ sym (neg-mul (evM O ρ m) (neg (evM O ρ n)))
+        mulM-ok m n ∙ sym (neg-neg (evM O ρ m * evM O ρ n)) ∙ ap neg (sym (mul-neg (evM O ρ m) (evM O ρ n)))
+        ∙ sym (neg-mul (evM O ρ m) (neg (evM O ρ n)))
 
     flip-ok : (t : Term) → evT O ρ (flip t) ≡ neg (evT O ρ t)
     flip-ok (plus m) = refl
@@ -235,17 +237,20 @@ module _ {A : Type 0} (O : Ops A) (R : Ring O) where
     put-ok t [] = refl
     put-ok t (u ∷ p) =
         pick (evP O ρ) (opp t u) p (cond (leM (mono t) (mono u)) (t ∷ u ∷ p) (u ∷ put t p)) (evT O ρ t + evP O ρ (u ∷ p))
-        (λ h. sym (sym (add-assoc (evT O ρ t) (evT O ρ u) (evP O ρ p)) ∙ ap (λ (x : A). x + evP O ρ p) (opp-ok t u h) ∙ nil-add (evP O ρ p)))
+        (λ h. sym (sym (add-assoc (evT O ρ t) (evT O ρ u) (evP O ρ p)) ∙ ap (λ (x : A). x + evP O ρ p) (opp-ok t u h)
+        ∙ nil-add (evP O ρ p)))
         (pick (evP O ρ) (leM (mono t) (mono u)) (t ∷ u ∷ p) (u ∷ put t p) (evT O ρ t + evP O ρ (u ∷ p)) (λ h. refl)
         (ap (λ (x : A). evT O ρ u + x) (put-ok t p) ∙ add-left (evT O ρ u) (evT O ρ t) (evP O ρ p)))
 
     addP-ok : (p q : List Term) → evP O ρ (addP p q) ≡ evP O ρ p + evP O ρ q
     addP-ok [] q = sym (nil-add (evP O ρ q))
-    addP-ok (t ∷ p) q = put-ok t (addP p q) ∙ ap (λ (x : A). evT O ρ t + x) (addP-ok p q) ∙ sym (add-assoc (evT O ρ t) (evP O ρ p) (evP O ρ q))
+    addP-ok (t ∷ p) q = put-ok t (addP p q) ∙ ap (λ (x : A). evT O ρ t + x) (addP-ok p q)
+        ∙ sym (add-assoc (evT O ρ t) (evP O ρ p) (evP O ρ q))
 
     scale-ok : (t : Term) (p : List Term) → evP O ρ (scale t p) ≡ evT O ρ t * evP O ρ p
     scale-ok t [] = sym (mul-nil (evT O ρ t))
-    scale-ok t (u ∷ p) = put-ok (mulT t u) (scale t p) ∙ ap₂ _+_ (mulT-ok t u) (scale-ok t p) ∙ sym (mul-add (evT O ρ t) (evT O ρ u) (evP O ρ p))
+    scale-ok t (u ∷ p) = put-ok (mulT t u) (scale t p) ∙ ap₂ _+_ (mulT-ok t u) (scale-ok t p)
+        ∙ sym (mul-add (evT O ρ t) (evT O ρ u) (evP O ρ p))
 
     mulP-ok : (p q : List Term) → evP O ρ (mulP p q) ≡ evP O ρ p * evP O ρ q
     mulP-ok [] q = sym (nil-mul (evP O ρ q))
@@ -260,7 +265,8 @@ module _ {A : Type 0} (O : Ops A) (R : Ring O) where
     norm-ok (var i) = add-nil (getD ρ i nil * one) ∙ mul-one (getD ρ i nil)
     norm-ok (e ⊕ f) = addP-ok (norm e) (norm f) ∙ ap₂ _+_ (norm-ok e) (norm-ok f)
     norm-ok (e ⊖ f) =
-        addP-ok (norm e) (negP (norm f)) ∙ ap₂ _+_ (norm-ok e) (negP-ok (norm f) ∙ ap neg (norm-ok f)) ∙ sym (sub-is (eval O ρ e) (eval O ρ f))
+        addP-ok (norm e) (negP (norm f)) ∙ ap₂ _+_ (norm-ok e) (negP-ok (norm f) ∙ ap neg (norm-ok f))
+        ∙ sym (sub-is (eval O ρ e) (eval O ρ f))
     norm-ok (e ⊗ f) = mulP-ok (norm e) (norm f) ∙ ap₂ _*_ (norm-ok e) (norm-ok f)
     norm-ok (⊝ e) = negP-ok (norm e) ∙ ap neg (norm-ok e)
     norm-ok `0 = refl
@@ -270,5 +276,6 @@ module _ {A : Type 0} (O : Ops A) (R : Ring O) where
     solve-at e f h = sym (norm-ok e) ∙ ap (evP O ρ) h ∙ norm-ok f
 
   -- an identity of k variables, by `refl`, where both sides have one normal form
-  pub solve : (k : ℕ) (b : Eqn k) → norm (sides k 0 b .0) ≡ norm (sides k 0 b .1) → Every A k (λ ρ. eval O ρ (sides k 0 b .0) ≡ eval O ρ (sides k 0 b .1))
+  pub solve : (k : ℕ) (b : Eqn k) → norm (sides k 0 b .0) ≡ norm (sides k 0 b .1)
+      → Every A k (λ ρ. eval O ρ (sides k 0 b .0) ≡ eval O ρ (sides k 0 b .1))
   solve k b h = every k (λ ρ. eval O ρ (sides k 0 b .0) ≡ eval O ρ (sides k 0 b .1)) (λ ρ. solve-at ρ (sides k 0 b .0) (sides k 0 b .1) h)

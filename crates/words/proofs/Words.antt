@@ -2,7 +2,9 @@
 use mathlib.Core.Path.{_≡_, refl, sym, ap, _∙_}
 use mathlib.Core.HLevel.{Σ-prop-path}
 use Prim.Native.Nat.{ℕ, _+_, _-_, _*_, _/_, _%_, _^_, _<_, min}
-use native.Mathlib.Nat.{mod-lt, mod-eq-of-lt, div-add-mod', mod-add-mod, add-mod-mod, add-assoc as +-assoc, add-comm as +-comm, add-zero as +-zero, add-sub-of-le, mod-self, mul-add-mod-self-right, mul-comm as *-comm, mul-assoc as *-assoc, mul-one as *-one, mul-add as *-add, le-of-lt}
+use native.Mathlib.Nat.{mod-lt, mod-eq-of-lt, div-add-mod', mod-add-mod, add-mod-mod, add-assoc as +-assoc, add-comm as +-comm}
+use native.Mathlib.Nat.{add-zero as +-zero, add-sub-of-le, mod-self, mul-add-mod-self-right, mul-comm as *-comm, mul-assoc as *-assoc}
+use native.Mathlib.Nat.{mul-one as *-one, mul-add as *-add, le-of-lt}
 use native.Mathlib.Bridge.{le-prop}
 use native.Mathlib.Omega.{arith}
 use lib.Bits.{bitAnd, bitXor, differ, and-comm, xor-comm, xor-zero-r, xor-self, and-mask, xor-lt, and-lt}
@@ -124,7 +126,8 @@ module _ (w : ℕ) where
     pub xor-assoc : xor (xor x y) z ≡ xor x (xor y z)
     xor-assoc =
         word-by-bits (xor (xor x y) z) (xor x (xor y z)) (λ i h. simp bit-xor
-        (table 3 (λ a b c. differ (differ a b) c) (λ a b c. differ a (differ b c)) tt _ (bit-lt (x .0) i) _ (bit-lt (y .0) i) _ (bit-lt (z .0) i)))
+        (table 3 (λ a b c. differ (differ a b) c) (λ a b c. differ a (differ b c)) tt _ (bit-lt (x .0) i) _ (bit-lt (y .0) i) _
+        (bit-lt (z .0) i)))
 
     pub and-assoc : and (and x y) z ≡ and x (and y z)
     and-assoc =
@@ -134,7 +137,8 @@ module _ (w : ℕ) where
     pub and-xor : and x (xor y z) ≡ xor (and x y) (and x z)
     and-xor =
         word-by-bits (and x (xor y z)) (xor (and x y) (and x z)) (λ i h. simp (bit-and, bit-xor)
-        (table 3 (λ a b c. min a (differ b c)) (λ a b c. differ (min a b) (min a c)) tt _ (bit-lt (x .0) i) _ (bit-lt (y .0) i) _ (bit-lt (z .0) i)))
+        (table 3 (λ a b c. min a (differ b c)) (λ a b c. differ (min a b) (min a c)) tt _ (bit-lt (x .0) i) _ (bit-lt (y .0) i) _
+        (bit-lt (z .0) i)))
 
   -- the operations `bits w`, on words
   abbrev pub bit-words : Ops (Word w)

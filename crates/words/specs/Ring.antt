@@ -1,5 +1,5 @@
--- The operations of a commutative ring, and its laws. A formula of document 01 that holds for numbers and for bits is written once, over `Ops`;
--- what it opens is proved once, over `Ring`. Assumes nothing.
+-- The operations of a commutative ring, and its laws. A formula of document 01 that holds for numbers and for bits is
+-- written once, over `Ops`; what it opens is proved once, over `Ring`. Assumes nothing.
 use mathlib.Core.Path.{_≡_}
 
 pub record Ops (A : Type 0) : Type 0 where

@@ -1,4 +1,5 @@
--- Words of w bits, used at w = 32. Document 01: "Words are 32 bits wide, written in decimal; arithmetic on them is modulo 2^32." Assumes nothing.
+-- Words of w bits, used at w = 32. Document 01: "Words are 32 bits wide, written in decimal; arithmetic on them is
+-- modulo 2^32." Assumes nothing.
 use Prim.Native.Nat.{ℕ, _+_, _-_, _*_, _/_, _%_, _^_}
 use lib.Bits.{bitAnd, bitXor}
 use Rattle.words.specs.Ring.{Ops}

@@ -21,7 +21,8 @@ returns : tie.Need-returns
 unfolding add
 returns c =
     simp (
-      sub-of 32 (c .wrapping-sub-u32 .result) (c .before .before .before .before .args .g1) (omega arith) (omega arith) (c .wrapping-sub-u32 .ensures),
+      sub-of 32 (c .wrapping-sub-u32 .result) (c .before .before .before .before .args .g1) (omega arith) (omega arith)
+          (c .wrapping-sub-u32 .ensures),
       c .before .wrapping-mul .ensures,
       c .before .before .wrapping-add-u322 .ensures,
       c .before .before .before .wrapping-add-u32 .ensures,

@@ -89,11 +89,21 @@ enum-known-g-11 c = search needs
 
 returns : tie.Need-returns
 unfolding add meaning on-mask
-returns c = rw (c .before .before .before .before .g .given .1, c .wrapping-add-u32 .ensures, c .before .at2 .ensures, c .before .before .at .ensures) refl
+returns c = rw (
+  c .before .before .before .before .g .given .1,
+  c .wrapping-add-u32 .ensures,
+  c .before .at2 .ensures,
+  c .before .before .at .ensures,
+) refl
 
 returns-2 : tie.Need-returns-2
 unfolding add meaning on-mask
-returns-2 c = rw (c .before .before .before .before .g2 .given .1, sub-of 32 (c .wrapping-sub-u32 .result) (c .before .at4 .result) (omega arith) (omega arith) (c .wrapping-sub-u32 .ensures), c .before .at4 .ensures, c .before .before .at3 .ensures) refl
+returns-2 c = rw (
+  c .before .before .before .before .g2 .given .1,
+  sub-of 32 (c .wrapping-sub-u32 .result) (c .before .at4 .result) (omega arith) (omega arith) (c .wrapping-sub-u32 .ensures),
+  c .before .at4 .ensures,
+  c .before .before .at3 .ensures,
+) refl
 
 returns-3 : tie.Need-returns-3
 unfolding meaning on-mask

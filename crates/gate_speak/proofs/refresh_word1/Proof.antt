@@ -16,7 +16,8 @@ unfolding add
 returns c =
     simp (
       c .wrapping-add-u32 .ensures,
-      sub-of 32 (c .before .wrapping-sub-u32 .result) (c .before .before .args .a1) (omega arith) (omega arith) (c .before .wrapping-sub-u32 .ensures),
+      sub-of 32 (c .before .wrapping-sub-u32 .result) (c .before .before .args .a1) (omega arith) (omega arith)
+          (c .before .wrapping-sub-u32 .ensures),
     )
 
 pub refresh-word1-spec : {M : Type 1} → statement M

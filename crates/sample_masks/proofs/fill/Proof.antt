@@ -14,7 +14,8 @@ use Rattle.sample_masks.proofs.fill.Tie as tie
 
 abbrev Inv-loop : tie.InvT-loop
 Inv-loop list₀ factor offset word₀ i₀ list word i =
-    (i ≤ length list₀) × (length list ≡ length list₀) × (word ≡ factor * (offset + i) % 2 ^ 32) × (list ≡ copied list₀ (multiples factor (offset + 1) (length list₀)) i)
+    (i ≤ length list₀) × (length list ≡ length list₀) × (word ≡ factor * (offset + i) % 2 ^ 32)
+    × (list ≡ copied list₀ (multiples factor (offset + 1) (length list₀)) i)
 
 abbrev μ-loop : tie.MeasureT-loop
 μ-loop list₀ factor offset word₀ i₀ list word i = length list₀ - i
@@ -24,7 +25,12 @@ wrapping-mul-requires c κs = search needs
 
 loop-holds : tie.Need-loop-holds Inv-loop μ-loop
 unfolding mul
-loop-holds c = (omega arith, refl, c .wrapping-mul .ensures ∙ ap (λ (x : ℕ). c .before .before .args .factor * x % 2 ^ 32) (omega arith), refl)
+loop-holds c = (
+  omega arith,
+  refl,
+  c .wrapping-mul .ensures ∙ ap (λ (x : ℕ). c .before .before .args .factor * x % 2 ^ 32) (omega arith),
+  refl,
+)
 
 wrapping-add-u32-requires : tie.Need-wrapping-add-u32-requires Inv-loop μ-loop
 wrapping-add-u32-requires c κs = search needs
@@ -49,7 +55,8 @@ loop-again c =
       omega arith,
       simp length-set (l .inv .1),
       e ∙ ap (λ (x : ℕ). a .factor * x % 2 ^ 32) (omega arith),
-      ap (λ (x : List ℕ). set x (l .i) (c .wrapping-add-u32 .result)) (l .inv .3) ∙ fill-more (now (a .list)) (a .factor) (a .offset) (l .i) _ (omega arith) e,
+      ap (λ (x : List ℕ). set x (l .i) (c .wrapping-add-u32 .result)) (l .inv .3)
+          ∙ fill-more (now (a .list)) (a .factor) (a .offset) (l .i) _ (omega arith) e,
     )
 
 same-length : tie.Need-same-length Inv-loop μ-loop

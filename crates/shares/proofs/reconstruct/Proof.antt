@@ -27,7 +27,8 @@ signed-reading-requires c κs = search needs
 returns-4 : tie.Need-returns-4
 returns-4 c =
     let e = c .before .before .before in
-    opened 32 (words (e .before .before .before .before .before .before .args .s)) (e .before .before .before .before .if1 .left) (e .before .before .if2 .left) (e .if3 .left)
+    opened 32 (words (e .before .before .before .before .before .before .args .s)) (e .before .before .before .before .if1 .left)
+    (e .before .before .if2 .left) (e .if3 .left)
     _ _ _ (c .before .wrapping-sub-u32 .ok) (record { sfits = c .signed-reading .ok })
     (c .before .before .wrapping-add-u32 .ensures) (c .before .wrapping-sub-u32 .ensures) (c .signed-reading .ensures)
 

@@ -23,7 +23,8 @@ wrapping-add-u32-requires-2 c κs = search needs
 returns-3 : tie.Need-returns-3
 returns-3 c =
     let s = c .before .before .before .before .before in
-    accepted (s .args .reading) (s .fits .reading) (s .args .l1) (s .args .l2) (c .before .before .before .before .if1 .left) (c .before .before .before .if2 .left)
+    accepted (s .args .reading) (s .fits .reading) (s .args .l1) (s .args .l2) (c .before .before .before .before .if1 .left)
+    (c .before .before .before .if2 .left)
     _ _ _ (c .before .before .wrapping-add-u32 .ensures) (c .before .word-of .ensures) (c .wrapping-add-u322 .ensures)
 
 pub share-spec : {M : Type 1} → statement M

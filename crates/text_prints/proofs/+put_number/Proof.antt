@@ -99,7 +99,8 @@ put-number-returns-2 : (t : ℕ) → put-number-lts.Need-returns-2 (
 ) (put-number-at t) put-number.Post
 put-number-returns-2 t c =
     let e = c .before .before .before in
-    last-digit (held (e .args .t)) (e .args .n) (c .before .before .if1 .left) (omega arith) (c .before .put-number .ensures) (c .put2 .ensures)
+    last-digit (held (e .args .t)) (e .args .n) (c .before .before .if1 .left) (omega arith) (c .before .put-number .ensures)
+    (c .put2 .ensures)
 
 pub +put-number-spec : {M : Type 1} → statement M
 +put-number-spec = close μ-put-number λ t. put-number-lts.spec (

@@ -47,7 +47,8 @@ returns c =
     let e = t1 .before .before .before .before in
     let a = e .args in
     answer (a .mode) (a .reading) (a .value) (a .deals) (a .words) (e .fits .reading) (e .fits .value) (e .fits .deals) (e .fits .words)
-    (t1 .before .put .ensures ∙ ap₂ (λ (x : Buffer) (y : ℕ). with-bytes 80 x (y ∷ [])) (t1 .before .before .before .empty .ensures) (t1 .before .before .letter-of .ensures))
+    (t1 .before .put .ensures ∙ ap₂ (λ (x : Buffer) (y : ℕ). with-bytes 80 x (y ∷ [])) (t1 .before .before .before .empty .ensures)
+    (t1 .before .before .letter-of .ensures))
     (rw (toZ-ofZ w64 (a .reading) (e .fits .reading)) at (t1 .put-column .ensures))
     (rw (toZ-ofZ w64 (a .value) (e .fits .value)) at (t3 .before .put-column2 .ensures))
     (rw (shows-word (a .deals) (e .fits .deals)) at (t3 .put-column3 .ensures))

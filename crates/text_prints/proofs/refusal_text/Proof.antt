@@ -25,7 +25,8 @@ returns : tie.Need-returns
 returns c =
     let e = c .before .before .before .before .before in
     refusal (e .args .number) (e .fits .number)
-    (c .before .before .put-bytes .ensures ∙ ap (λ (x : Buffer). with-bytes 80 x refused-word) (c .before .before .before .before .empty .ensures))
+    (c .before .before .put-bytes .ensures ∙ ap (λ (x : Buffer). with-bytes 80 x refused-word)
+    (c .before .before .before .before .empty .ensures))
     (c .before .put-number .ensures)
     (c .put .ensures)
 

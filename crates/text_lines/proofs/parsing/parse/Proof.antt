@@ -37,7 +37,8 @@ unfolding from-letter
 returns-3 c =
     let e = c .before .before .before .before in
     let s : List ℕ = e .before .before .before .args .line .now in
-    rw (short s (e .before .if1 .left), first s (e .if2 .left), eq-eqb (getD s 0 0) 69 (c .before .before .if3 .taken)) (rw tail at (c .read-space .ensures))
+    rw (short s (e .before .if1 .left), first s (e .if2 .left), eq-eqb (getD s 0 0) 69 (c .before .before .if3 .taken))
+    (rw tail at (c .read-space .ensures))
 
 shared-slice-read-if4 : tie.Need-shared-slice-read-if4
 shared-slice-read-if4 c = search needs
@@ -59,14 +60,24 @@ unfolding from-letter
 returns-4 c =
     let e = c .before .before .before .before .before .before in
     let s : List ℕ = e .before .before .before .args .line .now in
-    rw (short s (e .before .if1 .left), first s (e .if2 .left), ne-eqb (getD s 0 0) 69 (c .before .before .before .before .if3 .left), eq-eqb (getD s 0 0) 83 (c .before .before .if4 .taken)) (rw tail at (c .read-space2 .ensures))
+    rw (
+      short s (e .before .if1 .left),
+      first s (e .if2 .left),
+      ne-eqb (getD s 0 0) 69 (c .before .before .before .before .if3 .left),
+      eq-eqb (getD s 0 0) 83 (c .before .before .if4 .taken),
+    ) (rw tail at (c .read-space2 .ensures))
 
 returns-5 : tie.Need-returns-5
 unfolding from-letter
 returns-5 c =
     let e = c .before .before .before .before in
     let s : List ℕ = e .before .before .before .args .line .now in
-    rw (short s (e .before .if1 .left), first s (e .if2 .left), ne-eqb (getD s 0 0) 69 (c .before .before .if3 .left), ne-eqb (getD s 0 0) 83 (c .if4 .left))
+    rw (
+      short s (e .before .if1 .left),
+      first s (e .if2 .left),
+      ne-eqb (getD s 0 0) 69 (c .before .before .if3 .left),
+      ne-eqb (getD s 0 0) 83 (c .if4 .left),
+    )
 
 pub parse-spec : {M : Type 1} → statement M
 parse-spec =

@@ -61,7 +61,8 @@ wide-requires c κs = search needs
 add-value : tie.Need-add-value Inv-loop μ-loop
 add-value c =
     let e = c .before .before .before .before .before in
-    sum-fits _ _ (bounded _ _ _ (e .loop .inv .0) (e .before .if2 .left) (e .loop .inv .1)) (below-ten _ _ (c .wide .ensures) (c .before .if4 .left))
+    sum-fits _ _ (bounded _ _ _ (e .loop .inv .0) (e .before .if2 .left) (e .loop .inv .1))
+    (below-ten _ _ (c .wide .ensures) (c .before .if4 .left))
 
 add-i : tie.Need-add-i Inv-loop μ-loop
 add-i c = omega arith
@@ -87,7 +88,8 @@ returns-5 c =
     let e = c .before .before in
     let a = e .before .before .before .before .args in
     ap (asking (a .mode)) (toZ-ofZ w64 (c .signed .result) (record { sfits = c .signed .ok }) ∙ c .signed .ensures)
-    ∙ all (a .mode) (a .minus) (e .loop .value) (a .rest .now) (e .loop .i) (e .before .before .if1 .left) (e .before .if2 .left) (e .loop .inv .2)
+    ∙ all (a .mode) (a .minus) (e .loop .value) (a .rest .now) (e .loop .i) (e .before .before .if1 .left) (e .before .if2 .left)
+    (e .loop .inv .2)
     (ended (a .mode) (a .minus) (e .loop .value) (a .rest .now) (e .loop .i) (c .before .loop-test .left))
 
 pub read-digits-spec : {M : Type 1} → statement M

@@ -33,7 +33,8 @@ returns-2 : tie.Need-returns-2
 unfolding after-space
 returns-2 c =
     let s : List ℕ = c .before .before .before .before .before .before .args .rest .now in
-    rw (first s (c .before .before .before .before .if1 .left), eq-eqb (getD s 0 0) 45 (c .before .before .if2 .taken)) (rw tail at (c .read-digits .ensures))
+    rw (first s (c .before .before .before .before .if1 .left), eq-eqb (getD s 0 0) 45 (c .before .before .if2 .taken))
+    (rw tail at (c .read-digits .ensures))
 
 read-digits-requires-2 : tie.Need-read-digits-requires-2
 read-digits-requires-2 c κs = search needs
@@ -42,7 +43,8 @@ returns-3 : tie.Need-returns-3
 unfolding after-space
 returns-3 c =
     let s : List ℕ = c .before .before .before .before .before .args .rest .now in
-    rw (first s (c .before .before .before .if1 .left), ne-eqb (getD s 0 0) 45 (c .before .if2 .left)) (c .read-digits2 .ensures ∙ ap (after-sign _ false) (first s (c .before .before .before .if1 .left)))
+    rw (first s (c .before .before .before .if1 .left), ne-eqb (getD s 0 0) 45 (c .before .if2 .left))
+    (c .read-digits2 .ensures ∙ ap (after-sign _ false) (first s (c .before .before .before .if1 .left)))
 
 pub read-sign-spec : {M : Type 1} → statement M
 read-sign-spec =

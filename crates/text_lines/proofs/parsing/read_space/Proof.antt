@@ -31,7 +31,8 @@ returns-2 : tie.Need-returns-2
 unfolding after-letter
 returns-2 c =
     let s : List ℕ = c .before .before .before .before .before .before .args .rest .now in
-    rw (first s (c .before .before .before .before .if1 .left), eq-eqb (getD s 0 0) 32 (c .before .before .if2 .taken)) (rw tail at (c .read-sign .ensures))
+    rw (first s (c .before .before .before .before .if1 .left), eq-eqb (getD s 0 0) 32 (c .before .before .if2 .taken))
+    (rw tail at (c .read-sign .ensures))
 
 returns-3 : tie.Need-returns-3
 unfolding after-letter

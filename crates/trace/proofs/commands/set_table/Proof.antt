@@ -9,7 +9,8 @@ use Rattle.trace.proofs.commands.set_table.Statement.{statement}
 use Rattle.trace.proofs.commands.set_table.Tie as tie
 
 abbrev Inv-loop : tie.InvT-loop
-Inv-loop table₀ words i₀ table i = (length table ≡ length table₀) × (i ≤ length table₀) × (i ≤ length words) × ((k : ℕ) → k < i → getD table k 0 ≡ getD words k 0)
+Inv-loop table₀ words i₀ table i = (length table ≡ length table₀) × (i ≤ length table₀) × (i ≤ length words)
+    × ((k : ℕ) → k < i → getD table k 0 ≡ getD words k 0)
 
 abbrev μ-loop : tie.MeasureT-loop
 μ-loop table₀ words i₀ table i = length words - i

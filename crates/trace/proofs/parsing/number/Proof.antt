@@ -27,19 +27,26 @@ part-value-of-start c = search needs
 part-value-of-end : tie.Need-part-value-of-end
 part-value-of-end c =
     let args = c .before .before .before .before .args in
-    omega (arith, c .before .before .digits-end .ensures, digits-length (drop (args .start) (args .text .now)), length-drop (args .start) (args .text .now))
+    omega (
+      arith,
+      c .before .before .digits-end .ensures,
+      digits-length (drop (args .start) (args .text .now)),
+      length-drop (args .start) (args .text .now),
+    )
 
 value-of-requires : tie.Need-value-of-requires
 value-of-requires c κs = search needs
 
 returns-3 : tie.Need-returns-3
-returns-3 c = too-large _ _ _ (c .before .before .before .before .before .digits-end .ensures) (c .before .before .before .before .if1 .left) (c .before .before .before .if2 .left) _ (c .before .value-of .ensures) (c .if3 .taken)
+returns-3 c = too-large _ _ _ (c .before .before .before .before .before .digits-end .ensures)
+    (c .before .before .before .before .if1 .left) (c .before .before .before .if2 .left) _ (c .before .value-of .ensures) (c .if3 .taken)
 
 cast-t11 : tie.Need-cast-t11
 cast-t11 c = search needs
 
 returns-4 : tie.Need-returns-4
-returns-4 c = whole _ _ _ (c .before .before .before .before .before .digits-end .ensures) (c .before .before .before .before .if1 .left) (c .before .before .before .if2 .left) _ (c .before .value-of .ensures) (c .if3 .left)
+returns-4 c = whole _ _ _ (c .before .before .before .before .before .digits-end .ensures) (c .before .before .before .before .if1 .left)
+    (c .before .before .before .if2 .left) _ (c .before .value-of .ensures) (c .if3 .left)
 
 pub number-spec : {M : Type 1} → statement M
 number-spec =

@@ -35,7 +35,8 @@ loop-less c = search needs
 loop-again : tie.Need-loop-again Inv-loop μ-loop
 loop-again c =
     let past = c .before .before .before .before in
-    let next = turn (past .before .before .args .bytes .now) (past .loop .i) (past .loop .value) (c .before .before .before .loop-test .taken) (past .loop .inv) in
+    let next = turn (past .before .before .args .bytes .now) (past .loop .i) (past .loop .value)
+    (c .before .before .before .loop-test .taken) (past .loop .inv) in
     rw (c .with-digit .ensures, c .before .digit-of .ensures) next
 
 returns : tie.Need-returns Inv-loop μ-loop
