@@ -1,5 +1,5 @@
 // The gates of a program on shares: definitions and laws of what a gate writes on a lane, deals and speaks (the code:
-// crates `slots`, `parts`, `shapes`, `lanes`, `deals`, `speech`). A lane is a host's words of one kind, the masked
+// crates `gate_shape`, `gate_local`, `gate_deal`, `gate_speak`). A lane is a host's words of one kind, the masked
 // values m or one of the masks: slots 0 to 15 are the registers, 16 to 23 the temporaries (document 01's kept words).
 
 // A part of a word.

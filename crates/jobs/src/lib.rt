@@ -1,5 +1,5 @@
-// Jobs: lists of orders, four words to an order. The definitions of their format, checks and counts, with their laws; the code stands in
-// `orders`, `checks` and `leftovers`.
+// Jobs: lists of orders, four words to an order. The definitions of their format, checks and counts, with their laws;
+// the code stands in `job_order`, `job_check` and `job_leftover`.
 
 // Deals, words spoken by both hosts, and words used of A and of B.
 pub struct Counts {
@@ -25,7 +25,8 @@ pub enum Checked {
     },
 }
 
-// The number, 0 for none, and the order's index; the counts of the job and of the orders before a place in it, 0 where it is refused.
+// The number, 0 for none, and the order's index; the counts of the job and of the orders before a place in it, 0 where
+// it is refused.
 pub struct Findings {
     pub number: u32,
     pub index: u32,

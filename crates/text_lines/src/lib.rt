@@ -1,5 +1,5 @@
 // The rehearsal program's input (document 01, "House table by hand"): how it is cut into lines, and what a line asks
-// for. What is printed: crate `prints`.
+// for. What is printed: crate `text_prints`.
 ghost use mathlib.Core.Path.{_≡_};
 ghost use lib.ListN.{take};
 
