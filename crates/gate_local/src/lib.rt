@@ -51,10 +51,10 @@ fn on_m(g: Gate, m: &[u32; 24]) -> Written
 }
 
 // In place; the other slots stay.
-fn write(w: Written, l: &mut [u32; 24])
-    ensures { λ r. ⌜ now (l .exit) ≡ written w (now (l .entry)) ⌝ }
+fn write(x: Written, l: &mut [u32; 24])
+    ensures { λ r. ⌜ now (l .exit) ≡ written x (now (l .entry)) ⌝ }
 {
-    match w {
+    match x {
         Written::Slot(d, v) => put(l, d, v),
         Written::Nothing => {}
     }

@@ -83,14 +83,14 @@ pub fn word2(g: Gate, m: &[u32; 24], l: &[u32; 24], g2: u32, l2: u32) -> u32
     }
 }
 
-// The new m of an exchange: the sum of host 1's word and host 2's.
-pub fn met_word(g: Gate, v: u32, w: u32) -> u32
-    ensures { λ r. ⌜ r ≡ met (meaning 32 g) v w ⌝ }
+// The new m of an exchange: the sum of host 1's word u and host 2's word v.
+pub fn met_word(g: Gate, u: u32, v: u32) -> u32
+    ensures { λ r. ⌜ r ≡ met (meaning 32 g) u v ⌝ }
 {
     match g {
-        Gate::Mul { d: _, a: _, b: _ } => std::num::wrapping_add_u32(v, w),
-        Gate::And { d: _, a: _, b: _ } => v ^ w,
-        Gate::Refresh { d: _, a: _ } => std::num::wrapping_add_u32(v, w),
+        Gate::Mul { d: _, a: _, b: _ } => std::num::wrapping_add_u32(u, v),
+        Gate::And { d: _, a: _, b: _ } => u ^ v,
+        Gate::Refresh { d: _, a: _ } => std::num::wrapping_add_u32(u, v),
         _ => 0,
     }
 }
