@@ -4,12 +4,11 @@ use Prim.Native.Nat.{ℕ, _^_, _≤_, _<_}
 use borrow.Author.Tests.{ltb-false}
 use lib.Dec.{T, eqb, ltb, lit≤, lit<}
 use lib.IntN.{ℤ, pos, negℤ, _+ℤ_, _-ℤ_, _*ℤ_}
-use Rattle.words.specs.Words.{add, numbers}
+use Rattle.words.specs.Words.{add}
 use Rattle.words.specs.Signed.{floor, signed, wrap, in-range}
 use Rattle.words.proofs.Words.{add-lt, sub-lt}
 use Rattle.words.proofs.Signed.{signed-shr, wrap-signed}
 use Rattle.truncations.specs.Truncation.{one-bit, slip}
-use Rattle.shares.specs.Gates.{value, mask}
 use Rattle.tables.specs.Table.{rows}
 use Rattle.curves.specs.Curve.{relu, word-curve, word-scaled}
 use Rattle.curves.proofs.WordCurve.{in-range-reads}
@@ -19,13 +18,12 @@ use Rattle.programs.proofs.Readings.{sum-reads, difference-reads, product-reads
 use Rattle.jobs.specs.Job.{ill-fourth, ill-fourths}
 use Rattle.jobs.proofs.Accepted.{or-false}
 use Rattle.runs.specs.Runs.{Setting, staged, World}
-use Rattle.runs.specs.Orders.{slot, before-order, order-of, refresh-mask, reading, opens, Finishes}
+use Rattle.runs.specs.Orders.{order-of, refresh-mask, source-value, source-mask, second-value, reading, opens, Finishes}
 use Rattle.demands.specs.Demand3.{Y-of, Exact, OneBit}
-use Rattle.runs.specs.Readings.{reading-of, mask-of}
 use Rattle.demands.specs.ByKind.{reduced, second-reading, shift, L-of, m-of, W-of, ByKind}
 use Rattle.runs.proofs.Opened.{order-good}
 use Rattle.runs.proofs.InJob.{in-job, checked}
-use Rattle.demands.proofs.Curves.{source-word, of-kind, rules-kept, curve-opens}
+use Rattle.demands.proofs.Curves.{of-kind, rules-kept, curve-opens}
 
 -- a word opened
 abbrev opened : ℕ → ℕ × ℤ
@@ -33,13 +31,13 @@ opened n = (0, signed 32 n)
 
 module _ (S : Setting) (q : ℕ) (v : World) (F : Finishes 32 (staged 32 S) q v) where
   abbrev x : ℕ
-  x = source-word S q v F
+  x = source-value 32 S q
 
   abbrev y : ℕ
-  y = value (numbers 32) (slot (before-order (staged 32 S) q) (order-of S q .fourth))
+  y = second-value 32 S q
 
   abbrev L : ℕ
-  L = mask (numbers 32) (slot (before-order (staged 32 S) q) (order-of S q .source))
+  L = source-mask 32 S q
 
   hx : x < 2 ^ 32
   hx = sub-lt 32 _ _
@@ -51,11 +49,11 @@ module _ (S : Setting) (q : ℕ) (v : World) (F : Finishes 32 (staged 32 S) q v)
   hL = add-lt 32 _ _
 
   sum : order-of S q .kind ≡ 0 → opens 32 S v q ≡ (0, reduced (reading 32 S q +ℤ second-reading S q))
-  unfolding values reduced reading second-reading reading-of
+  unfolding values reduced reading second-reading
   sum e = of-kind S q v F 0 e ∙ ap opened (sum-reads 32 x hx y hy)
 
   difference : order-of S q .kind ≡ 1 → opens 32 S v q ≡ (0, reduced (reading 32 S q -ℤ second-reading S q))
-  unfolding values reduced reading second-reading reading-of
+  unfolding values reduced reading second-reading
   difference e = of-kind S q v F 1 e ∙ ap opened (difference-reads 32 x hx y hy)
 
   plus-constant : order-of S q .kind ≡ 2 → opens 32 S v q ≡ (0, reduced (reading 32 S q +ℤ pos (order-of S q .fourth)))
@@ -67,7 +65,7 @@ module _ (S : Setting) (q : ℕ) (v : World) (F : Finishes 32 (staged 32 S) q v)
   times-constant e = of-kind S q v F 3 e ∙ ap opened (times-reads 32 x hx (order-of S q .fourth))
 
   product : order-of S q .kind ≡ 4 → opens 32 S v q ≡ (0, reduced (reading 32 S q *ℤ second-reading S q))
-  unfolding values reduced reading second-reading reading-of
+  unfolding values reduced reading second-reading
   product e = of-kind S q v F 4 e ∙ ap opened (product-reads 32 x hx y hy)
 
   refresh : order-of S q .kind ≡ 5 → opens 32 S v q ≡ (0, reading 32 S q)
@@ -76,7 +74,7 @@ module _ (S : Setting) (q : ℕ) (v : World) (F : Finishes 32 (staged 32 S) q v)
 
   large-slack : order-of S q .kind ≡ 6
       → opens 32 S v q ≡ (0, reduced (floor (reduced (negℤ (pos (L-of S q)))) (2 ^ shift S q) +ℤ floor (signed 32 (m-of S q)) (2 ^ shift S q)))
-  unfolding values reduced reading L-of mask-of m-of
+  unfolding values reduced reading L-of m-of
   large-slack e = of-kind S q v F 6 e ∙ ap opened (slack-reads 32 (order-of S q .fourth) x L hx hL)
 
   -- "k 1 to 30"
@@ -88,11 +86,11 @@ module _ (S : Setting) (q : ℕ) (v : World) (F : Finishes 32 (staged 32 S) q v)
 
   one-bit-range : order-of S q .kind ≡ 7 → T (in-range 32 (reading 32 S q))
       → opens 32 S v q ≡ (0, floor (reading 32 S q) (2 ^ shift S q) +ℤ pos (slip (shift S q) (wrap (shift S q) (reading 32 S q)) (L-of S q)))
-  unfolding values reading L-of mask-of
+  unfolding values reading L-of
   one-bit-range e h = of-kind S q v F 7 e ∙ ap {B = ℕ × ℤ} (λ (z : ℤ). (0, z)) (one-bit-reads 32 (shift S q) x L (lit≤ tt) (shift-low e) hx hL h)
 
   one-bit-steps : order-of S q .kind ≡ 7 → opens 32 S v q ≡ (0, signed 32 (one-bit 32 (shift S q) (m-of S q) (L-of S q)))
-  unfolding values reading L-of mask-of m-of
+  unfolding values reading L-of m-of
   one-bit-steps e = of-kind S q v F 7 e ∙ ap (λ (m : ℕ). opened (one-bit 32 (shift S q) m L)) (plus-reads 32 x hx L)
 
   exact-floor : order-of S q .kind ≡ 8 → opens 32 S v q ≡ (0, floor (reading 32 S q) (2 ^ shift S q))

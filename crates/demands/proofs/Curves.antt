@@ -4,29 +4,23 @@ use Prim.Native.Nat.{ℕ, suc, _^_, _<_}
 use lib.Dec.{T, lit≤, lit<}
 use lib.IntN.{ℤ, pos, _+ℤ_}
 use lib.ListN.{getD, length}
-use Rattle.words.specs.Words.{numbers}
 use Rattle.words.specs.Signed.{floor, signed, wrap}
 use Rattle.truncations.specs.Truncation.{slip}
 use Rattle.words.proofs.Words.{add-lt, sub-lt}
-use Rattle.shares.specs.Gates.{value, mask}
 use Rattle.tables.specs.Table.{rows, keeps-rules}
 use Rattle.programs.specs.Opens.{curve-value, values, order-value}
 use Rattle.programs.proofs.Calibration.{Promised, exact-curve, one-bit-curve}
 use Rattle.jobs.specs.Job.{orders}
 use Rattle.jobs.proofs.Accepted.{curve-ruled}
 use Rattle.runs.specs.Runs.{Setting, staged, World}
-use Rattle.runs.specs.Orders.{slot, before-order, order-of, refresh-mask, reading, opens, Finishes}
+use Rattle.runs.specs.Orders.{order-of, refresh-mask, source-value, source-mask, second-value, reading, opens, Finishes}
 use Rattle.demands.specs.Demand3.{Y-of}
 use Rattle.runs.proofs.Opened.{order-good, order-leaves}
 use Rattle.runs.proofs.Opening.{finished-opens}
 use Rattle.runs.proofs.InJob.{in-job, checked}
 
 module _ (S : Setting) (q : ℕ) (v : World) (F : Finishes 32 (staged 32 S) q v) where
-  -- what the order's source opens just before it, as a word
-  abbrev pub source-word : ℕ
-  source-word = value (numbers 32) (slot (before-order (staged 32 S) q) (order-of S q .source))
-
-  source-lt : source-word < 2 ^ 32
+  source-lt : source-value 32 S q < 2 ^ 32
   source-lt = sub-lt 32 _ _
 
   mask-lt : refresh-mask 32 S q < 2 ^ 32
@@ -39,35 +33,35 @@ module _ (S : Setting) (q : ℕ) (v : World) (F : Finishes 32 (staged 32 S) q v)
       ≡ (
         0,
         signed 32
-            (getD (values 32 (rows (S .table)) (order-of S q .fourth) source-word (value (numbers 32) (slot (before-order (staged 32 S) q) (order-of S q .fourth))) (mask (numbers 32) (slot (before-order (staged 32 S) q) (order-of S q .source))) (refresh-mask 32 S q)) n 0),
+            (getD (values 32 (rows (S .table)) (order-of S q .fourth) (source-value 32 S q) (second-value 32 S q) (source-mask 32 S q) (refresh-mask 32 S q)) n 0),
       )
   unfolding order-value
   of-kind n e =
       finished-opens (staged 32 S) 32 v (F .run) q (order-of S q .target) (F .finished)
       ∙ ap {B = ℕ × ℤ} (λ (x : ℕ). (0, signed 32 x)) (order-leaves 32 S (F .words) (lit≤ tt) (lit< tt) (checked 32 S q v F .script) q (in-job 32 S q v F)
-      ∙ ap (λ (k : ℕ). getD (values 32 (rows (S .table)) (order-of S q .fourth) source-word (value (numbers 32) (slot (before-order (staged 32 S) q) (order-of S q .fourth))) (mask (numbers 32) (slot (before-order (staged 32 S) q) (order-of S q .source))) (refresh-mask 32 S q)) k 0) e)
+      ∙ ap (λ (k : ℕ). getD (values 32 (rows (S .table)) (order-of S q .fourth) (source-value 32 S q) (second-value 32 S q) (source-mask 32 S q) (refresh-mask 32 S q)) k 0) e)
 
   -- a curve order opens its curve's value
   module _ (k : order-of S q .kind ≡ 10) where
     pub rules-kept : T (keeps-rules (S .table))
     rules-kept = rw (curve-ruled 32 (keeps-rules (S .table)) (order-of S q) (order-good 32 S (F .words) (lit≤ tt) (lit< tt) (checked 32 S q v F .script) q (in-job 32 S q v F)) k .1) tt
 
-    pub curve-opens : opens 32 S v q ≡ (0, signed 32 (curve-value 32 (rows (S .table)) (order-of S q .fourth) source-word (refresh-mask 32 S q)))
+    pub curve-opens : opens 32 S v q ≡ (0, signed 32 (curve-value 32 (rows (S .table)) (order-of S q .fourth) (source-value 32 S q) (refresh-mask 32 S q)))
     unfolding values
     curve-opens = of-kind 10 k
 
     -- for a reading that the curve is promised for
-    module _ (p : Promised (S .table) source-word) where
+    module _ (p : Promised (S .table) (source-value 32 S q)) where
       pub exact-opens : order-of S q .fourth ≡ 0 → opens 32 S v q ≡ (0, floor (Y-of S q) 4096)
       unfolding Y-of reading
       exact-opens m =
           curve-opens
-          ∙ ap {B = ℕ × ℤ} (λ (c : ℕ). (0, signed 32 (curve-value 32 (rows (S .table)) c source-word (refresh-mask 32 S q)))) m
-          ∙ ap {B = ℕ × ℤ} (λ (x : ℤ). (0, x)) (exact-curve (S .table) rules-kept source-word source-lt p (refresh-mask 32 S q))
+          ∙ ap {B = ℕ × ℤ} (λ (c : ℕ). (0, signed 32 (curve-value 32 (rows (S .table)) c (source-value 32 S q) (refresh-mask 32 S q)))) m
+          ∙ ap {B = ℕ × ℤ} (λ (x : ℤ). (0, x)) (exact-curve (S .table) rules-kept (source-value 32 S q) source-lt p (refresh-mask 32 S q))
 
       pub one-bit-opens : (c : ℕ) → order-of S q .fourth ≡ suc c → opens 32 S v q ≡ (0, floor (Y-of S q) 4096 +ℤ pos (slip 12 (wrap 12 (Y-of S q)) (refresh-mask 32 S q)))
       unfolding Y-of reading
       one-bit-opens c m =
           curve-opens
-          ∙ ap {B = ℕ × ℤ} (λ (c : ℕ). (0, signed 32 (curve-value 32 (rows (S .table)) c source-word (refresh-mask 32 S q)))) m
-          ∙ ap {B = ℕ × ℤ} (λ (x : ℤ). (0, x)) (one-bit-curve (S .table) rules-kept source-word source-lt p (refresh-mask 32 S q) c mask-lt)
+          ∙ ap {B = ℕ × ℤ} (λ (c : ℕ). (0, signed 32 (curve-value 32 (rows (S .table)) c (source-value 32 S q) (refresh-mask 32 S q)))) m
+          ∙ ap {B = ℕ × ℤ} (λ (x : ℤ). (0, x)) (one-bit-curve (S .table) rules-kept (source-value 32 S q) source-lt p (refresh-mask 32 S q) c mask-lt)

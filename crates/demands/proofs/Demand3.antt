@@ -30,17 +30,17 @@ use Rattle.programs.proofs.Calibration.{Promised, ranged, above}
 use Rattle.jobs.specs.Job.{orders, job-gates, job-cost}
 use Rattle.calls.specs.Scripts.{orders-in}
 use Rattle.runs.specs.Runs.{Stage, Setting, staged, World, Call, Completes, Run, Finished, buffer-of, Accepted}
-use Rattle.runs.specs.Orders.{Words, order-of, used-before, first-counts, refresh-mask, reading, opens, Finishes}
+use Rattle.runs.specs.Orders.{Words, order-of, used-before, first-counts, refresh-mask, source-value, reading, opens, Finishes}
 use Rattle.demands.specs.Demand3.{Y-of, Exact, OneBit, refresh-place, with-word, eqZ, Alike, Demand3}
 use Rattle.runs.proofs.InJob.{in-job, checked}
-use Rattle.demands.proofs.Curves.{source-word, rules-kept, exact-opens, one-bit-opens}
+use Rattle.demands.proofs.Curves.{rules-kept, exact-opens, one-bit-opens}
 use Rattle.demands.proofs.Family.{place-needed, reading-same, mask-same}
 use Rattle.runs.proofs.Progress.{stuck-ended}
 
 -- ---- a reading in range
 
 module _ (S : Setting) (q : ℕ) (v : World) (F : Finishes 32 (staged 32 S) q v) (h : T (in-range 32 (reading 32 S q))) where
-  in-range-word : Promised (S .table) (source-word S q v F)
+  in-range-word : Promised (S .table) (source-value 32 S q)
   unfolding reading
   in-range-word = ranged h
 
@@ -110,9 +110,9 @@ unfolding order-of
 orders-alike S S′ q e = ap (λ (job : List ℕ). getD (orders job) q (record { kind = 0; target = 0; source = 0; fourth = 0 })) (e .job)
 
 module _ (S : Setting) (q : ℕ) (v : World) (F : Finishes 32 (staged 32 S) q v) (k : order-of S q .kind ≡ 10) (l : pos (last-count (rows (S .table))) ≤ℤ reading 32 S q) where
-  above-last : Promised (S .table) (source-word S q v F)
+  above-last : Promised (S .table) (source-value 32 S q)
   unfolding reading
-  above-last = let p = above-word (source-word S q v F) (last-count (rows (S .table))) (sub-lt 32 _ _) l in above (p .0) (p .1)
+  above-last = let p = above-word (source-value 32 S q) (last-count (rows (S .table))) (sub-lt 32 _ _) l in above (p .0) (p .1)
 
   Y-last : Y-of S q ≡ scaled (rows (S .table)) (pos (last-count (rows (S .table))))
   unfolding Y-of

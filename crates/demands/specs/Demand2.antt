@@ -17,8 +17,8 @@ use Rattle.calls.specs.Scripts.{job-script, script-cost, orders-in, Orderly}
 use Rattle.calls.specs.Calls.{State, start, hear}
 use Rattle.runs.specs.Runs.{Stage, Setting, staged, Spoken, Among, Dealer, ready, Side, waiting, going, World}
 use Rattle.runs.specs.Runs.{world, Call, lent1, lent2, Dealt, preparation, held, Run, opened-after}
-use Rattle.runs.specs.Orders.{first, slot, after-order, before-order, value-before, mask-before, Unwritten, opens, Finishes}
-use Rattle.runs.specs.Orders.{order-of, refresh-mask}
+use Rattle.runs.specs.Orders.{first, slot, after-order, before-order, Unwritten, order-of, refresh-mask}
+use Rattle.runs.specs.Orders.{source-value, source-mask, second-value, opens, Finishes}
 use Rattle.runs.specs.InOrder.{words-of-1, words-of-2}
 
 -- k words spoken so far, of n answers given: all of them, but for the 0 given at the end, where k is half the script's
@@ -30,8 +30,7 @@ pub record Counted (S : Stage) (k : ℕ) (s : State) (n : ℕ) : Type 0 where
 -- the word that document 01 defines for order q, from what its sources open just before it, and the masks
 abbrev pub defined-value : Setting → (q : ℕ) → ℕ
 defined-value S q =
-    order-value 32 (rows (S .table)) (order-of S q) (value-before 32 (staged 32 S) q (order-of S q .source))
-    (value-before 32 (staged 32 S) q (order-of S q .fourth)) (mask-before 32 (staged 32 S) q (order-of S q .source))
+    order-value 32 (rows (S .table)) (order-of S q) (source-value 32 S q) (second-value 32 S q) (source-mask 32 S q)
     (refresh-mask 32 S q)
 
 pub record Demand2 : Type 0 where

@@ -32,7 +32,7 @@ use Rattle.calls.specs.Lent.{or-else, dealer-lists-fault, dealer-fault}
 use Rattle.calls.specs.Calls.{fresh}
 use Rattle.calls.proofs.Faults.{long-enough}
 use Rattle.runs.specs.Runs.{Setting, staged, opened-slot}
-use Rattle.runs.specs.Orders.{Words, slot, first, before-order, after-order, order-of, first-counts, used-before, refresh-mask}
+use Rattle.runs.specs.Orders.{Words, slot, first, before-order, after-order, order-of, first-counts, used-before, refresh-mask, source-value}
 use Rattle.runs.proofs.Opened.{order-leaves}
 use Rattle.sample_masks.specs.Masks.{multiples}
 use Rattle.sample_masks.proofs.Multiples.{multiples-length, multiples-at, multiples-fit}
@@ -166,7 +166,7 @@ module _ (mode m l1 l2 : ℕ) where
     abbrev x : ℕ
     x = value (numbers 32) (record { m = m; l1 = l1; l2 = l2 })
 
-    source-is : value (numbers 32) (slot (before-order (staged 32 S) 0) (order-of S 0 .source)) ≡ x
+    source-is : source-value 32 S 0 ≡ x
     unfolding before-order order-of orders fresh
     source-is = refl
 
