@@ -3,7 +3,7 @@ use mathlib.Core.Path.{_≡_, refl, sym, ap, _∙_}
 use mathlib.Core.Bool.{Bool, true}
 use mathlib.Core.List.{List, [], _∷_, map}
 use Prim.Native.Nat.{ℕ}
-use lib.Dec.{T}
+use lib.Dec.{T, lit<}
 use lib.IntN.{ℤ, pos, negsuc}
 use lib.ListN.{getD}
 use Rattle.words.specs.Words.{add, sub, mul, bit, shr}
@@ -39,7 +39,7 @@ module _ (S : Setting) (q : ℕ) (v : World) (F : Finishes 32 (staged 32 S) q v)
       → opens 32 S v q ≡ (0, signed 32 (getD (values 32 (rows (S .table)) k (wrap 32 x) (second-value 32 S q) L (refresh-mask 32 S q)) kind 0))
   unfolding order-value
   truncation-case kind k x L t r l =
-      demand2 .order-opens S q v F
+      demand2 .order-opens 32 (lit< tt) S q v F
       ∙ (λ i. (0, signed 32 (getD (values 32 (rows (S .table)) (t .shift i) (source-is x r i) (second-value 32 S q) (l i) (refresh-mask 32 S q)) (t .is-kind i) 0)))
 
 -- ---- case by case

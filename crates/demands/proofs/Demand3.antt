@@ -44,19 +44,19 @@ module _ (S : Setting) (q : ℕ) (v : World) (F : Finishes 32 (staged 32 S) q v)
   unfolding reading
   in-range-word = ranged h
 
-  exact : Exact S q → opens 32 S v q ≡ (0, floor (Y-of S q) 4096)
+  exact : Exact S q → opens 32 S v q ≡ (0, floor (Y-of 32 S q) 4096)
   exact e = exact-opens S q v F (e .kind) in-range-word (e .mode)
 
-  one-bit : OneBit S q → opens 32 S v q ≡ (0, floor (Y-of S q) 4096 +ℤ pos (slip 12 (wrap 12 (Y-of S q)) (refresh-mask 32 S q)))
+  one-bit : OneBit S q → opens 32 S v q ≡ (0, floor (Y-of 32 S q) 4096 +ℤ pos (slip 12 (wrap 12 (Y-of 32 S q)) (refresh-mask 32 S q)))
   one-bit e = one-bit-opens S q v F (e .kind) in-range-word 0 (e .mode)
 
   near-exact : Exact S q → Near (line (rows (S .table)) (reading 32 S q)) (opens 32 S v q .1)
   unfolding Y-of
-  near-exact e = rw (exact e) (exact-near (S .table) (rules-kept S q v F (e .kind)) (reading 32 S q))
+  near-exact e = rw (exact e) (exact-near (S .table) (rules-kept 32 S q v F (e .kind)) (reading 32 S q))
 
   near-one-bit : OneBit S q → Near (line (rows (S .table)) (reading 32 S q)) (opens 32 S v q .1)
   unfolding Y-of
-  near-one-bit e = rw (one-bit e) (one-bit-near (S .table) (rules-kept S q v F (e .kind)) (reading 32 S q) (refresh-mask 32 S q))
+  near-one-bit e = rw (one-bit e) (one-bit-near (S .table) (rules-kept 32 S q v F (e .kind)) (reading 32 S q) (refresh-mask 32 S q))
 
 -- ---- the count
 
@@ -114,9 +114,9 @@ module _ (S : Setting) (q : ℕ) (v : World) (F : Finishes 32 (staged 32 S) q v)
   unfolding reading
   above-last = let p = above-word (source-value 32 S q) (last-count (rows (S .table))) (sub-lt 32 _ _) l in above (p .0) (p .1)
 
-  Y-last : Y-of S q ≡ scaled (rows (S .table)) (pos (last-count (rows (S .table))))
+  Y-last : Y-of 32 S q ≡ scaled (rows (S .table)) (pos (last-count (rows (S .table))))
   unfolding Y-of
-  Y-last = scaled-level (S .table) (rules-kept S q v F k) (reading 32 S q) l
+  Y-last = scaled-level (S .table) (rules-kept 32 S q v F k) (reading 32 S q) l
 
   -- by the mode: what the last row opens
   saturated-opens : (mode : ℕ) → order-of S q .fourth ≡ mode
@@ -136,47 +136,47 @@ saturated S S′ q v v′ e F F′ k r l =
 
 -- ---- the family of runs
 
-module _ (S : Setting) (q : ℕ) (v : ℕ → World) (words : Words 32 (staged 32 S)) (F : (a : ℕ) → a < 2 ^ 32 → Finishes 32 (staged 32 (with-word S q a)) q (v a)) (e : OneBit S q)
+module _ (S : Setting) (q : ℕ) (v : ℕ → World) (words : Words 32 (staged 32 S)) (F : (a : ℕ) → a < 2 ^ 32 → Finishes 32 (staged 32 (with-word 32 S q a)) q (v a)) (e : OneBit S q)
     (h : T (in-range 32 (reading 32 S q))) where
-  abbrev first-run : Finishes 32 (staged 32 (with-word S q 0)) q (v 0)
+  abbrev first-run : Finishes 32 (staged 32 (with-word 32 S q 0)) q (v 0)
   first-run = F 0 (omega arith)
 
   in-orders : q < length (orders (S .job))
   unfolding with-word
-  in-orders = in-job 32 (with-word S q 0) q (v 0) first-run
+  in-orders = in-job 32 (with-word 32 S q 0) q (v 0) first-run
 
-  place-listed : refresh-place S q < length (S .A)
+  place-listed : refresh-place 32 S q < length (S .A)
   unfolding with-word job-cost
   place-listed =
-      let c = checked 32 (with-word S q 0) q (v 0) first-run in
-      omega (arith, place-needed S q e in-orders, c .a, length-set (S .A) (refresh-place S q) 0)
+      let c = checked 32 (with-word 32 S q 0) q (v 0) first-run in
+      omega (arith, place-needed S q e in-orders, c .a, length-set (S .A) (refresh-place 32 S q) 0)
 
   -- the refresh's word of B
   abbrev b : ℕ
   b = at (S .B) (used-before 32 S q .b + program-cost 32 (sum-program 32 (order-of S q .source) (rows (S .table))) .b)
 
   abbrev y : ℕ
-  y = wrap 12 (Y-of S q)
+  y = wrap 12 (Y-of 32 S q)
 
   module _ (a : ℕ) (l : a < 2 ^ 32) where
-    same-reading : reading 32 (with-word S q a) q ≡ reading 32 S q
+    same-reading : reading 32 (with-word 32 S q a) q ≡ reading 32 S q
     same-reading = reading-same S q e a words (F a l .words) in-orders
 
-    word-opens : opens 32 S (v a) q ≡ (0, floor (Y-of S q) 4096 +ℤ pos (slip 12 y (add 32 a b)))
+    word-opens : opens 32 S (v a) q ≡ (0, floor (Y-of 32 S q) 4096 +ℤ pos (slip 12 y (add 32 a b)))
     unfolding with-word order-of Y-of
     word-opens =
-        one-bit (with-word S q a) q (v a) (F a l) (rw same-reading h) (record { kind = e .kind; mode = e .mode })
+        one-bit (with-word 32 S q a) q (v a) (F a l) (rw same-reading h) (record { kind = e .kind; mode = e .mode })
         ∙ (λ i. (0, floor (scaled (rows (S .table)) (same-reading i)) 4096 +ℤ pos (slip 12 (wrap 12 (scaled (rows (S .table)) (same-reading i))) (mask-same S q e a place-listed i))))
 
-    gives-one-more : eqZ (opens 32 S (v a) q .1) (floor (Y-of S q) 4096 +ℤ pos 1) ≡ leb 4096 (y + (a + b) % 2 ^ 32 % 4096)
+    gives-one-more : eqZ (opens 32 S (v a) q .1) (floor (Y-of 32 S q) 4096 +ℤ pos 1) ≡ leb 4096 (y + (a + b) % 2 ^ 32 % 4096)
     unfolding slip add
     gives-one-more =
-        ap (λ (p : ℕ × ℤ). eqZ (p .1) (floor (Y-of S q) 4096 +ℤ pos 1)) word-opens
-        ∙ one-more (floor (Y-of S q) 4096) (leb 4096 (y % 4096 + add 32 a b % 4096))
-        ∙ ap (λ (n : ℕ). leb 4096 (n + add 32 a b % 4096)) (mod-eq-of-lt (wrap-lt 12 (Y-of S q)))
+        ap (λ (p : ℕ × ℤ). eqZ (p .1) (floor (Y-of 32 S q) 4096 +ℤ pos 1)) word-opens
+        ∙ one-more (floor (Y-of 32 S q) 4096) (leb 4096 (y % 4096 + add 32 a b % 4096))
+        ∙ ap (λ (n : ℕ). leb 4096 (n + add 32 a b % 4096)) (mod-eq-of-lt (wrap-lt 12 (Y-of 32 S q)))
 
-  slips : count (2 ^ 32) (λ a. eqZ (opens 32 S (v a) q .1) (floor (Y-of S q) 4096 +ℤ pos 1)) ≡ y * 2 ^ 20
-  slips = count-same (2 ^ 32) _ (λ a. leb 4096 (y + (a + b) % 2 ^ 32 % 4096)) gives-one-more ∙ slips-of-words y b (wrap-lt 12 (Y-of S q))
+  slips : count (2 ^ 32) (λ a. eqZ (opens 32 S (v a) q .1) (floor (Y-of 32 S q) 4096 +ℤ pos 1)) ≡ y * 2 ^ 20
+  slips = count-same (2 ^ 32) _ (λ a. leb 4096 (y + (a + b) % 2 ^ 32 % 4096)) gives-one-more ∙ slips-of-words y b (wrap-lt 12 (Y-of 32 S q))
 
 -- ---- every order
 

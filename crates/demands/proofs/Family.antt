@@ -38,7 +38,7 @@ before-walk w S words q h =
 
 module _ (S : Setting) (q : ℕ) (o : OneBit S q) where
   abbrev i : ℕ
-  i = refresh-place S q
+  i = refresh-place 32 S q
 
   -- the refresh's word is one of those that the job needs
   pub place-needed : q < length (orders (S .job)) → i < job-cost 32 (S .job) (S .table) .a
@@ -56,10 +56,10 @@ module _ (S : Setting) (q : ℕ) (o : OneBit S q) where
       omega (arith, c, used-within 32 (job-gates 32 (S .job) (S .table)) q (in-gates 32 S q h))
 
   -- the same shares before the order, whatever the word
-  before-same : (a : ℕ) → Words 32 (staged 32 S) → Words 32 (staged 32 (with-word S q a)) → q < length (orders (S .job)) → before-order (staged 32 (with-word S q a)) q ≡ before-order (staged 32 S) q
+  before-same : (a : ℕ) → Words 32 (staged 32 S) → Words 32 (staged 32 (with-word 32 S q a)) → q < length (orders (S .job)) → before-order (staged 32 (with-word 32 S q a)) q ≡ before-order (staged 32 S) q
   unfolding with-word used-before refresh-place
   before-same a words words′ h =
-      before-walk 32 (with-word S q a) words′ q h
+      before-walk 32 (with-word 32 S q a) words′ q h
       ∙ ap (λ (c : Conf Triple). c .state)
       (sym (whole-alike (S .A) (set (S .A) i a) (S .B) (S .B) (job-steps 32 (take q (job-gates 32 (S .job) (S .table)))) origin (first (staged 32 S)) [] same (λ n l. refl)))
       ∙ sym (before-walk 32 S words q h)
@@ -72,12 +72,12 @@ module _ (S : Setting) (q : ℕ) (o : OneBit S q) where
           sym (getD-set-other (S .A) i n a 0 (λ e. omega arith))
 
   -- so the same reading
-  pub reading-same : (a : ℕ) → Words 32 (staged 32 S) → Words 32 (staged 32 (with-word S q a)) → q < length (orders (S .job)) → reading 32 (with-word S q a) q ≡ reading 32 S q
+  pub reading-same : (a : ℕ) → Words 32 (staged 32 S) → Words 32 (staged 32 (with-word 32 S q a)) → q < length (orders (S .job)) → reading 32 (with-word 32 S q a) q ≡ reading 32 S q
   unfolding reading with-word order-of
   reading-same a words words′ h = ap (λ (t : Triple). signed 32 (value (numbers 32) (slot t (order-of S q .source)))) (before-same a words words′ h)
 
   -- and the mask is that word plus the refresh's word of B
   pub mask-same : (a : ℕ) → i < length (S .A)
-      → refresh-mask 32 (with-word S q a) q ≡ add 32 a (at (S .B) (used-before 32 S q .b + program-cost 32 (sum-program 32 (order-of S q .source) (rows (S .table))) .b))
+      → refresh-mask 32 (with-word 32 S q a) q ≡ add 32 a (at (S .B) (used-before 32 S q .b + program-cost 32 (sum-program 32 (order-of S q .source) (rows (S .table))) .b))
   unfolding refresh-mask with-word order-of used-before refresh-place
   mask-same a h = ap (λ (x : ℕ). add 32 x (at (S .B) (used-before 32 S q .b + program-cost 32 (sum-program 32 (order-of S q .source) (rows (S .table))) .b))) (getD-set-same (S .A) i a 0 h)

@@ -28,25 +28,26 @@ pub record Counted (S : Stage) (k : ℕ) (s : State) (n : ℕ) : Type 0 where
   pub at-end : s .order ≡ orders-in (S .script) → (suc k ≡ n) × (k * 2 ≡ script-cost (S .script) .words)
 
 -- the word that document 01 defines for order q, from what its sources open just before it, and the masks
-abbrev pub defined-value : Setting → (q : ℕ) → ℕ
-defined-value S q =
-    order-value 32 (rows (S .table)) (order-of S q) (source-value 32 S q) (second-value 32 S q) (source-mask 32 S q)
-    (refresh-mask 32 S q)
+abbrev pub defined-value : (w : ℕ) → Setting → (q : ℕ) → ℕ
+defined-value w S q =
+    order-value w (rows (S .table)) (order-of S q) (source-value w S q) (second-value w S q) (source-mask w S q)
+    (refresh-mask w S q)
 
 pub record Demand2 : Type 0 where
-  -- "each order opens to the value that document 01 defines for it"
-  pub order-opens : (S : Setting) (q : ℕ) (v : World) → Finishes 32 (staged 32 S) q v
-      → opens 32 S v q ≡ (0, signed 32 (defined-value S q))
+  -- "each order opens to the value that document 01 defines for it": at every width above the 12 bits that a curve
+  -- truncates by
+  pub order-opens : (w : ℕ) → 12 < w → (S : Setting) (q : ℕ) (v : World) → Finishes w (staged w S) q v
+      → opens w S v q ≡ (0, signed w (defined-value w S q))
   -- opening any register as the order leaves it never meets 10, and gives its value on the joint walk
-  pub shares-agree : (S : Stage) (q i : ℕ) (v : World) → Finishes 32 S q v
-      → opened-after 32 v q i ≡ (0, signed 32 (value (numbers 32) (slot (after-order S q) i)))
+  pub shares-agree : (w : ℕ) (S : Stage) (q i : ℕ) (v : World) → Finishes w S q v
+      → opened-after w v q i ≡ (0, signed w (value (numbers w) (slot (after-order S q) i)))
   -- "the register keeps that until an order writes it": any slot that no step of the order writes; so every register
   -- but a job's order's target
   pub slot-kept : (S : Stage) (q i : ℕ) → q < orders-in (S .script) → Unwritten i q (S .script .steps)
       → slot (after-order S q) i ≡ slot (before-order S q) i
-  pub register-kept : (S : Setting) (q i : ℕ) (v : World) → Finishes 32 (staged 32 S) q v → i < 16
+  pub register-kept : (w : ℕ) (S : Setting) (q i : ℕ) (v : World) → Finishes w (staged w S) q v → i < 16
       → eqb i (order-of S q .target) ≡ false
-      → slot (after-order (staged 32 S) q) i ≡ slot (before-order (staged 32 S) q) i
+      → slot (after-order (staged w S) q) i ≡ slot (before-order (staged w S) q) i
   -- "every spoken word is the one defined there": one of those defined; in order and each once, InOrder.antt
   pub host1-speaks : (S : Stage) (cs : List Call) (z : Dealer) (buf : List ℕ) (s : State) (t : List Pair)
       (said : List Spoken)
@@ -78,5 +79,5 @@ pub record Demand2 : Type 0 where
       → Dealt S buf D → Among (s .order, s .turn, v) said1 → hear (lent2 S D) s v .number ≡ 0
       → Counted S (hear (lent2 S D) s v .spoken) (hear (lent2 S D) s v .state) (suc (length said))
   -- a job's script has as many orders as the job, and is orderly
-  pub job-orders : (job table : List ℕ) → orders-in (job-script 32 job table) ≡ length (orders job)
-  pub job-orderly : (job table : List ℕ) → Orderly (job-script 32 job table)
+  pub job-orders : (w : ℕ) (job table : List ℕ) → orders-in (job-script w job table) ≡ length (orders job)
+  pub job-orderly : (w : ℕ) (job table : List ℕ) → Orderly (job-script w job table)

@@ -29,13 +29,13 @@ target-opens S v q = opened-now 32 16 v (order-of S q .target)
 
 pub record ReturnedCurves : Type 0 where
   pub exact : (S : Setting) (q : ℕ) (v : World) → Stays S q v → Exact S q → T (in-range 32 (reading 32 S q))
-      → target-opens S v q ≡ (0, floor (Y-of S q) 4096)
+      → target-opens S v q ≡ (0, floor (Y-of 32 S q) 4096)
   pub one-bit : (S : Setting) (q : ℕ) (v : World) → Stays S q v → OneBit S q → T (in-range 32 (reading 32 S q))
-      → target-opens S v q ≡ (0, floor (Y-of S q) 4096 +ℤ pos (slip 12 (wrap 12 (Y-of S q)) (refresh-mask 32 S q)))
+      → target-opens S v q ≡ (0, floor (Y-of 32 S q) 4096 +ℤ pos (slip 12 (wrap 12 (Y-of 32 S q)) (refresh-mask 32 S q)))
   pub slips : (S : Setting) (q : ℕ) (v : ℕ → World) → Words 32 (staged 32 S)
-      → ((a : ℕ) → a < 2 ^ 32 → Stays (with-word S q a) q (v a)) → OneBit S q → T (in-range 32 (reading 32 S q))
-      → count (2 ^ 32) (λ a. eqZ (target-opens S (v a) q .1) (floor (Y-of S q) 4096 +ℤ pos 1)) ≡ wrap 12
-      (Y-of S q) * 2 ^ 20
+      → ((a : ℕ) → a < 2 ^ 32 → Stays (with-word 32 S q a) q (v a)) → OneBit S q → T (in-range 32 (reading 32 S q))
+      → count (2 ^ 32) (λ a. eqZ (target-opens S (v a) q .1) (floor (Y-of 32 S q) 4096 +ℤ pos 1)) ≡ wrap 12
+      (Y-of 32 S q) * 2 ^ 20
   pub near-exact : (S : Setting) (q : ℕ) (v : World) → Stays S q v → Exact S q → T (in-range 32 (reading 32 S q))
       → Near (line (rows (S .table)) (reading 32 S q)) (target-opens S v q .1)
   pub near-one-bit : (S : Setting) (q : ℕ) (v : World) → Stays S q v → OneBit S q → T (in-range 32 (reading 32 S q))
@@ -47,4 +47,4 @@ pub record ReturnedCurves : Type 0 where
   -- the 2^32 runs of `slips` exist, whatever the buffer, for every order of an accepted job on words
   pub family : (S : Setting) (q : ℕ) (buffer : List ℕ) → Words 32 (staged 32 S) → Accepted (staged 32 S) buffer
       → q < length (orders (S .job))
-      → (v : ℕ → World) × ((a : ℕ) → a < 2 ^ 32 → Finishes 32 (staged 32 (with-word S q a)) q (v a))
+      → (v : ℕ → World) × ((a : ℕ) → a < 2 ^ 32 → Finishes 32 (staged 32 (with-word 32 S q a)) q (v a))
