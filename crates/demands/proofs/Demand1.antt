@@ -4,6 +4,7 @@ use mathlib.Core.Logic.{_≢_}
 use mathlib.Core.List.{List}
 use Prim.Native.Nat.{ℕ, zero, suc}
 use Rattle.gates.specs.Hosts.{Pair}
+use Rattle.gates.specs.Costs.{Cost}
 use Rattle.jobs.specs.Job.{Fault, job-fault, job-gates, job-cost}
 use Rattle.jobs.specs.FirstFault.{Numbered, faultless}
 use Rattle.jobs.proofs.FirstFault.{job-number, number-0}
@@ -12,9 +13,9 @@ use Rattle.calls.specs.Scripts.{Script, job-script}
 use Rattle.calls.proofs.Scripts.{job-made}
 use Rattle.calls.specs.Lent.{Lent, lent, lent-fault, dealer-fault, worker-of}
 use Rattle.calls.specs.Calls.{State, Answer, fresh, report, unless, given, start-walk, start, hear-walk, place-fault, found-of, resume, hear, prepared, prepare}
-use Rattle.demands.specs.Conditions.{places-from, Single}
+use Rattle.demands.specs.Conditions.{places-from, Terms, Single}
 use Rattle.demands.specs.Numbers.{Told}
-use Rattle.demands.specs.Demand1.{terms-of, job-terms, given-back, Demand1}
+use Rattle.demands.specs.Demand1.{terms-of, table-needs, given-back, Demand1}
 use Rattle.runs.proofs.Chain.{job-orders, job-orderly}
 use Rattle.runs.proofs.Refusals.{start-state, hear-state, prepare-back}
 use Rattle.demands.proofs.Placed.{gates-placed}
@@ -23,13 +24,13 @@ use Rattle.demands.proofs.Numbers.{numbers}
 -- ---- a job's terms
 
 module _ (w : ℕ) (job table : List ℕ) where
-  told : Told (job-script w job table) (terms-of w job table (job-cost w job table))
+  told : (needs : Cost) → job-cost w job table ≡ needs → Told (job-script w job table) (terms-of w job table needs)
   unfolding job-cost
-  told =
+  told needs n =
       record {
         none = λ e. let p = number-0 w job table .0 e in faultless (p .0) (p .1);
         some = λ k e. subst (λ (n : ℕ). Numbered w job table n (job-fault w job table .1)) e (job-number w job table _ _ .0 refl);
-        needs = refl;
+        needs = n;
         places = ap (places-from 0 0) (job-made w job table) ∙ gates-placed w 0 (job-gates w job table);
         orders = job-orders w job table;
       }
@@ -38,15 +39,6 @@ module _ (w : ℕ) (job table : List ℕ) where
   single n i m j p q =
       let e : _≡_ {A = Fault} (n, i) (m, j) = sym (job-number w job table n i .1 p) ∙ job-number w job table m j .1 q in
       (ap (λ (f : Fault). f .0) e, ap (λ (f : Fault). f .1) e)
-
--- at 32 bits, by the table of costs
-job-told : (job table : List ℕ) → Told (job-script 32 job table) (job-terms job table)
-job-told job table =
-    let t = told 32 job table in
-    record { none = t .none; some = t .some; needs = t .needs ∙ cost-table .job-counts job table; places = t .places; orders = t .orders }
-
-job-single : (job table : List ℕ) → Single (Numbered 32 job table)
-job-single = single 32
 
 -- ---- a refusal's other numbers
 
@@ -82,20 +74,36 @@ start-back : (loan : Lent) (r : Pair) → start loan r .number ≢ 0 → start l
 unfolding given fresh
 start-back loan r h = start-state loan r h
 
-pub demand1 : Demand1
-demand1 =
-    record {
-      preparing = λ job table A B D r. numbers .preparing (job-script 32 job table) (job-terms job table) (job-told job table) A B D r;
-      starting = λ h job table M D r. numbers .starting (lent h (job-script 32 job table) M D) (job-terms job table) (job-told job table) r;
-      hearing = λ h job table M D s v.
-          numbers .hearing (lent h (job-script 32 job table) M D) (job-terms job table) (job-told job table) (job-orderly 32 job table) s v;
-      one-preparation = λ job table. numbers .one-preparation (job-terms job table) (job-single job table);
-      one-start = λ h job table M D. numbers .one-start (job-terms job table) (job-single job table) h M D;
-      one-hearing = λ h job table M D o x.
-          numbers .one-hearing (job-script 32 job table) (job-terms job table) (job-told job table) (job-orderly 32 job table) (job-single job table) h M D o x;
-      told = told;
-      single = single;
-      preparing-unchanged = λ σ A B D r h. let p = prepare-back σ A B D r h in (p .0, p .1, prepare-rest σ A B D r h);
-      starting-unchanged = λ loan r h. let p = start-rest loan r h in (start-back loan r h, p .0, p .1);
-      hearing-unchanged = λ loan s v h. let p = hear-rest loan s v h in (hear-state loan s v h, p .0, p .1);
-    }
+module _ (w : ℕ) (needs : (job table : List ℕ) → Cost) (costs : (job table : List ℕ) → job-cost w job table ≡ needs job table) where
+  abbrev terms : (job table : List ℕ) → Terms
+  terms job table = terms-of w job table (needs job table)
+
+  job-told : (job table : List ℕ) → Told (job-script w job table) (terms job table)
+  job-told job table = told w job table (needs job table) (costs job table)
+
+  demanded : Demand1 w needs
+  demanded =
+      record {
+        preparing = λ job table A B D r. numbers .preparing (job-script w job table) (terms job table) (job-told job table) A B D r;
+        starting = λ h job table M D r. numbers .starting (lent h (job-script w job table) M D) (terms job table) (job-told job table) r;
+        hearing = λ h job table M D s v.
+            numbers .hearing (lent h (job-script w job table) M D) (terms job table) (job-told job table) (job-orderly w job table) s v;
+        one-preparation = λ job table. numbers .one-preparation (terms job table) (single w job table);
+        one-start = λ h job table M D. numbers .one-start (terms job table) (single w job table) h M D;
+        one-hearing = λ h job table M D o x.
+            numbers .one-hearing (job-script w job table) (terms job table) (job-told job table) (job-orderly w job table)
+            (single w job table) h M D o x;
+        told = job-told;
+        single = single w;
+        preparing-unchanged = λ σ A B D r h. let p = prepare-back σ A B D r h in (p .0, p .1, prepare-rest σ A B D r h);
+        starting-unchanged = λ loan r h. let p = start-rest loan r h in (start-back loan r h, p .0, p .1);
+        hearing-unchanged = λ loan s v h. let p = hear-rest loan s v h in (hear-state loan s v h, p .0, p .1);
+      }
+
+-- at every width, by the costs of the orders' gates
+pub demand1-at : (w : ℕ) → Demand1 w (job-cost w)
+demand1-at w = demanded w (job-cost w) (λ job table. refl)
+
+-- at 32 bits, by document 01's table of costs
+pub demand1 : Demand1 32 table-needs
+demand1 = demanded 32 table-needs (cost-table .job-counts)

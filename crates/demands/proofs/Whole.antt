@@ -5,19 +5,20 @@ use mathlib.Core.List.{List, []}
 use Prim.Native.Nat.{ℕ, _<_}
 use native.Mathlib.Omega.{arith}
 use Rattle.gates.specs.Hosts.{Pair}
-use Rattle.jobs.specs.Job.{job-fault}
+use Rattle.gates.specs.Costs.{Cost}
+use Rattle.jobs.specs.Job.{job-cost}
 use Rattle.calls.specs.Scripts.{script-cost, orders-in}
 use Rattle.calls.specs.Calls.{State}
 use Rattle.runs.specs.Runs.{Stage, Setting, staged, Spoken, idle, ready, waiting, going, World, world, Call, lent1, lent2, preparation, held, Completes, prepares, starts1, starts2, hears1, hears2, given-out, begin, Finished, Accepted}
 use Rattle.demands.specs.Conditions.{places-from, Terms, PreparationIs, of-itself, of-lists, of-buffer, prepares-well}
 use Rattle.demands.specs.Numbers.{Told}
-use Rattle.demands.specs.Demand1.{job-terms}
+use Rattle.demands.specs.Demand1.{terms-of, table-needs, Demand1}
 use Rattle.runs.specs.Strict.{Calls, none, completes}
 use Rattle.demands.specs.Whole.{WholeRun, outset, Whole}
 use Rattle.runs.proofs.Kept.{kept}
 use Rattle.runs.proofs.Progress.{lent1-zero, lent2-zero}
 use Rattle.demands.proofs.Numbers.{preparation-is}
-use Rattle.demands.proofs.Demand1.{demand1}
+use Rattle.demands.proofs.Demand1.{demand1-at, demand1}
 use Rattle.runs.proofs.Strict.{wide-on, start-zero, joined, buffer-kept, carried-with}
 
 module _ (S : Stage) (buf : List ℕ) (r : Pair) where
@@ -92,12 +93,12 @@ module _ (S : Stage) (E : List ℕ) where
 
 -- ---- a job
 
-module _ (S : Setting) (buf : List ℕ) where
+module _ (w : ℕ) (needs : (job table : List ℕ) → Cost) (d : Demand1 w needs) (S : Setting) (buf : List ℕ) where
   abbrev JobIs : ℕ → ℕ → Type 0
-  JobIs = PreparationIs (job-terms (S .job) (S .table)) (S .A) (S .B) buf
+  JobIs = PreparationIs (terms-of w (S .job) (S .table) (needs (S .job) (S .table))) (S .A) (S .B) buf
 
-  job-prepared : JobIs (preparation (staged 32 S) buf (S .r1, S .r2) .number) (preparation (staged 32 S) buf (S .r1, S .r2) .index)
-  job-prepared = demand1 .preparing (S .job) (S .table) (S .A) (S .B) buf (S .r1, S .r2)
+  job-prepared : JobIs (preparation (staged w S) buf (S .r1, S .r2) .number) (preparation (staged w S) buf (S .r1, S .r2) .index)
+  job-prepared = d .preparing (S .job) (S .table) (S .A) (S .B) buf (S .r1, S .r2)
 
   none-index : {n i : ℕ} → JobIs n i → n ≡ 0 → JobIs 0 0
   none-index (of-itself q) e = absurd (omega arith)
@@ -105,11 +106,11 @@ module _ (S : Setting) (buf : List ℕ) where
   none-index (of-buffer z h k l) e = absurd (omega arith)
   none-index (prepares-well z h k l) e = prepares-well z h k l
 
-  accepted-job : JobIs 0 0 ↔ Accepted (staged 32 S) buf
+  accepted-job : JobIs 0 0 ↔ Accepted (staged w S) buf
   accepted-job = (
-    λ p. accepted (staged 32 S) buf (S .r1, S .r2)
-        (sym (demand1 .one-preparation (S .job) (S .table) (S .A) (S .B) buf _ _ _ _ p job-prepared .0)),
-    λ acc. none-index job-prepared (not-refused (staged 32 S) buf (S .r1, S .r2) acc),
+    λ p. accepted (staged w S) buf (S .r1, S .r2)
+        (sym (d .one-preparation (S .job) (S .table) (S .A) (S .B) buf _ _ _ _ p job-prepared .0)),
+    λ acc. none-index job-prepared (not-refused (staged w S) buf (S .r1, S .r2) acc),
   )
 
 pub whole : Whole
@@ -117,6 +118,7 @@ whole =
     record {
       accepted = λ S buf r e. accepted S buf r e;
       prepares = λ S buf r acc. not-refused S buf r acc;
-      accepted-job = λ S buf. accepted-job S buf;
+      accepted-job = λ S buf. accepted-job 32 table-needs demand1 S buf;
+      accepted-at = λ w S buf. accepted-job w (job-cost w) (demand1-at w) S buf;
       whole-run = λ S E buf one two p1 p2 e. whole-run S E buf one two p1 p2 e;
     }
