@@ -34,7 +34,7 @@ use Rattle.runs.specs.Orders.{Words, order-of, used-before, first-counts, refre
 use Rattle.demands.specs.Demand3.{Y-of, Exact, OneBit, refresh-place, with-word, eqZ, Alike, Demand3}
 use Rattle.runs.proofs.InJob.{in-job, checked}
 use Rattle.demands.proofs.Curves.{rules-kept, exact-opens, one-bit-opens}
-use Rattle.demands.proofs.Family.{place-needed, reading-same, mask-same}
+use Rattle.demands.proofs.Family.{word-of-b, place-needed, reading-same, mask-same}
 use Rattle.runs.proofs.Progress.{stuck-ended}
 
 -- ---- a reading in range
@@ -149,24 +149,24 @@ module _ (S : Setting) (q : ℕ) (v : ℕ → World) (words : Words 32 (staged 3
   unfolding with-word job-cost
   place-listed =
       let c = checked 32 (with-word 32 S q 0) q (v 0) first-run in
-      omega (arith, place-needed S q e in-orders, c .a, length-set (S .A) (refresh-place 32 S q) 0)
+      omega (arith, place-needed 32 S q e in-orders, c .a, length-set (S .A) (refresh-place 32 S q) 0)
 
   -- the refresh's word of B
   abbrev b : ℕ
-  b = at (S .B) (used-before 32 S q .b + program-cost 32 (sum-program 32 (order-of S q .source) (rows (S .table))) .b)
+  b = word-of-b 32 S q
 
   abbrev y : ℕ
   y = wrap 12 (Y-of 32 S q)
 
   module _ (a : ℕ) (l : a < 2 ^ 32) where
     same-reading : reading 32 (with-word 32 S q a) q ≡ reading 32 S q
-    same-reading = reading-same S q e a words (F a l .words) in-orders
+    same-reading = reading-same 32 S q a words (F a l .words) in-orders
 
     word-opens : opens 32 S (v a) q ≡ (0, floor (Y-of 32 S q) 4096 +ℤ pos (slip 12 y (add 32 a b)))
     unfolding with-word order-of Y-of
     word-opens =
         one-bit (with-word 32 S q a) q (v a) (F a l) (rw same-reading h) (record { kind = e .kind; mode = e .mode })
-        ∙ (λ i. (0, floor (scaled (rows (S .table)) (same-reading i)) 4096 +ℤ pos (slip 12 (wrap 12 (scaled (rows (S .table)) (same-reading i))) (mask-same S q e a place-listed i))))
+        ∙ (λ i. (0, floor (scaled (rows (S .table)) (same-reading i)) 4096 +ℤ pos (slip 12 (wrap 12 (scaled (rows (S .table)) (same-reading i))) (mask-same 32 S q a place-listed i))))
 
     gives-one-more : eqZ (opens 32 S (v a) q .1) (floor (Y-of 32 S q) 4096 +ℤ pos 1) ≡ leb 4096 (y + (a + b) % 2 ^ 32 % 4096)
     unfolding slip add
