@@ -37,21 +37,18 @@ use Rattle.runs.proofs.Opened.{order-leaves}
 use Rattle.sample_masks.specs.Masks.{multiples}
 use Rattle.sample_masks.proofs.Multiples.{multiples-length, multiples-at, multiples-fit}
 use Rattle.gates.specs.Hosts.{Triple}
-use Rattle.trio.specs.Together.{Trio, left}
-use Rattle.trio.proofs.Positions.{prepare-number, lent-of, given-of, P}
+use Rattle.trio.specs.Together.{Trio}
+use Rattle.trio.proofs.Positions.{prepare-number, left-of, P}
 use Rattle.trio.proofs.Leaves.{left-one, register-opens, words-spoken, deals-dealt}
 use Rattle.rehearsal_answer.specs.Rehearsal as Spec
 use Rattle.rehearsal_answer.specs.Rehearsal.{first-a, first-b, refresh-L}
-use Rattle.rehearsal_answer.specs.Trial.{mode-word, in-first, loan, trial}
+use Rattle.rehearsal_answer.specs.Trial.{mode-word, in-first, trial-job, trial-a, trial-b, trial}
 
 -- what register 0 opens
 abbrev pub opens-first : Trio → ℕ × ℤ
 opens-first s = opened-slot 32 (s .masks) (s .one .state .m, s .one .state .mask) (s .two .state .m, s .two .state .mask) 0
 
 -- ---- the job and its counts
-
-abbrev job : ℕ → List ℕ
-job k = 10 ∷ 0 ∷ 0 ∷ k ∷ []
 
 eight : length (rows house) ≡ 8
 unfolding rows house
@@ -75,12 +72,12 @@ mask-lt : refresh-L < 2 ^ 32
 unfolding refresh-L
 mask-lt = add-lt 32 _ _
 
-job-counts : (mode : ℕ) → job-cost 32 (job (mode-word mode)) house ≡ counts mode
+job-counts : (mode : ℕ) → job-cost 32 (trial-job mode) house ≡ counts mode
 unfolding job-cost steps-of job-steps job-gates orders program kinds curve-program program-cost counts
 job-counts zero = curve-exact-cost 0 0 (rows house) ∙ ap (λ (n : ℕ). cost-of (14 * n + 16) (24 * n + 24) (26 * n + 28) (12 * n + 12)) eight
 job-counts (suc m) = curve-one-bit-cost 0 0 (rows house) ∙ ap (λ (n : ℕ). cost-of (14 * n + 3) (24 * n + 4) (26 * n + 5) (12 * n + 2)) eight
 
-script-counts : (mode : ℕ) → script-cost (job-script 32 (job (mode-word mode)) house) ≡ counts mode
+script-counts : (mode : ℕ) → script-cost (job-script 32 (trial-job mode) house) ≡ counts mode
 unfolding job-cost
 script-counts mode = job-counts mode
 
@@ -91,7 +88,7 @@ is-true false t = absurd t
 house-ruled : keeps-rules house ≡ true
 house-ruled = is-true (keeps-rules house) house-keeps-rules
 
-job-sound : (mode : ℕ) → job-fault 32 (job (mode-word mode)) house .0 ≡ 0
+job-sound : (mode : ℕ) → job-fault 32 (trial-job mode) house .0 ≡ 0
 unfolding job-fault ill-sized orders orders-fault fault-at order-fault unknown-kind unknown-register two-sources ill-fourth ill-fourths
 job-sound zero = rw house-ruled
 job-sound (suc m) = rw house-ruled
@@ -110,7 +107,7 @@ fits-first x h (suc i) = fits-zeros 15 i
 abbrev buffer : List ℕ
 buffer = replicate 128 0
 
-lists-long : (mode : ℕ) → 0 ≡ dealer-lists-fault (counts mode) (multiples first-a 2 236) (multiples first-b 2 108) buffer
+lists-long : (mode : ℕ) → 0 ≡ dealer-lists-fault (counts mode) trial-a trial-b buffer
 unfolding counts
 lists-long zero = long-enough 128 216 236 108 _ _ _ (omega (arith, multiples-length first-a 2 236)) (omega (arith, multiples-length first-b 2 108)) (lit≤ tt)
 lists-long (suc n) = long-enough 115 196 213 98 _ _ _ (omega (arith, multiples-length first-a 2 236)) (omega (arith, multiples-length first-b 2 108)) (lit≤ tt)
@@ -119,10 +116,10 @@ module _ (mode m l1 l2 : ℕ) where
   abbrev S : Setting
   S =
       record {
-        job = job (mode-word mode);
+        job = trial-job mode;
         table = house;
-        A = multiples first-a 2 236;
-        B = multiples first-b 2 108;
+        A = trial-a;
+        B = trial-b;
         rm = in-first m;
         r1 = in-first l1;
         r2 = in-first l2;
@@ -140,11 +137,11 @@ module _ (mode m l1 l2 : ℕ) where
   -- ---- the counts
 
   pub deals-are : trial mode m l1 l2 .deals ≡ Spec.deals mode
-  unfolding trial loan
+  unfolding trial
   deals-are = deals-dealt (staged 32 S) buffer accepted ∙ ap (λ (k : Cost). k .deals) (script-counts mode) ∙ deals-counted mode
 
   pub words-are : trial mode m l1 l2 .one .spoken + trial mode m l1 l2 .two .spoken ≡ Spec.words mode
-  unfolding trial loan
+  unfolding trial
   words-are =
       let k = words-spoken (staged 32 S) buffer accepted in
       ap₂ _+_ (k .0 ∙ ap (λ (k : Cost). k .b) (script-counts mode)) (k .1 ∙ ap (λ (k : Cost). k .b) (script-counts mode)) ∙ words-counted mode
@@ -181,10 +178,10 @@ module _ (mode m l1 l2 : ℕ) where
     mask-is : refresh-mask 32 S 0 ≡ refresh-L
     unfolding refresh-mask refresh-L
     mask-is =
-        ap₂ (add 32) (ap (at (multiples first-a 2 236)) place-a ∙ multiples-at first-a 2 236 208 (lit< tt))
-        (ap (at (multiples first-b 2 108)) place-b ∙ multiples-at first-b 2 108 96 (lit< tt))
+        ap₂ (add 32) (ap (at trial-a) place-a ∙ multiples-at first-a 2 236 208 (lit< tt))
+        (ap (at trial-b) place-b ∙ multiples-at first-b 2 108 96 (lit< tt))
 
-    left-is : left (lent-of (staged 32 S)) (given-of (staged 32 S)) ≡ after-order (staged 32 S) 0
+    left-is : left-of (staged 32 S) ≡ after-order (staged 32 S) 0
     unfolding steps-of job-gates orders
     left-is = left-one 32 (staged 32 S) (program 32 (rows house) (record { kind = 10; target = 0; source = 0; fourth = mode-word mode })) refl
 
@@ -196,7 +193,7 @@ module _ (mode m l1 l2 : ℕ) where
 
     opens-curve : opens-first (trial mode m l1 l2)
         ≡ (0, signed 32 (curve-value 32 (rows house) (mode-word mode) x refresh-L))
-    unfolding trial loan
+    unfolding trial
     opens-curve =
         register-opens (staged 32 S) buffer accepted 32 0 (lit< tt)
         ∙ ap {B = ℕ × ℤ} (λ (v : ℕ). (0, signed 32 v)) (ap (λ (j : Triple). value (numbers 32) (slot j 0)) left-is ∙ leaves)

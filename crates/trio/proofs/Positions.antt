@@ -17,14 +17,17 @@ use Rattle.runs.proofs.Ties.{shadow1, shadow2, joint, words, Went, starts, hear
 use Rattle.runs.proofs.Kept.{all, j₀, DealerOk, dealt-all, prepares-ok, supplied, deals-fit}
 use Rattle.demands.proofs.Whole.{whole}
 use Rattle.runs.proofs.Progress.{unless-zero, lent1-zero, lent2-zero}
-use Rattle.trio.specs.Together.{Lending, lending, Trio, prepared, preparation as trio-preparation, begun, heard}
+use Rattle.trio.specs.Together.{Trio, after-preparation, begun, heard, left}
 
--- what the three are lent and given, as a run has it
-abbrev pub lent-of : Stage → Lending
-lent-of S = lending (S .script) (S .A) (S .B)
+-- the three hosts of a stage: at the start, after a word that each hears, and their lanes at the end
+abbrev pub begun-of : Stage → (buffer : List ℕ) → Trio
+begun-of S buf = begun (S .script) (S .A) (S .B) (S .rm, S .r1, S .r2) buf
 
-abbrev pub given-of : Stage → Triple
-given-of S = (S .rm, S .r1, S .r2)
+abbrev pub heard-of : Stage → Trio → Trio
+heard-of S s = heard (S .script) (S .A) (S .B) s
+
+abbrev pub left-of : Stage → Triple
+left-of S = left (S .script) (S .A) (S .B) (S .rm, S .r1, S .r2)
 
 prepared-number : (n : ℕ) (f : Fault) (σ : Script) (A B buf : List ℕ) (r : Pair) → f .0 ≡ n → n ≡ Calls-prepared n f σ A B buf r .number
 unfolding Calls-prepared
@@ -131,12 +134,12 @@ module _ (S : Stage) (buf : List ℕ) where
     unfolding start
     start2-is = unless-zero _ _ _ _ passed2
 
-    begun-is : begun (lent-of S) (given-of S) buf
+    begun-is : begun-of S buf
         ≡ record { number = P .number; index = P .index; deals = P .deals; masks = P .masks; one = start (lent1 S D) (S .rm, S .r1); two = start (lent2 S D) (S .rm, S .r2); buffer = D }
-    unfolding begun prepared trio-preparation
+    unfolding begun after-preparation
     begun-is = rw (unless-zero (P .number) (P .number, P .index) (given (S .rm, S .r1)) (start (lent1 S D) (S .rm, S .r1)) done, unless-zero (P .number) (P .number, P .index) (given (S .rm, S .r2)) (start (lent2 S D) (S .rm, S .r2)) done)
 
-    pub begun-stands : Standing (begun (lent-of S) (given-of S) buf)
+    pub begun-stands : Standing (begun-of S buf)
     unfolding worker-with start-walk
     begun-stands =
         rw (begun-is, start1-is, start2-is)
@@ -154,7 +157,7 @@ module _ (S : Stage) (buf : List ℕ) where
     unfolding hear
     hear2-is s v = unless-zero _ _ _ _ passed2
 
-    pub heard-at : (n : ℕ) → Halted (at-n n .rest) → Exchanging (at-n n .rest) → (x : Standing (heard (lent-of S) (standing n))) × (n < x .n)
+    pub heard-at : (n : ℕ) → Halted (at-n n .rest) → Exchanging (at-n n .rest) → (x : Standing (heard-of S (standing n))) × (n < x .n)
     unfolding worker-with found-of heard
     heard-at n h x =
         rw (hear1-is (state-of (through of1 (at-n n))) (words (S .A) (S .B) (all S) (j₀ S) (joint2 (S .A) (S .B)) n), hear2-is (state-of (through of2 (at-n n))) (words (S .A) (S .B) (all S) (j₀ S) (joint1 (S .A) (S .B)) n))

@@ -22,9 +22,9 @@ use Rattle.runs.proofs.Strict.{wide-on}
 use Rattle.runs.proofs.Buffers.{buffers}
 use Rattle.runs.proofs.InOrder.{in-order}
 use Rattle.demands.proofs.Whole.{whole}
-use Rattle.trio.specs.Together.{Trio, prepared, preparation as trio-preparation, left, ended, together}
+use Rattle.trio.specs.Together.{Trio, after-preparation, end-answer, together}
 use Rattle.trio.specs.Ran.{ran, RunTo, TurnedDown, TrioRun}
-use Rattle.trio.proofs.Positions.{lent-of, given-of, P, D, at-n, standing}
+use Rattle.trio.proofs.Positions.{left-of, P, D, at-n, standing}
 use Rattle.trio.proofs.Ends.{no-step, cur-is, finish}
 
 -- ---- the preparation's number and index
@@ -47,7 +47,7 @@ unless-some zero f s a h = absurd (h refl)
 unless-some (suc n) f s a h = refl
 
 turned-down : (S : Stage) (buf : List ℕ) → P S buf .number ≢ 0 → TurnedDown S buf (ran S buf)
-unfolding together prepared trio-preparation given fresh
+unfolding together after-preparation given fresh
 turned-down S buf h =
     let p = demand1 .preparing-unchanged (S .script) (S .A) (S .B) buf (S .r1, S .r2) h in
     record {
@@ -96,12 +96,12 @@ module _ (S : Stage) (tidy : Orderly (S .script)) (buf : List ℕ) (done : P S b
       }
 
   -- the last answers
-  one-is : ran S buf .one ≡ ended (lent-of S) (of1 (left (lent-of S) (given-of S)))
-  unfolding together prepared trio-preparation
+  one-is : ran S buf .one ≡ end-answer (S .script) (of1 (left-of S))
+  unfolding together after-preparation
   one-is = unless-zero (P S buf .number) (P S buf .number, P S buf .index) (given (S .rm, S .r1)) _ done
 
-  two-is : ran S buf .two ≡ ended (lent-of S) (of2 (left (lent-of S) (given-of S)))
-  unfolding together prepared trio-preparation
+  two-is : ran S buf .two ≡ end-answer (S .script) (of2 (left-of S))
+  unfolding together after-preparation
   two-is = unless-zero (P S buf .number) (P S buf .number, P S buf .index) (given (S .rm, S .r2)) _ done
 
   -- a host at the end
@@ -112,8 +112,8 @@ module _ (S : Stage) (tidy : Orderly (S .script)) (buf : List ℕ) (done : P S b
     pub word : a .word ≡ 0
     pub order : a .state .order ≡ orders-in (S .script)
 
-  last-of : (a : Answer) (l : Pair) → a ≡ ended (lent-of S) l → Last a
-  unfolding ended
+  last-of : (a : Answer) (l : Pair) → a ≡ end-answer (S .script) l → Last a
+  unfolding end-answer
   last-of a l e = rw e (record { number = refl; index = refl; spoken = refl; word = refl; order = refl })
 
   module _ (E : List ℕ) (one two : State) (p1 : held S one ≡ (S .rm, S .r1)) (p2 : held S two ≡ (S .rm, S .r2)) where
@@ -131,7 +131,7 @@ module _ (S : Stage) (tidy : Orderly (S .script)) (buf : List ℕ) (done : P S b
     moved s1 s2 t1 t2 e f W = rw (← e, ← f) W
 
     found-run : RunTo S E (outset S buf one two) (ran S buf)
-    unfolding together prepared trio-preparation
+    unfolding together after-preparation
     found-run =
         let r = whole .whole-run S E buf one two p1 p2 done in
         let e = ends (r .0) (r .1) (r .2) in
@@ -154,7 +154,7 @@ module _ (S : Stage) (tidy : Orderly (S .script)) (buf : List ℕ) (done : P S b
         }
 
 pub trio-ran : TrioRun
-unfolding together prepared trio-preparation
+unfolding together after-preparation
 trio-ran =
     record {
       is-run = λ S tidy E buf one two p1 p2 e. found-run S tidy buf e E one two p1 p2;

@@ -14,11 +14,11 @@ use Rattle.demands.specs.Demand1.{job-terms, given-back}
 use Rattle.runs.specs.InOrder.{words-of-1, words-of-2}
 use Rattle.runs.specs.Buffers.{deals-of, with-deals}
 use Rattle.demands.specs.Whole.{WholeRun, outset}
-use Rattle.trio.specs.Together.{lending, Trio, together}
+use Rattle.trio.specs.Together.{Trio, together}
 
 -- the whole script of a stage, in one place
 abbrev pub ran : Stage → (buffer : List ℕ) → Trio
-ran S buf = together (lending (S .script) (S .A) (S .B)) (S .rm, S .r1, S .r2) buf
+ran S buf = together (S .script) (S .A) (S .B) (S .rm, S .r1, S .r2) buf
 
 -- the three hosts' last answers t are those of a run of document 01 from the world v
 pub record RunTo (S : Stage) (E : List ℕ) (v : World) (t : Trio) : Type 0 where

@@ -1,6 +1,6 @@
 use mathlib.Core.Path.{_∙_}
 use Rattle.tables.specs.Table.{house}
-use Rattle.rehearsal_answer.specs.Trial.{loan, trial}
+use Rattle.rehearsal_answer.specs.Trial.{trial}
 use borrow.Author.Needs.{needs}
 use Rattle.rehearsal_answer.proofs.curve.Statement.{statement}
 use Rattle.rehearsal_answer.proofs.curve.Tie as tie
@@ -48,7 +48,7 @@ run-requires : tie.Need-run-requires
 run-requires c κs = search needs
 
 returns : tie.Need-returns
-unfolding trial loan house
+unfolding trial house
 returns c =
     record {
       buffer = _;
