@@ -28,9 +28,10 @@ use Rattle.programs.specs.Programs.{sum-program}
 use Rattle.programs.specs.Costs.{program-cost}
 use Rattle.programs.proofs.Calibration.{Promised, ranged, above}
 use Rattle.jobs.specs.Job.{orders, job-gates, job-cost}
+use Rattle.jobs.specs.FirstFault.{order}
 use Rattle.calls.specs.Scripts.{orders-in}
 use Rattle.runs.specs.Runs.{Stage, Setting, staged, World, Call, Completes, Run, Finished, buffer-of, Accepted}
-use Rattle.runs.specs.Orders.{Words, order-of, used-before, first-counts, refresh-mask, source-value, reading, opens, Finishes}
+use Rattle.runs.specs.Orders.{Words, order-of, mask-behind, used-before, first-counts, refresh-mask, source-value, reading, opens, Finishes}
 use Rattle.demands.specs.Demand3.{Y-of, Exact, OneBit, refresh-place, with-word, eqZ, Alike, Demand3}
 use Rattle.runs.proofs.InJob.{in-job, checked}
 use Rattle.demands.proofs.Curves.{rules-kept, exact-opens, one-bit-opens}
@@ -96,18 +97,17 @@ above-word x n h l =
     (le-or-lt (2 ^ 31) x)
 
 -- what the lists, the job and the table say of an order is the same in runs that are alike
-mask-of : (job table A B : List ℕ) → ℕ → ℕ
-mask-of job table A B q =
-    add 32 (at A (first-counts 32 q (job-gates 32 job table) .a + program-cost 32 (sum-program 32 (getD (orders job) q (record { kind = 0; target = 0; source = 0; fourth = 0 }) .source) (rows table)) .a))
-    (at B (first-counts 32 q (job-gates 32 job table) .b + program-cost 32 (sum-program 32 (getD (orders job) q (record { kind = 0; target = 0; source = 0; fourth = 0 }) .source) (rows table)) .b))
+refresh-by : (w : ℕ) (job table A B : List ℕ) → ℕ → ℕ
+refresh-by w job table A B q =
+    mask-behind w A B (first-counts w q (job-gates w job table)) (sum-program w (order (orders job) q .source) (rows table))
 
-masks-alike : (S S′ : Setting) (q : ℕ) → Alike S S′ → refresh-mask 32 S q ≡ refresh-mask 32 S′ q
-unfolding refresh-mask used-before order-of mask-of
-masks-alike S S′ q e = λ i. mask-of (e .job i) (e .table i) (e .A i) (e .B i) q
+masks-alike : (w : ℕ) (S S′ : Setting) (q : ℕ) → Alike S S′ → refresh-mask w S q ≡ refresh-mask w S′ q
+unfolding refresh-mask used-before order-of refresh-by
+masks-alike w S S′ q e = λ i. refresh-by w (e .job i) (e .table i) (e .A i) (e .B i) q
 
 orders-alike : (S S′ : Setting) (q : ℕ) → Alike S S′ → order-of S q ≡ order-of S′ q
 unfolding order-of
-orders-alike S S′ q e = ap (λ (job : List ℕ). getD (orders job) q (record { kind = 0; target = 0; source = 0; fourth = 0 })) (e .job)
+orders-alike S S′ q e = ap (λ (job : List ℕ). order (orders job) q) (e .job)
 
 module _ (S : Setting) (q : ℕ) (v : World) (F : Finishes 32 (staged 32 S) q v) (k : order-of S q .kind ≡ 10) (l : pos (last-count (rows (S .table))) ≤ℤ reading 32 S q) where
   above-last : Promised (S .table) (source-value 32 S q)
@@ -131,7 +131,7 @@ saturated : (S S′ : Setting) (q : ℕ) (v v′ : World) → Alike S S′ → F
 saturated S S′ q v v′ e F F′ k r l =
     let o = orders-alike S S′ q e in
     saturated-opens S q v F k (rw r (leZ-yes (le→leb (last-count (rows (S .table))) (last-count (rows (S .table))) (omega arith)))) (order-of S q .fourth) refl
-    ∙ (λ i. (0, last-value (order-of S q .fourth) (scaled (rows (e .table i)) (pos (last-count (rows (e .table i))))) (masks-alike S S′ q e i)))
+    ∙ (λ i. (0, last-value (order-of S q .fourth) (scaled (rows (e .table i)) (pos (last-count (rows (e .table i))))) (masks-alike 32 S S′ q e i)))
     ∙ sym (saturated-opens S′ q v′ F′ (sym (ap (λ (x : Order). x .kind) o) ∙ k) (subst (λ (t : List ℕ). pos (last-count (rows t)) ≤ℤ reading 32 S′ q) (e .table) l) (order-of S q .fourth) (sym (ap (λ (x : Order). x .fourth) o)))
 
 -- ---- the family of runs

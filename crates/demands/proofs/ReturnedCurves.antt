@@ -17,7 +17,7 @@ use Rattle.runs.specs.Runs.{Stage, Setting, staged, World, Begins, given-out, b
 use Rattle.runs.specs.Orders.{Words, order-of, reading, opens, Finishes}
 use Rattle.demands.specs.Demand3.{Y-of, OneBit, refresh-place, with-word, eqZ}
 use Rattle.runs.specs.Strict.{Done}
-use Rattle.demands.specs.Whole.{outset}
+use Rattle.demands.specs.Whole.{first-world}
 use Rattle.demands.specs.ReturnedCurves.{Stays, target-opens, ReturnedCurves}
 use Rattle.runs.proofs.Chain.{job-orders}
 use Rattle.demands.proofs.Demand3.{count-same, demand3}
@@ -54,7 +54,7 @@ module _ (w : ℕ) (S : Setting) (q : ℕ) where
 
   -- the registers given, with nothing kept
   abbrev from : (buf : List ℕ) → ℕ → World
-  from buf a = outset (with-a a) buf (given (S .rm, S .r1)) (given (S .rm, S .r2))
+  from buf a = first-world (with-a a) buf (given (S .rm, S .r1)) (given (S .rm, S .r2))
 
   begins : (buf : List ℕ) (a : ℕ) → Begins (with-a a) (from buf a)
   unfolding with-word

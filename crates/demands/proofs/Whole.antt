@@ -14,7 +14,7 @@ use Rattle.demands.specs.Conditions.{places-from, Terms, PreparationIs, 
 use Rattle.demands.specs.Numbers.{Told}
 use Rattle.demands.specs.Demand1.{terms-of, table-needs, Demand1}
 use Rattle.runs.specs.Strict.{Calls, none, completes}
-use Rattle.demands.specs.Whole.{WholeRun, outset, Whole}
+use Rattle.demands.specs.Whole.{WholeRun, first-world, Whole}
 use Rattle.runs.proofs.Kept.{kept}
 use Rattle.runs.proofs.Progress.{lent1-zero, lent2-zero}
 use Rattle.demands.proofs.Numbers.{preparation-is}
@@ -80,7 +80,7 @@ module _ (S : Stage) (E : List ℕ) where
     abbrev b : List ℕ
     b = preparation S buf (S .r1, S .r2) .buffer
 
-    whole-run : (s1 : State) × (s2 : State) × WholeRun S E (outset S buf one two) m b s1 s2
+    whole-run : (s1 : State) × (s2 : State) × WholeRun S E (first-world S buf one two) m b s1 s2
     whole-run =
         let acc : Accepted S buf = accepted S buf (S .r1, S .r2) e in
         let b0 = given-out p1 p2 in
@@ -88,7 +88,7 @@ module _ (S : Stage) (E : List ℕ) where
         let acc′ : Accepted S b = buffer-kept S (prepares e) (kept S (wide-on S (begin b0) c1)) acc in
         let c2 = completes c1 (starts1 E (start-zero S (lent1 S E) (held S one) (lent1-zero S b acc′ E))) refl in
         let c3 = completes c2 (starts2 b refl (start-zero S (lent2 S b) (held S two) (lent2-zero S b acc′ b (acc′ .deals)))) refl in
-        let d = carried-with S E (AtWork m b) (works-on m b) (record { from = outset S buf one two; begins = b0; calls = c3 }) acc′ at-work in
+        let d = carried-with S E (AtWork m b) (works-on m b) (record { from = first-world S buf one two; begins = b0; calls = c3 }) acc′ at-work in
         done-whole m b _ (d .0 .ends-in) _ (d .0 .heard1) (d .0 .heard2) (d .1) (joined S c3 (d .0 .calls)) (d .0 .finished)
 
 -- ---- a job

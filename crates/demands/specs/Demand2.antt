@@ -21,11 +21,12 @@ use Rattle.runs.specs.Orders.{first, slot, after-order, before-order, Unwritten
 use Rattle.runs.specs.Orders.{source-value, source-mask, second-value, opens, Finishes}
 use Rattle.runs.specs.InOrder.{words-of-1, words-of-2}
 
--- k words spoken so far, of n answers given: all of them, but for the 0 given at the end, where k is half the script's
--- sum
-pub record Counted (S : Stage) (k : ℕ) (s : State) (n : ℕ) : Type 0 where
-  pub before-end : s .order < orders-in (S .script) → k ≡ n
-  pub at-end : s .order ≡ orders-in (S .script) → (suc k ≡ n) × (k * 2 ≡ script-cost (S .script) .words)
+-- the words spoken so far, by the number of answers given: all of them, but for the 0 given at the end, where they are
+-- half the script's sum
+pub record Counted (S : Stage) (spoken : ℕ) (s : State) (answers : ℕ) : Type 0 where
+  pub before-end : s .order < orders-in (S .script) → spoken ≡ answers
+  pub at-end : s .order ≡ orders-in (S .script)
+      → (suc spoken ≡ answers) × (spoken * 2 ≡ script-cost (S .script) .words)
 
 -- the word that document 01 defines for order q, from what its sources open just before it, and the masks
 abbrev pub defined-value : (w : ℕ) → Setting → (q : ℕ) → ℕ

@@ -31,8 +31,8 @@ pub record WholeRun (S : Stage) (E : List ℕ) (v : World) (masks : Pair) (buffe
       → Finished (world (ready masks trail0) buffer (going one trail1 said1) (going two trail2 said2)) q
 
 -- the world before the first call, the hosts holding the states one and two
-abbrev pub outset : Stage → (buffer : List ℕ) (one two : State) → World
-outset S buf one two = world (idle (S .r1, S .r2)) buf (waiting one) (waiting two)
+abbrev pub first-world : Stage → (buffer : List ℕ) (one two : State) → World
+first-world S buf one two = world (idle (S .r1, S .r2)) buf (waiting one) (waiting two)
 
 pub record Whole : Type 0 where
   -- a script is accepted with its lists and its buffer exactly where its preparation is not refused
@@ -50,5 +50,5 @@ pub record Whole : Type 0 where
   pub whole-run : (S : Stage) (E buffer : List ℕ) (one two : State) → held S one ≡ (S .rm, S .r1)
       → held S two ≡ (S .rm, S .r2)
       → preparation S buffer (S .r1, S .r2) .number ≡ 0
-      → (s1 : State) × (s2 : State) × WholeRun S E (outset S buffer one two)
+      → (s1 : State) × (s2 : State) × WholeRun S E (first-world S buffer one two)
       (preparation S buffer (S .r1, S .r2) .masks) (preparation S buffer (S .r1, S .r2) .buffer) s1 s2

@@ -13,7 +13,7 @@ use Rattle.jobs.specs.Job.{Fault}
 use Rattle.calls.specs.Scripts.{Script, script-cost, orders-in, Orderly}
 use Rattle.calls.specs.Calls.{State, Answer, refused, fresh, unless, given, prepared as Calls-prepared, prepare}
 use Rattle.runs.specs.Runs.{Stage, staged, Spoken, Dealer, going, world, held, Begins, given-out, begin, Finished}
-use Rattle.demands.specs.Whole.{WholeRun, outset}
+use Rattle.demands.specs.Whole.{WholeRun, first-world}
 use Rattle.demands.proofs.Demand1.{demand1}
 use Rattle.runs.proofs.Chain.{job-orderly}
 use Rattle.runs.proofs.Kept.{Ok, ok, go1, go2, kept}
@@ -117,11 +117,11 @@ module _ (S : Stage) (tidy : Orderly (S .script)) (buf : List ℕ) (done : P S b
   last-of a l e = rw e (record { number = refl; index = refl; spoken = refl; word = refl; order = refl })
 
   module _ (E : List ℕ) (one two : State) (p1 : held S one ≡ (S .rm, S .r1)) (p2 : held S two ≡ (S .rm, S .r2)) where
-    begins : Begins S (outset S buf one two)
+    begins : Begins S (first-world S buf one two)
     begins = given-out p1 p2
 
     abbrev Whole : State → State → Type 0
-    Whole s1 s2 = WholeRun S E (outset S buf one two) (P S buf .masks) (D S buf) s1 s2
+    Whole s1 s2 = WholeRun S E (first-world S buf one two) (P S buf .masks) (D S buf) s1 s2
 
     module _ (s1 s2 : State) (W : Whole s1 s2) where
       ends : Ends s1 s2 (W .said1) (W .said2)
@@ -130,7 +130,7 @@ module _ (S : Stage) (tidy : Orderly (S .script)) (buf : List ℕ) (done : P S b
     moved : (s1 s2 t1 t2 : State) → s1 ≡ t1 → s2 ≡ t2 → Whole s1 s2 → Whole t1 t2
     moved s1 s2 t1 t2 e f W = rw (← e, ← f) W
 
-    found-run : RunTo S E (outset S buf one two) (ran S buf)
+    found-run : RunTo S E (first-world S buf one two) (ran S buf)
     unfolding together after-preparation
     found-run =
         let r = whole .whole-run S E buf one two p1 p2 done in

@@ -21,14 +21,14 @@ use Rattle.trio.proofs.Ends.{ahead, Turn, turn, finish}
 
 -- ---- a starting, or none
 
-pub started : (n i : ℕ) (s : State) (a x : Answer) → n ≡ 0 → x ≡ a → x ≡ unless n (n, i) s a
-started n i s a x e h = h ∙ sym (unless-zero n (n, i) s a e)
+pub first-started : (n i : ℕ) (s : State) (a x : Answer) → n ≡ 0 → x ≡ a → x ≡ unless n (n, i) s a
+first-started n i s a x e h = h ∙ sym (unless-zero n (n, i) s a e)
 
-pub not-started : (n i : ℕ) (m mask fm fl : Lane) (a : Answer) → n ≢ 0 → fm ≡ fresh m → fl ≡ fresh mask
+pub first-refused : (n i : ℕ) (m mask fm fl : Lane) (a : Answer) → n ≢ 0 → fm ≡ fresh m → fl ≡ fresh mask
     → record { number = n; index = i; spoken = 0; word = 0; state = record { m = fm; mask = fl; order = 0; turn = 0 } } ≡ unless n (n, i) (given (m, mask)) a
 unfolding unless given
-not-started zero i m mask fm fl a h p q = absurd (h refl)
-not-started (suc n) i m mask fm fl a h p q = rw (p, q)
+first-refused zero i m mask fm fl a h p q = absurd (h refl)
+first-refused (suc n) i m mask fm fl a h p q = rw (p, q)
 
 module _ (σ : Script) (A B : List ℕ) where
   -- ---- preparation and both startings, from the answers of the calls
