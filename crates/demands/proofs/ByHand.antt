@@ -15,7 +15,7 @@ use Rattle.tables.specs.Table.{rows, slope, house}
 use Rattle.curves.specs.Curve.{relu, segments, scaled, slope-after, coefficient, relu-word, word-sum, word-curve}
 use Rattle.programs.specs.Opens.{curve-value, values, order-value}
 use Rattle.runs.specs.Runs.{Setting, staged, World}
-use Rattle.runs.specs.Orders.{order-of, refresh-mask, source-value, source-mask, second-value, reading, opens, Finishes}
+use Rattle.runs.specs.Orders.{refresh-mask, source-value, source-mask, second-value, reading, opens, Finishes}
 use Rattle.demands.specs.Demand3.{Y-of, Exact}
 use Rattle.demands.specs.ByHand.{curve-cases, CurveOpens, Truncates, Each, house-Y, ByHand}
 use Rattle.demands.proofs.Demand3.{demand3}

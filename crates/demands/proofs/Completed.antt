@@ -1,5 +1,5 @@
 -- A call that meets no condition does its work, whatever it is lent and given. Assumes nothing.
-use mathlib.Core.Path.{_≡_, refl, sym, ap, ap₂, _∙_}
+use mathlib.Core.Path.{_≡_, refl, sym, ap, _∙_}
 use mathlib.Core.Logic.{inl, inr}
 use mathlib.Core.List.{List, [], _∷_, _++_}
 use Prim.Native.Nat.{ℕ, zero, suc}
@@ -10,9 +10,9 @@ use Rattle.gates.specs.Walk.{far}
 use Rattle.gates.specs.Hosts.{Pair}
 use Rattle.jobs.specs.Job.{Fault}
 use Rattle.calls.specs.Scripts.{Script}
-use Rattle.calls.specs.Places.{Found, found, seek}
+use Rattle.calls.specs.Places.{found, seek}
 use Rattle.calls.specs.Lent.{Lent, dealer-fault, worker-of}
-use Rattle.calls.specs.Calls.{State, Answer, Prepared, fresh, unless, start-walk, start, hear-walk, place-fault, found-of, resume, hear, script-deals, prepare-walk, prepared, prepare}
+use Rattle.calls.specs.Calls.{State, Answer, fresh, unless, start-walk, hear-walk, place-fault, found-of, resume, hear, script-deals, prepare-walk, prepared, prepare}
 use Rattle.runs.specs.Runs.{Among}
 use Rattle.demands.specs.Conditions.{Place, places-from}
 use Rattle.demands.specs.Completed.{walks-on, Located, Completed}

@@ -9,7 +9,7 @@ use native.Mathlib.Omega.{arith}
 use borrow.Author.Tests.{le-leb, lt-leb}
 use lib.Dec.{T, leb, leb→le, le→leb}
 use lib.IntN.{ℤ, pos, negsuc, _+ℤ_, +ℤ-idr}
-use lib.ListN.{getD, length, length-set}
+use lib.ListN.{length, length-set}
 use lib.Signed.{_≤ℤ_, leZ-yes}
 use Rattle.words.specs.Words.{add}
 use Rattle.words.specs.Signed.{floor, signed, wrap, in-range}
@@ -25,7 +25,6 @@ use Rattle.curves.proofs.Counting.{slips-of-words}
 use Rattle.gates.specs.Steps.{at}
 use Rattle.programs.specs.declared.Order.{Order}
 use Rattle.programs.specs.Programs.{sum-program}
-use Rattle.programs.specs.Costs.{program-cost}
 use Rattle.programs.proofs.Calibration.{Promised, ranged, above}
 use Rattle.jobs.specs.Job.{orders, job-gates, job-cost}
 use Rattle.jobs.specs.FirstFault.{order}

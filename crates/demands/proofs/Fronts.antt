@@ -1,7 +1,7 @@
 -- An order opens what it opens where the script ends with it. Assumes nothing.
 use mathlib.Core.Path.{_≡_, refl, sym, ap, _∙_, subst}
-use mathlib.Core.List.{List, [], _∷_, _++_, map, map-append, append-assoc}
-use Prim.Native.Nat.{ℕ, zero, suc, _+_, _*_, _%_, _≤_, _<_}
+use mathlib.Core.List.{List, [], _∷_, _++_, map, map-append}
+use Prim.Native.Nat.{ℕ, zero, suc, _*_, _≤_, _<_}
 use native.Mathlib.Omega.{arith}
 use lib.ListN.{getD, length, take, drop, length-take, List·getD-append}
 use Rattle.words.specs.Words.{numbers}
@@ -21,7 +21,6 @@ use Rattle.jobs.specs.Job.{orders, job-gates, steps-of}
 use Rattle.jobs.specs.FirstFault.{order, IllSized, no-words, above-256, not-by-4, Meets, Faultless}
 use Rattle.jobs.proofs.FirstFault.{number-0}
 use Rattle.calls.specs.Scripts.{script-cost}
-use Rattle.calls.specs.Calls.{fresh}
 use Rattle.runs.specs.Runs.{Stage, Setting, staged, World, opened-after, Accepted}
 use Rattle.runs.specs.Orders.{first, trail, after-order, slot, order-of, opens, Finishes}
 use Rattle.runs.specs.Returned.{opened-now, UnwrittenFrom}

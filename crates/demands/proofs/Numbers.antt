@@ -10,7 +10,6 @@ use lib.Dec.{eqb, ltb, eqb·suc-zero}
 use lib.ListN.{length}
 use Rattle.gates.specs.Hosts.{Pair}
 use Rattle.gates.specs.Steps.{Step, origin}
-use Rattle.gates.specs.Costs.{Cost}
 use Rattle.jobs.specs.Job.{Fault, short-a, short-b, short-deals}
 use Rattle.calls.specs.Scripts.{Script, script-cost, ends, Orderly}
 use Rattle.calls.specs.Places.{Found}

@@ -9,7 +9,7 @@ use Rattle.gates.specs.Costs.{Cost}
 use Rattle.jobs.specs.Job.{job-cost}
 use Rattle.calls.specs.Scripts.{script-cost, orders-in}
 use Rattle.calls.specs.Calls.{State}
-use Rattle.runs.specs.Runs.{Stage, Setting, staged, Spoken, idle, ready, waiting, going, World, world, Call, lent1, lent2, preparation, held, Completes, prepares, starts1, starts2, hears1, hears2, given-out, begin, Finished, Accepted}
+use Rattle.runs.specs.Runs.{Stage, Setting, staged, Spoken, ready, going, World, world, Call, lent1, lent2, preparation, held, Completes, prepares, starts1, starts2, hears1, hears2, given-out, begin, Finished, Accepted}
 use Rattle.demands.specs.Conditions.{places-from, Terms, PreparationIs, of-itself, of-lists, of-buffer, prepares-well}
 use Rattle.demands.specs.Numbers.{Told}
 use Rattle.demands.specs.Demand1.{terms-of, table-needs, Demand1}

@@ -1,7 +1,7 @@
 -- The customer's demand 2, about every run of an accepted job on unaltered words. Assumes nothing.
 use mathlib.Core.Path.{_≡_}
 use mathlib.Core.Bool.{false}
-use mathlib.Core.List.{List, [], _∷_}
+use mathlib.Core.List.{List}
 use Prim.Native.Nat.{ℕ, suc, _*_, _<_}
 use lib.Dec.{eqb}
 use lib.ListN.{length}
@@ -9,15 +9,14 @@ use Rattle.words.specs.Words.{numbers}
 use Rattle.words.specs.Signed.{signed}
 use Rattle.shares.specs.Gates.{value}
 use Rattle.tables.specs.Table.{rows}
-use Rattle.gates.specs.Steps.{Exchange, Step, local, deal, exchange, end, Cursor, origin, past}
-use Rattle.gates.specs.Hosts.{Pair, Triple, act, joint1, joint2}
+use Rattle.gates.specs.Hosts.{Pair}
 use Rattle.programs.specs.Opens.{order-value}
 use Rattle.jobs.specs.Job.{orders}
 use Rattle.calls.specs.Scripts.{job-script, script-cost, orders-in, Orderly}
 use Rattle.calls.specs.Calls.{State, start, hear}
 use Rattle.runs.specs.Runs.{Stage, Setting, staged, Spoken, Among, Dealer, ready, Side, waiting, going, World}
 use Rattle.runs.specs.Runs.{world, Call, lent1, lent2, Dealt, preparation, held, Run, opened-after}
-use Rattle.runs.specs.Orders.{first, slot, after-order, before-order, Unwritten, order-of, refresh-mask}
+use Rattle.runs.specs.Orders.{slot, after-order, before-order, Unwritten, order-of, refresh-mask}
 use Rattle.runs.specs.Orders.{source-value, source-mask, second-value, opens, Finishes}
 use Rattle.runs.specs.InOrder.{words-of-1, words-of-2}
 

@@ -8,7 +8,7 @@ use lib.Dec.{T}
 use lib.IntN.{ℤ, pos, _+ℤ_}
 use lib.ListN.{set}
 use lib.Signed.{leZ, _≤ℤ_}
-use Rattle.words.specs.Signed.{floor, signed, wrap, in-range}
+use Rattle.words.specs.Signed.{floor, wrap, in-range}
 use Rattle.truncations.specs.Truncation.{slip}
 use Rattle.tables.specs.Table.{rows}
 use Rattle.curves.specs.Curve.{scaled, line, last-count, Near}
@@ -16,7 +16,7 @@ use Rattle.curves.specs.Count.{count}
 use Rattle.programs.specs.Programs.{sum-program}
 use Rattle.programs.specs.Costs.{program-cost}
 use Rattle.calls.specs.Scripts.{orders-in}
-use Rattle.runs.specs.Runs.{Stage, Setting, altered, staged, World, Call, Completes, Run, Finished, opened-after}
+use Rattle.runs.specs.Runs.{Stage, Setting, altered, staged, World, Call, Completes, Run, Finished}
 use Rattle.runs.specs.Runs.{buffer-of, Accepted}
 use Rattle.runs.specs.Orders.{Words, order-of, used-before, refresh-mask, reading, Finishes, opens}
 

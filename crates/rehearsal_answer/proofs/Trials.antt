@@ -1,40 +1,39 @@
 -- What the rehearsal's three hosts open and count: the curve's value of the reading, and document 01's table. Assumes nothing.
 use mathlib.Core.Path.{_≡_, refl, sym, ap, ap₂, _∙_}
 use mathlib.Core.Bool.{Bool, true, false}
-use mathlib.Core.List.{List, [], _∷_}
+use mathlib.Core.List.{List}
 use Prim.Native.Nat.{ℕ, zero, suc, _+_, _*_, _^_, _<_}
 use native.Mathlib.Nat.{zero-add}
 use native.Mathlib.Omega.{arith}
 use lib.Dec.{T, lit≤, lit<}
 use lib.IntN.{ℤ, pos, _+ℤ_}
-use lib.ListN.{getD, length, replicate}
+use lib.ListN.{length, replicate}
 use lib.Pow.{pow-pos}
-use Rattle.words.specs.Words.{add, sub, numbers}
+use Rattle.words.specs.Words.{add, numbers}
 use Rattle.words.specs.Signed.{floor, signed, wrap, in-range}
 use Rattle.truncations.specs.Truncation.{slip}
 use Rattle.words.proofs.Words.{add-lt, sub-lt}
-use Rattle.shares.specs.Gates.{Share, value, mask}
+use Rattle.shares.specs.Gates.{value, mask}
 use Rattle.tables.specs.Table.{rows, keeps-rules, house}
 use Rattle.curves.specs.Curve.{scaled}
 use Rattle.tables.proofs.HouseTable.{house-keeps-rules}
 use Rattle.gates.specs.Steps.{at}
 use Rattle.gates.specs.Meaning.{job-steps}
-use Rattle.gates.specs.Costs.{Cost, cost-of, cost}
-use Rattle.programs.specs.Programs.{sum-program, curve-exact, curve-one-bit}
+use Rattle.gates.specs.Costs.{Cost, cost-of}
+use Rattle.programs.specs.Programs.{sum-program}
 use Rattle.programs.specs.Orders.{curve-program, kinds, program}
 use Rattle.programs.specs.Opens.{curve-value, values, order-value}
 use Rattle.programs.specs.Costs.{program-cost}
 use Rattle.programs.proofs.Costs.{sum-cost, curve-exact-cost, curve-one-bit-cost}
-use Rattle.programs.proofs.Calibration.{Promised, ranged, exact-curve, one-bit-curve}
+use Rattle.programs.proofs.Calibration.{ranged, exact-curve, one-bit-curve}
 use Rattle.jobs.specs.Job.{orders, ill-sized, unknown-kind, unknown-register, two-sources, ill-fourths, ill-fourth, order-fault, fault-at, orders-fault, job-fault, job-gates, steps-of, job-cost}
 use Rattle.calls.specs.Scripts.{job-script, script-cost}
 use Rattle.calls.specs.Lent.{or-else, dealer-lists-fault, dealer-fault}
 use Rattle.calls.specs.Calls.{fresh}
 use Rattle.calls.proofs.Faults.{long-enough}
 use Rattle.runs.specs.Runs.{Setting, staged, opened-slot}
-use Rattle.runs.specs.Orders.{Words, slot, first, before-order, after-order, order-of, first-counts, used-before, refresh-mask, source-value}
+use Rattle.runs.specs.Orders.{Words, slot, before-order, after-order, order-of, first-counts, used-before, refresh-mask, source-value}
 use Rattle.runs.proofs.Opened.{order-leaves}
-use Rattle.sample_masks.specs.Masks.{multiples}
 use Rattle.sample_masks.proofs.Multiples.{multiples-length, multiples-at, multiples-fit}
 use Rattle.gates.specs.Hosts.{Triple}
 use Rattle.trio.specs.Together.{Trio}

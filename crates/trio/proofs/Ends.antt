@@ -2,7 +2,7 @@
 use mathlib.Core.Path.{_≡_, refl, sym, ap, _∙_}
 use mathlib.Core.Logic.{_⊎_, inl, inr}
 use mathlib.Core.List.{List, [], _∷_}
-use Prim.Native.Nat.{ℕ, zero, suc, _+_, _≤_, _<_}
+use Prim.Native.Nat.{ℕ, suc, _+_, _≤_, _<_}
 use native.Mathlib.Nat.{zero-add}
 use native.Mathlib.Omega.{arith}
 use lib.ListN.{length}
@@ -13,7 +13,7 @@ use Rattle.gates.proofs.Needs.{far-used}
 use Rattle.gates.proofs.Seen.{through}
 use Rattle.calls.specs.Scripts.{Script, script-cost, ends, orders-in, Closed}
 use Rattle.calls.specs.Places.{seek}
-use Rattle.calls.specs.Calls.{State, Answer, word-at, spoken-at, state-of, unless, given}
+use Rattle.calls.specs.Calls.{State, Answer, word-at, spoken-at, state-of, given}
 use Rattle.runs.specs.Runs.{Stage}
 use Rattle.runs.proofs.Places.{Halted, steps-in, ends-pos, exchange-or-end, seek-pos, shrinks, whole-pos}
 use Rattle.runs.proofs.Counts.{far-at, stands}
@@ -21,7 +21,7 @@ use Rattle.runs.proofs.Kept.{all, j₀}
 use Rattle.runs.proofs.Progress.{unless-zero}
 use Rattle.trio.specs.Together.{Trio, after-preparation, left, end-answer, together}
 use Rattle.trio.specs.Ran.{ran}
-use Rattle.trio.proofs.Positions.{heard-of, left-of, P, D, at-n, answer-at, standing, Standing, heard-at}
+use Rattle.trio.proofs.Positions.{heard-of, left-of, P, at-n, answer-at, standing, Standing, heard-at}
 
 -- ---- where every step stands in an order, the last ends one: "the end is the number of orders and 0"
 

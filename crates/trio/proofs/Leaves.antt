@@ -14,7 +14,7 @@ use Rattle.gates.specs.Meaning.{meaning, order-steps, job-steps}
 use Rattle.gates.specs.Walk.{Conf, whole}
 use Rattle.gates.specs.Hosts.{Pair, Triple, of1, of2, act}
 use Rattle.calls.specs.Scripts.{script-cost}
-use Rattle.calls.specs.Calls.{State, given}
+use Rattle.calls.specs.Calls.{given}
 use Rattle.runs.specs.Runs.{Stage, ready, opened-slot}
 use Rattle.runs.specs.Orders.{slot, after-order, trail, first}
 use Rattle.runs.proofs.Chain.{mark-gate}

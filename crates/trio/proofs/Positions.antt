@@ -1,7 +1,7 @@
 -- The three hosts stand where the joint walk halts, and a word heard by each brings both to the next halt. Assumes nothing.
 use mathlib.Core.Path.{_≡_, refl, sym, ap, ap₂, _∙_}
 use mathlib.Core.List.{List, [], _++_}
-use Prim.Native.Nat.{ℕ, zero, suc, _+_, _≤_, _<_}
+use Prim.Native.Nat.{ℕ, zero, suc, _≤_, _<_}
 use lib.ListN.{length}
 use Rattle.gates.specs.Steps.{Exchange, Cursor, origin}
 use Rattle.gates.specs.Walk.{Conf, Exchanging}
@@ -10,7 +10,7 @@ use Rattle.gates.proofs.Seen.{through, Always}
 use Rattle.jobs.specs.Job.{Fault}
 use Rattle.calls.specs.Scripts.{Script, script-cost}
 use Rattle.calls.specs.Lent.{worker1, worker2, dealer-fault, lent-fault, worker-with, worker-of}
-use Rattle.calls.specs.Calls.{State, Answer, Prepared, spoken-at, state-of, report, unless, given, start-walk, start, found-of, resume, hear, prepared as Calls-prepared, prepare, word-at}
+use Rattle.calls.specs.Calls.{State, Answer, Prepared, spoken-at, state-of, report, given, start-walk, start, found-of, resume, hear, prepared as Calls-prepared, prepare, word-at}
 use Rattle.runs.specs.Runs.{Stage, ready, lent1, lent2, preparation, Accepted}
 use Rattle.runs.proofs.Places.{Halted, one-halt}
 use Rattle.runs.proofs.Ties.{shadow1, shadow2, joint, words, Went, starts, hears-on}

@@ -1,12 +1,11 @@
 -- What the code's three hosts are, call by call; and what the loop of `run` keeps. Assumes nothing.
-use mathlib.Core.Path.{_≡_, refl, sym, ap, ap₂, _∙_}
+use mathlib.Core.Path.{_≡_, refl, sym, ap, _∙_}
 use mathlib.Core.Logic.{_≢_}
 use mathlib.Core.List.{List}
 use Prim.Native.Nat.{ℕ, zero, suc, _≤_, _<_, _/_}
-use native.Mathlib.Omega.{arith}
 use lib.ListN.{length}
 use Rattle.gates.specs.Steps.{Lane}
-use Rattle.gates.specs.Hosts.{Pair, Triple, of0, of1, of2}
+use Rattle.gates.specs.Hosts.{Triple, of0, of1, of2}
 use Rattle.worker.proofs.Jobs.{order-count, sized}
 use Rattle.calls.specs.Calls.{State, Answer, Prepared, fresh, unless, given, start, prepare}
 use Rattle.calls.specs.Scripts.{Script, job-script, orders-in, Closed}
