@@ -25,7 +25,8 @@ use Rattle.demands.proofs.Demand2.{demand2}
 
 module _ (S : Setting) (q : ℕ) (v : World) (F : Finishes 32 (staged 32 S) q v) where
   -- a curve opens the floor of its Y
-  curve-case : (x : ℤ) → T (in-range 32 x) → Exact S q → S .table ≡ house → reading 32 S q ≡ x → opens 32 S v q ≡ (0, floor (house-Y x) 4096)
+  curve-case : (x : ℤ) → T (in-range 32 x) → Exact S q → S .table ≡ house → reading 32 S q ≡ x
+      → opens 32 S v q ≡ (0, floor (house-Y x) 4096)
   unfolding Y-of
   curve-case x h e t r = demand3 .exact S q v F e (rw r h) ∙ (λ i. (0, floor (scaled (rows (t i)) (r i)) 4096))
 
@@ -36,11 +37,17 @@ module _ (S : Setting) (q : ℕ) (v : World) (F : Finishes 32 (staged 32 S) q v)
 
   -- a truncation opens its kind's value of that word and the mask
   truncation-case : (kind k : ℕ) (x : ℤ) (L : ℕ) → Truncates kind k S q → reading 32 S q ≡ x → source-mask 32 S q ≡ L
-      → opens 32 S v q ≡ (0, signed 32 (getD (values 32 (rows (S .table)) k (wrap 32 x) (second-value 32 S q) L (refresh-mask 32 S q)) kind 0))
+      → opens 32 S v q
+      ≡ (0, signed 32 (getD (values 32 (rows (S .table)) k (wrap 32 x) (second-value 32 S q) L (refresh-mask 32 S q)) kind 0))
   unfolding order-value
   truncation-case kind k x L t r l =
       demand2 .order-opens 32 (lit< tt) S q v F
-      ∙ (λ i. (0, signed 32 (getD (values 32 (rows (S .table)) (t .shift i) (source-is x r i) (second-value 32 S q) (l i) (refresh-mask 32 S q)) (t .is-kind i) 0)))
+      ∙ (λ i. (
+        0,
+        signed 32
+            (getD (values 32 (rows (S .table)) (t .shift i) (source-is x r i) (second-value 32 S q) (l i) (refresh-mask 32 S q))
+            (t .is-kind i) 0),
+      ))
 
 -- ---- case by case
 
@@ -56,17 +63,26 @@ curves-open (c ∷ cs) e f =
     let in-here : inside c ≡ true = cc in
     let here : floored c ≡ c .1 = cc in
     let in-rest : map inside cs ≡ map (λ c. true) cs = cc in
-    let rest : map floored cs ≡ map (λ c. c .1) cs = cc in
-    (λ S q v F k t r. curve-case S q v F (c .0) (rw in-here tt) k t r ∙ ap {B = ℕ × ℤ} (λ (y : ℤ). (0, y)) here, curves-open cs in-rest rest)
+    let rest : map floored cs ≡ map (λ c. c .1) cs = cc in (
+      λ S q v F k t r. curve-case S q v F (c .0) (rw in-here tt) k t r
+          ∙ ap {B = ℕ × ℤ} (λ (y : ℤ). (0, y)) here,
+      curves-open cs in-rest rest,
+    )
 
 pub by-hand : ByHand
-unfolding order-value values curve-value one-bit bit-number shr-signed signed floor wrap in-range add sub mul shr bit rows house slope relu segments scaled word-curve word-sum relu-word coefficient slope-after
+unfolding order-value values curve-value one-bit bit-number shr-signed signed floor wrap in-range add sub mul shr bit rows house slope
+    relu segments scaled word-curve word-sum relu-word coefficient slope-after
 by-hand =
     record {
       curves = curves-open curve-cases refl refl;
-      one-bits = (λ S q v F t r l. truncation-case S q v F 7 2 (pos 5) 2 t r l, (λ S q v F t r l. truncation-case S q v F 7 2 (pos 5) 3 t r l, tt));
-      exacts =
-          (λ S q v F t r. truncation-case S q v F 8 1 (negsuc 4) _ t r refl, (λ S q v F t r. truncation-case S q v F 8 31 (negsuc 0) _ t r refl, tt));
+      one-bits = (
+        λ S q v F t r l. truncation-case S q v F 7 2 (pos 5) 2 t r l,
+        (λ S q v F t r l. truncation-case S q v F 7 2 (pos 5) 3 t r l, tt),
+      );
+      exacts = (
+        λ S q v F t r. truncation-case S q v F 8 1 (negsuc 4) _ t r refl,
+        (λ S q v F t r. truncation-case S q v F 8 31 (negsuc 0) _ t r refl, tt),
+      );
       curves-defined = refl;
       one-bits-defined = refl;
       exacts-defined = refl;

@@ -15,7 +15,8 @@ use Rattle.curves.specs.Curve.{relu, word-curve, word-scaled}
 use Rattle.curves.proofs.WordCurve.{in-range-reads}
 use Rattle.curves.proofs.Segments.{same-sum, scaled-lt}
 use Rattle.programs.specs.Opens.{curve-value, values}
-use Rattle.programs.proofs.Readings.{sum-reads, difference-reads, product-reads, plus-reads, times-reads, slack-reads, relu-reads, one-bit-reads}
+use Rattle.programs.proofs.Readings.{sum-reads, difference-reads, product-reads, plus-reads, times-reads, slack-reads}
+use Rattle.programs.proofs.Readings.{relu-reads, one-bit-reads}
 use Rattle.jobs.specs.Job.{ill-fourth, ill-fourths}
 use Rattle.jobs.proofs.Accepted.{or-false}
 use Rattle.runs.specs.Runs.{Setting, staged, World}

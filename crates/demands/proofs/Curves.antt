@@ -27,13 +27,15 @@ unfolding order-of
 good w S q v F = accepted-orders w (S .job) (S .table) (checked w S q v F .script) q (in-job w S q v F) _
 
 -- so a curve's table keeps the rules
-pub rules-kept : (w : ℕ) (S : Setting) (q : ℕ) (v : World) → Finishes w (staged w S) q v → order-of S q .kind ≡ 10 → T (keeps-rules (S .table))
+pub rules-kept : (w : ℕ) (S : Setting) (q : ℕ) (v : World) → Finishes w (staged w S) q v → order-of S q .kind ≡ 10
+    → T (keeps-rules (S .table))
 rules-kept w S q v F k = rw (curve-ruled w (keeps-rules (S .table)) (order-of S q) (good w S q v F) k .1) tt
 
 -- the value of kind n on what order q finds
 abbrev pub kind-value : (w : ℕ) → Setting → (q n : ℕ) → ℕ
 kind-value w S q n =
-    getD (values w (rows (S .table)) (order-of S q .fourth) (source-value w S q) (second-value w S q) (source-mask w S q) (refresh-mask w S q)) n 0
+    getD (values w (rows (S .table)) (order-of S q .fourth) (source-value w S q) (second-value w S q) (source-mask w S q)
+    (refresh-mask w S q)) n 0
 
 module _ (w : ℕ) (wide : 12 < w) (S : Setting) (q : ℕ) (v : World) (F : Finishes w (staged w S) q v) where
   low : 2 ≤ w
@@ -75,7 +77,8 @@ module _ (S : Setting) (q : ℕ) (v : World) (F : Finishes 32 (staged 32 S) q v)
       curve-opens 32 (lit< tt) S q v F 0 k m
       ∙ ap {B = ℕ × ℤ} (λ (y : ℤ). (0, y)) (exact-curve (S .table) (rules-kept 32 S q v F k) x (sub-lt 32 _ _) p R)
 
-  pub one-bit-opens : (c : ℕ) → order-of S q .fourth ≡ suc c → opens 32 S v q ≡ (0, floor (Y-of 32 S q) 4096 +ℤ pos (slip 12 (wrap 12 (Y-of 32 S q)) R))
+  pub one-bit-opens : (c : ℕ) → order-of S q .fourth ≡ suc c
+      → opens 32 S v q ≡ (0, floor (Y-of 32 S q) 4096 +ℤ pos (slip 12 (wrap 12 (Y-of 32 S q)) R))
   unfolding Y-of reading
   one-bit-opens c m =
       curve-opens 32 (lit< tt) S q v F (suc c) k m

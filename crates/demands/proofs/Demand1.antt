@@ -1,4 +1,5 @@
--- Demand 1, proved for preparation, starting and hearing: the number and the index of every job's calls, and that a refused call changes nothing. Assumes nothing.
+-- Demand 1, proved for preparation, starting and hearing: the number and the index of every job's calls, and that a
+-- refused call changes nothing. Assumes nothing.
 use mathlib.Core.Path.{_≡_, refl, sym, ap, _∙_, subst}
 use mathlib.Core.Logic.{_≢_}
 use mathlib.Core.List.{List}
@@ -12,7 +13,8 @@ use Rattle.jobs.proofs.CostTable.{cost-table}
 use Rattle.calls.specs.Scripts.{Script, job-script}
 use Rattle.calls.proofs.Scripts.{job-made}
 use Rattle.calls.specs.Lent.{Lent, lent, lent-fault, dealer-fault, worker-of}
-use Rattle.calls.specs.Calls.{State, Answer, fresh, report, unless, given, start-walk, start, hear-walk, place-fault, found-of, resume, hear, prepared, prepare}
+use Rattle.calls.specs.Calls.{State, Answer, fresh, report, unless, given, start-walk, start, hear-walk, place-fault, found-of}
+use Rattle.calls.specs.Calls.{resume, hear, prepared, prepare}
 use Rattle.demands.specs.Conditions.{places-from, Terms, Single}
 use Rattle.demands.specs.Numbers.{Told}
 use Rattle.demands.specs.Demand1.{terms-of, table-needs, given-back, Demand1}
@@ -42,7 +44,8 @@ module _ (w : ℕ) (job table : List ℕ) where
 
 -- ---- a refusal's other numbers
 
-prepared-deals : (n : ℕ) (f : Fault) (σ : Script) (A B D : List ℕ) (r : Pair) → prepared n f σ A B D r .number ≢ 0 → prepared n f σ A B D r .deals ≡ 0
+prepared-deals : (n : ℕ) (f : Fault) (σ : Script) (A B D : List ℕ) (r : Pair) → prepared n f σ A B D r .number ≢ 0
+    → prepared n f σ A B D r .deals ≡ 0
 unfolding prepared
 prepared-deals zero f σ A B D r h = absurd (h refl)
 prepared-deals (suc n) f σ A B D r h = refl
@@ -59,7 +62,8 @@ prepare-rest σ A B D r h = prepared-deals (dealer-fault σ A B D .0) (dealer-fa
 
 start-rest : (loan : Lent) (r : Pair) → start loan r .number ≢ 0 → (start loan r .spoken ≡ 0) × (start loan r .word ≡ 0)
 unfolding start
-start-rest loan r h = unless-rest (lent-fault loan .0) (lent-fault loan) (given r) (report (worker-of loan) (start-walk loan r)) h (λ k. absurd (k refl))
+start-rest loan r h =
+    unless-rest (lent-fault loan .0) (lent-fault loan) (given r) (report (worker-of loan) (start-walk loan r)) h (λ k. absurd (k refl))
 
 hear-rest : (loan : Lent) (s : State) (v : ℕ) → hear loan s v .number ≢ 0 → (hear loan s v .spoken ≡ 0) × (hear loan s v .word ≡ 0)
 unfolding hear resume

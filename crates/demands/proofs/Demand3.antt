@@ -108,7 +108,8 @@ orders-alike : (S S′ : Setting) (q : ℕ) → Alike S S′ → order-of S q �
 unfolding order-of
 orders-alike S S′ q e = ap (λ (job : List ℕ). order (orders job) q) (e .job)
 
-module _ (S : Setting) (q : ℕ) (v : World) (F : Finishes 32 (staged 32 S) q v) (k : order-of S q .kind ≡ 10) (l : pos (last-count (rows (S .table))) ≤ℤ reading 32 S q) where
+module _ (S : Setting) (q : ℕ) (v : World) (F : Finishes 32 (staged 32 S) q v) (k : order-of S q .kind ≡ 10)
+    (l : pos (last-count (rows (S .table))) ≤ℤ reading 32 S q) where
   above-last : Promised (S .table) (source-value 32 S q)
   unfolding reading
   above-last = let p = above-word (source-value 32 S q) (last-count (rows (S .table))) (sub-lt 32 _ _) l in above (p .0) (p .1)
@@ -123,19 +124,30 @@ module _ (S : Setting) (q : ℕ) (v : World) (F : Finishes 32 (staged 32 S) q v)
   unfolding last-value
   saturated-opens zero m = exact-opens S q v F k above-last m ∙ ap {B = ℕ × ℤ} (λ (Y : ℤ). (0, floor Y 4096)) Y-last
   saturated-opens (suc c) m =
-      one-bit-opens S q v F k above-last c m ∙ ap {B = ℕ × ℤ} (λ (Y : ℤ). (0, floor Y 4096 +ℤ pos (slip 12 (wrap 12 Y) (refresh-mask 32 S q)))) Y-last
+      one-bit-opens S q v F k above-last c m
+      ∙ ap {B = ℕ × ℤ} (λ (Y : ℤ). (0, floor Y 4096 +ℤ pos (slip 12 (wrap 12 Y) (refresh-mask 32 S q)))) Y-last
 
-saturated : (S S′ : Setting) (q : ℕ) (v v′ : World) → Alike S S′ → Finishes 32 (staged 32 S) q v → Finishes 32 (staged 32 S′) q v′ → order-of S q .kind ≡ 10
-    → reading 32 S q ≡ pos (last-count (rows (S .table))) → pos (last-count (rows (S .table))) ≤ℤ reading 32 S′ q → opens 32 S v q ≡ opens 32 S′ v′ q
+saturated : (S S′ : Setting) (q : ℕ) (v v′ : World) → Alike S S′ → Finishes 32 (staged 32 S) q v → Finishes 32 (staged 32 S′) q v′
+    → order-of S q .kind ≡ 10
+    → reading 32 S q ≡ pos (last-count (rows (S .table))) → pos (last-count (rows (S .table))) ≤ℤ reading 32 S′ q
+    → opens 32 S v q ≡ opens 32 S′ v′ q
 saturated S S′ q v v′ e F F′ k r l =
     let o = orders-alike S S′ q e in
-    saturated-opens S q v F k (rw r (leZ-yes (le→leb (last-count (rows (S .table))) (last-count (rows (S .table))) (omega arith)))) (order-of S q .fourth) refl
-    ∙ (λ i. (0, last-value (order-of S q .fourth) (scaled (rows (e .table i)) (pos (last-count (rows (e .table i))))) (masks-alike 32 S S′ q e i)))
-    ∙ sym (saturated-opens S′ q v′ F′ (sym (ap (λ (x : Order). x .kind) o) ∙ k) (subst (λ (t : List ℕ). pos (last-count (rows t)) ≤ℤ reading 32 S′ q) (e .table) l) (order-of S q .fourth) (sym (ap (λ (x : Order). x .fourth) o)))
+    saturated-opens S q v F k (rw r (leZ-yes (le→leb (last-count (rows (S .table))) (last-count (rows (S .table))) (omega arith))))
+    (order-of S q .fourth) refl
+    ∙ (λ i. (
+      0,
+      last-value (order-of S q .fourth) (scaled (rows (e .table i)) (pos (last-count (rows (e .table i)))))
+          (masks-alike 32 S S′ q e i),
+    ))
+    ∙ sym (saturated-opens S′ q v′ F′ (sym (ap (λ (x : Order). x .kind) o) ∙ k)
+    (subst (λ (t : List ℕ). pos (last-count (rows t)) ≤ℤ reading 32 S′ q) (e .table) l) (order-of S q .fourth)
+    (sym (ap (λ (x : Order). x .fourth) o)))
 
 -- ---- the family of runs
 
-module _ (S : Setting) (q : ℕ) (v : ℕ → World) (words : Words 32 (staged 32 S)) (F : (a : ℕ) → a < 2 ^ 32 → Finishes 32 (staged 32 (with-word 32 S q a)) q (v a)) (e : OneBit S q)
+module _ (S : Setting) (q : ℕ) (v : ℕ → World) (words : Words 32 (staged 32 S))
+    (F : (a : ℕ) → a < 2 ^ 32 → Finishes 32 (staged 32 (with-word 32 S q a)) q (v a)) (e : OneBit S q)
     (h : T (in-range 32 (reading 32 S q))) where
   abbrev first-run : Finishes 32 (staged 32 (with-word 32 S q 0)) q (v 0)
   first-run = F 0 (omega arith)
@@ -165,7 +177,11 @@ module _ (S : Setting) (q : ℕ) (v : ℕ → World) (words : Words 32 (staged 3
     unfolding with-word order-of Y-of
     word-opens =
         one-bit (with-word 32 S q a) q (v a) (F a l) (rw same-reading h) (record { kind = e .kind; mode = e .mode })
-        ∙ (λ i. (0, floor (scaled (rows (S .table)) (same-reading i)) 4096 +ℤ pos (slip 12 (wrap 12 (scaled (rows (S .table)) (same-reading i))) (mask-same 32 S q a place-listed i))))
+        ∙ (λ i. (
+          0,
+          floor (scaled (rows (S .table)) (same-reading i)) 4096 +ℤ pos
+              (slip 12 (wrap 12 (scaled (rows (S .table)) (same-reading i))) (mask-same 32 S q a place-listed i)),
+        ))
 
     gives-one-more : eqZ (opens 32 S (v a) q .1) (floor (Y-of 32 S q) 4096 +ℤ pos 1) ≡ leb 4096 (y + (a + b) % 2 ^ 32 % 4096)
     unfolding slip add
@@ -179,7 +195,8 @@ module _ (S : Setting) (q : ℕ) (v : ℕ → World) (words : Words 32 (staged 3
 
 -- ---- every order
 
-finishes : (S : Stage) (v : World) (cs : List Call) → Run S cs v → Accepted S (buffer-of v) → ((c : Call) (v′ : World) → Completes S c v v′ → ⊥)
+finishes : (S : Stage) (v : World) (cs : List Call) → Run S cs v → Accepted S (buffer-of v)
+    → ((c : Call) (v′ : World) → Completes S c v v′ → ⊥)
     → (q : ℕ) → q < orders-in (S .script) → Finished v q
 finishes S v cs r acc n q h =
     let f = stuck-ended S r acc n in

@@ -1,4 +1,5 @@
--- The family of runs that differ in the refresh's word of list A: the order's reading is the same, and its mask is that word plus a fixed one. Assumes nothing.
+-- The family of runs that differ in the refresh's word of list A: the order's reading is the same, and its mask is
+-- that word plus a fixed one. Assumes nothing.
 use mathlib.Core.Path.{_≡_, refl, sym, ap, _∙_}
 use mathlib.Core.List.{List, [], _∷_, _++_}
 use Prim.Native.Nat.{ℕ, _+_, _≤_, _<_}
@@ -73,7 +74,8 @@ module _ (w : ℕ) (S : Setting) (q : ℕ) where
   before-same a words words′ h =
       before-walk w (with-word w S q a) words′ q h
       ∙ ap (λ (c : Conf Triple). c .state)
-      (sym (whole-alike (S .A) (set (S .A) i a) (S .B) (S .B) (job-steps w (take q (gates w S))) origin (first (staged w S)) [] same (λ n l. refl)))
+      (sym (whole-alike (S .A) (set (S .A) i a) (S .B) (S .B) (job-steps w (take q (gates w S))) origin (first (staged w S)) [] same
+      (λ n l. refl)))
       ∙ sym (before-walk w S words q h)
     where
       same : (n : ℕ) → n < far (job-steps w (take q (gates w S))) origin .a → at (S .A) n ≡ at (set (S .A) i a) n

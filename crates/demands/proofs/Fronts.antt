@@ -119,7 +119,16 @@ module _ (w : ℕ) (S : Setting) (q : ℕ) (hq : q < length (orders (S .job))) w
       ∙ steps-append w _ _
 
   front : Front (staged w (up-to S q)) (staged w S)
-  front = record { behind = steps-of w (drop n (S .job)) (S .table); steps = steps-split; A = refl; B = refl; rm = refl; r1 = refl; r2 = refl }
+  front =
+      record {
+        behind = steps-of w (drop n (S .job)) (S .table);
+        steps = steps-split;
+        A = refl;
+        B = refl;
+        rm = refl;
+        r1 = refl;
+        r2 = refl;
+      }
 
   -- the orders are the same
   order-same : (i : ℕ) → i < suc q → order (orders (take n (S .job))) i ≡ order (orders (S .job)) i

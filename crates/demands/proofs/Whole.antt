@@ -9,7 +9,8 @@ use Rattle.gates.specs.Costs.{Cost}
 use Rattle.jobs.specs.Job.{job-cost}
 use Rattle.calls.specs.Scripts.{script-cost, orders-in}
 use Rattle.calls.specs.Calls.{State}
-use Rattle.runs.specs.Runs.{Stage, Setting, staged, Spoken, ready, going, World, world, Call, lent1, lent2, preparation, held, Completes, prepares, starts1, starts2, hears1, hears2, given-out, begin, Finished, Accepted}
+use Rattle.runs.specs.Runs.{Stage, Setting, staged, Spoken, ready, going, World, world, Call, lent1, lent2, preparation, held}
+use Rattle.runs.specs.Runs.{Completes, prepares, starts1, starts2, hears1, hears2, given-out, begin, Finished, Accepted}
 use Rattle.demands.specs.Conditions.{places-from, Terms, PreparationIs, of-itself, of-lists, of-buffer, prepares-well}
 use Rattle.demands.specs.Numbers.{Told}
 use Rattle.demands.specs.Demand1.{terms-of, table-needs, Demand1}
@@ -60,7 +61,8 @@ module _ (S : Stage) (buf : List ℕ) (r : Pair) where
 -- ---- what every call keeps once the three hosts are at work
 
 data AtWork (m : Pair) (b : List ℕ) : World → Type 0 where
-  at-work : {t t1 t2 : List Pair} {s1 s2 : State} {said1 said2 : List Spoken} → AtWork m b (world (ready m t) b (going s1 t1 said1) (going s2 t2 said2))
+  at-work : {t t1 t2 : List Pair} {s1 s2 : State} {said1 said2 : List Spoken}
+      → AtWork m b (world (ready m t) b (going s1 t1 said1) (going s2 t2 said2))
 
 module _ (S : Stage) (E : List ℕ) where
   works-on : (m : Pair) (b : List ℕ) (c : Call) (v v′ : World) → Completes S c v v′ → AtWork m b v → AtWork m b v′
@@ -69,8 +71,22 @@ module _ (S : Stage) (E : List ℕ) where
 
   done-whole : (m : Pair) (b : List ℕ) (v v′ : World) (cs : List Call) (h1 h2 : List Spoken) → AtWork m b v′ → Calls S E v [] [] cs v′ h1 h2
       → ((q : ℕ) → q < orders-in (S .script) → Finished v′ q) → (one : State) × (two : State) × WholeRun S E v m b one two
-  done-whole m b v _ cs h1 h2 (at-work {t = t} {t1 = t1} {t2 = t2} {s1 = s1} {s2 = s2} {said1 = said1} {said2 = said2}) r f =
-      (s1, s2, record { calls = cs; trail0 = t; trail1 = t1; trail2 = t2; said1 = said1; said2 = said2; heard1 = h1; heard2 = h2; run = r; finished = f })
+  done-whole m b v _ cs h1 h2 (at-work {t = t} {t1 = t1} {t2 = t2} {s1 = s1} {s2 = s2} {said1 = said1} {said2 = said2}) r f = (
+    s1,
+    s2,
+    record {
+      calls = cs;
+      trail0 = t;
+      trail1 = t1;
+      trail2 = t2;
+      said1 = said1;
+      said2 = said2;
+      heard1 = h1;
+      heard2 = h2;
+      run = r;
+      finished = f;
+    },
+  )
 
   module _ (buf : List ℕ) (one two : State) (p1 : held S one ≡ (S .rm, S .r1)) (p2 : held S two ≡ (S .rm, S .r2))
       (e : preparation S buf (S .r1, S .r2) .number ≡ 0) where
@@ -88,7 +104,11 @@ module _ (S : Stage) (E : List ℕ) where
         let acc′ : Accepted S b = buffer-kept S (prepares e) (kept S (wide-on S (begin b0) c1)) acc in
         let c2 = completes c1 (starts1 E (start-zero S (lent1 S E) (held S one) (lent1-zero S b acc′ E))) refl in
         let c3 = completes c2 (starts2 b refl (start-zero S (lent2 S b) (held S two) (lent2-zero S b acc′ b (acc′ .deals)))) refl in
-        let d = carried-with S E (AtWork m b) (works-on m b) (record { from = first-world S buf one two; begins = b0; calls = c3 }) acc′ at-work in
+        let d = carried-with S E (AtWork m b) (works-on m b) (record {
+          from = first-world S buf one two;
+          begins = b0;
+          calls = c3;
+        }) acc′ at-work in
         done-whole m b _ (d .0 .ends-in) _ (d .0 .heard1) (d .0 .heard2) (d .1) (joined S c3 (d .0 .calls)) (d .0 .finished)
 
 -- ---- a job

@@ -55,7 +55,8 @@ pub record Alike (S S′ : Setting) : Type 0 where
 pub record Demand3 : Type 0 where
   -- "each finished curve order, for every reading from -2^30 to 2^30 - 1 and every table that keeps document 01's
   -- rules, opens exactly floor(Y / 4096) in exact mode"
-  pub exact : (S : Setting) (q : ℕ) (v : World) → Finishes 32 (staged 32 S) q v → Exact S q → T (in-range 32 (reading 32 S q))
+  pub exact : (S : Setting) (q : ℕ) (v : World) → Finishes 32 (staged 32 S) q v → Exact S q
+      → T (in-range 32 (reading 32 S q))
       → opens 32 S v q ≡ (0, floor (Y-of 32 S q) 4096)
   -- "In one-bit mode it opens one more exactly when (Y mod 4096) + (L mod 4096) is at least 4096, else the same; L is
   -- the sum of the two mask words of the curve's refresh."
@@ -67,7 +68,8 @@ pub record Demand3 : Type 0 where
   pub slips : (S : Setting) (q : ℕ) (v : ℕ → World) → Words 32 (staged 32 S)
       → ((a : ℕ) → a < 2 ^ 32 → Finishes 32 (staged 32 (with-word 32 S q a)) q (v a)) → OneBit S q
       → T (in-range 32 (reading 32 S q))
-      → count (2 ^ 32) (λ a. eqZ (opens 32 S (v a) q .1) (floor (Y-of 32 S q) 4096 +ℤ pos 1)) ≡ wrap 12 (Y-of 32 S q) * 2 ^ 20
+      → count (2 ^ 32) (λ a. eqZ (opens 32 S (v a) q .1) (floor (Y-of 32 S q) 4096 +ℤ pos 1))
+      ≡ wrap 12 (Y-of 32 S q) * 2 ^ 20
   -- "In both modes the value is above C - 2 and below C + 1."
   pub near-exact : (S : Setting) (q : ℕ) (v : World) → Finishes 32 (staged 32 S) q v → Exact S q
       → T (in-range 32 (reading 32 S q))

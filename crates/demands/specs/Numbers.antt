@@ -26,7 +26,8 @@ pub record Numbers : Type 1 where
   pub starting : (loan : Lent) (T : Terms) → Told (loan .script) T → (r : Pair)
       → StartIs T (loan .host) (loan .masks) (loan .deals) (start loan r .number) (start loan r .index)
   pub hearing : (loan : Lent) (T : Terms) → Told (loan .script) T → Orderly (loan .script) → (s : State) (v : ℕ)
-      → HearingIs T (loan .host) (loan .masks) (loan .deals) (s .order, s .turn) (hear loan s v .number) (hear loan s v .index)
+      → HearingIs T (loan .host) (loan .masks) (loan .deals) (s .order, s .turn) (hear loan s v .number)
+      (hear loan s v .index)
   -- and each relation holds of one number and one index, where the script's own conditions do
   pub one-preparation : (T : Terms) → Single (T .own) → (A B buffer : List ℕ) → Single (PreparationIs T A B buffer)
   pub one-start : (T : Terms) → Single (T .own) → (h : ℕ) (M D : List ℕ) → Single (StartIs T h M D)

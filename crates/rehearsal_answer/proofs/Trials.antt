@@ -26,7 +26,8 @@ use Rattle.programs.specs.Opens.{curve-value, values, order-value}
 use Rattle.programs.specs.Costs.{program-cost}
 use Rattle.programs.proofs.Costs.{sum-cost, curve-exact-cost, curve-one-bit-cost}
 use Rattle.programs.proofs.Calibration.{ranged, exact-curve, one-bit-curve}
-use Rattle.jobs.specs.Job.{orders, ill-sized, unknown-kind, unknown-register, two-sources, ill-fourths, ill-fourth, order-fault, fault-at, orders-fault, job-fault, job-gates, steps-of, job-cost}
+use Rattle.jobs.specs.Job.{orders, ill-sized, unknown-kind, unknown-register, two-sources, ill-fourths, ill-fourth, order-fault}
+use Rattle.jobs.specs.Job.{fault-at, orders-fault, job-fault, job-gates, steps-of, job-cost}
 use Rattle.calls.specs.Scripts.{job-script, script-cost}
 use Rattle.calls.specs.Lent.{or-else, dealer-lists-fault, dealer-fault}
 use Rattle.calls.specs.Calls.{fresh}
@@ -108,8 +109,12 @@ buffer = replicate 128 0
 
 lists-long : (mode : ℕ) → 0 ≡ dealer-lists-fault (counts mode) trial-a trial-b buffer
 unfolding counts
-lists-long zero = long-enough 128 216 236 108 _ _ _ (omega (arith, multiples-length first-a 2 236)) (omega (arith, multiples-length first-b 2 108)) (lit≤ tt)
-lists-long (suc n) = long-enough 115 196 213 98 _ _ _ (omega (arith, multiples-length first-a 2 236)) (omega (arith, multiples-length first-b 2 108)) (lit≤ tt)
+lists-long zero =
+    long-enough 128 216 236 108 _ _ _ (omega (arith, multiples-length first-a 2 236)) (omega (arith, multiples-length first-b 2 108))
+    (lit≤ tt)
+lists-long (suc n) =
+    long-enough 115 196 213 98 _ _ _ (omega (arith, multiples-length first-a 2 236)) (omega (arith, multiples-length first-b 2 108))
+    (lit≤ tt)
 
 module _ (mode m l1 l2 : ℕ) where
   abbrev S : Setting
@@ -143,7 +148,8 @@ module _ (mode m l1 l2 : ℕ) where
   unfolding trial
   words-are =
       let k = words-spoken (staged 32 S) buffer accepted in
-      ap₂ _+_ (k .0 ∙ ap (λ (k : Cost). k .b) (script-counts mode)) (k .1 ∙ ap (λ (k : Cost). k .b) (script-counts mode)) ∙ words-counted mode
+      ap₂ _+_ (k .0 ∙ ap (λ (k : Cost). k .b) (script-counts mode)) (k .1 ∙ ap (λ (k : Cost). k .b) (script-counts mode))
+      ∙ words-counted mode
 
   -- ---- the value
 
@@ -182,7 +188,8 @@ module _ (mode m l1 l2 : ℕ) where
 
     left-is : left-of (staged 32 S) ≡ after-order (staged 32 S) 0
     unfolding steps-of job-gates orders
-    left-is = left-one 32 (staged 32 S) (program 32 (rows house) (record { kind = 10; target = 0; source = 0; fourth = mode-word mode })) refl
+    left-is =
+        left-one 32 (staged 32 S) (program 32 (rows house) (record { kind = 10; target = 0; source = 0; fourth = mode-word mode })) refl
 
     leaves : value (numbers 32) (slot (after-order (staged 32 S) 0) 0) ≡ curve-value 32 (rows house) (mode-word mode) x refresh-L
     unfolding order-of orders order-value values
@@ -197,9 +204,12 @@ module _ (mode m l1 l2 : ℕ) where
         register-opens (staged 32 S) buffer accepted 32 0 (lit< tt)
         ∙ ap {B = ℕ × ℤ} (λ (v : ℕ). (0, signed 32 v)) (ap (λ (j : Triple). value (numbers 32) (slot j 0)) left-is ∙ leaves)
 
-    curve-is : (n : ℕ) (z : ℤ) → signed 32 x ≡ z → T (in-range 32 z) → signed 32 (curve-value 32 (rows house) (mode-word n) x refresh-L) ≡ Spec.value n z
+    curve-is : (n : ℕ) (z : ℤ) → signed 32 x ≡ z → T (in-range 32 z)
+        → signed 32 (curve-value 32 (rows house) (mode-word n) x refresh-L) ≡ Spec.value n z
     unfolding Spec.value Spec.Y
-    curve-is zero z e r = exact-curve house house-keeps-rules x (sub-lt 32 _ _) (ranged (rw e r)) refresh-L ∙ ap (λ (y : ℤ). floor (scaled (rows house) y) 4096) e
+    curve-is zero z e r =
+        exact-curve house house-keeps-rules x (sub-lt 32 _ _) (ranged (rw e r)) refresh-L
+        ∙ ap (λ (y : ℤ). floor (scaled (rows house) y) 4096) e
     curve-is (suc n) z e r =
         one-bit-curve house house-keeps-rules x (sub-lt 32 _ _) (ranged (rw e r)) refresh-L 0 mask-lt
         ∙ ap (λ (y : ℤ). floor (scaled (rows house) y) 4096 +ℤ pos (slip 12 (wrap 12 (scaled (rows house) y)) refresh-L)) e

@@ -6,20 +6,20 @@ ghost use Rattle.text_lines.specs.Buffers.{filled};
 ghost use Rattle.text_prints.specs.Answers.{held};
 ghost use Rattle.rehearsal_answer.specs.Rehearsal.{answer, answer-of};
 ghost use Rattle.rehearsal_answer.specs.Trial.{mode-word, in-first, trial, Ran};
-use text_lines::Asked;
-use text_lines::parse;
 use sample_masks::fill;
-use trio_open::opened;
-use text_prints::Text;
-use text_prints::answer_text;
-use text_prints::refusal_text;
 use shares::Opening;
 use shares::Shares;
 use shares::Sharing;
 use shares::share;
+use text_lines::Asked;
+use text_lines::parse;
+use text_prints::Text;
+use text_prints::answer_text;
+use text_prints::refusal_text;
 use trio::Shared;
 use trio::Trio;
 use trio::run;
+use trio_open::opened;
 
 // The first word of each mask list, which splits the reading; word j is j times it, and the job's lists begin at the
 // second.

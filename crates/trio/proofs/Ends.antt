@@ -42,9 +42,16 @@ abbrev pub ahead : Script → State → ℕ
 ahead σ s = steps-in (seek (s .order) (s .turn) (σ .steps) origin)
 
 -- an answer with no step left
-last-answer : (h : Triple → Pair) (say : Exchange → Cursor → Triple → ℕ) (ss : List Step) (c : Cursor) (j : Triple) (t : List Triple) (b o : ℕ) → ss ≡ [] → c .b ≡ b → c .order ≡ o
+last-answer : (h : Triple → Pair) (say : Exchange → Cursor → Triple → ℕ) (ss : List Step) (c : Cursor) (j : Triple) (t : List Triple)
+    (b o : ℕ) → ss ≡ [] → c .b ≡ b → c .order ≡ o
     → c .turn ≡ 0
-    → _≡_ {A = Answer} (record { number = 0; index = 0; spoken = spoken-at ss c; word = word-at say ss c j; state = state-of (through h (conf ss c j t)) })
+    → _≡_ {A = Answer} (record {
+      number = 0;
+      index = 0;
+      spoken = spoken-at ss c;
+      word = word-at say ss c j;
+      state = state-of (through h (conf ss c j t));
+    })
     (record { number = 0; index = 0; spoken = b; word = 0; state = record { m = h j .0; mask = h j .1; order = o; turn = 0 } })
 unfolding spoken-at word-at
 last-answer h say [] c j t b o e p q r = rw (p, q, r)
@@ -121,14 +128,17 @@ module _ (S : Stage) (shut : Closed (S .script .steps)) (buf : List ℕ) (done :
 
     state-is : walk-at n .state ≡ left-of S
     unfolding left
-    state-is = sym (ap (λ (p : Conf Triple). p .state) (whole-pos (act (S .A) (S .B)) (all S) (j₀ S) n) ∙ whole-rest (S .A) (S .B) _ _ _ _ e)
+    state-is =
+        sym (ap (λ (p : Conf Triple). p .state) (whole-pos (act (S .A) (S .B)) (all S) (j₀ S) n) ∙ whole-rest (S .A) (S .B) _ _ _ _ e)
 
     last-is : (h : Triple → Pair) (say : Exchange → Cursor → Triple → ℕ) → answer-at S buf h say n ≡ end-answer (S .script) (h (left-of S))
     unfolding end-answer ends
     last-is h say =
         let p : ends (walk-at n .rest) + walk-at n .cur .order ≡ ends (all S) = ends-pos (act (S .A) (S .B)) (all S) (j₀ S) n in
-        let q : walk-at n .cur .order ≡ orders-in (S .script) = sym (zero-add _) ∙ ap (λ (ss : List Step). ends ss + walk-at n .cur .order) (sym e) ∙ p in
-        let b : walk-at n .cur .b ≡ script-cost (S .script) .b = ap (λ (c : Cursor). c .b) cur-is ∙ far-used (all S) origin .b ∙ zero-add _ in
+        let q : walk-at n .cur .order ≡ orders-in (S .script) =
+        sym (zero-add _) ∙ ap (λ (ss : List Step). ends ss + walk-at n .cur .order) (sym e) ∙ p in
+        let b : walk-at n .cur .b ≡ script-cost (S .script) .b =
+        ap (λ (c : Cursor). c .b) cur-is ∙ far-used (all S) origin .b ∙ zero-add _ in
         let t : walk-at n .cur .turn ≡ 0 = ap (λ (c : Cursor). c .turn) cur-is ∙ far-closed (all S) origin shut (λ n. refl) in
         last-answer h say (walk-at n .rest) (walk-at n .cur) (walk-at n .state) (walk-at n .trail) _ _ e b q t
         ∙ ap {B = Answer} (λ (j : Triple). end-answer (S .script) (h j)) state-is
@@ -139,8 +149,10 @@ module _ (S : Stage) (shut : Closed (S .script .steps)) (buf : List ℕ) (done :
         rw (
           last-is of1 (joint1 (S .A) (S .B)),
           last-is of2 (joint2 (S .A) (S .B)),
-          unless-zero (P S buf .number) (P S buf .number, P S buf .index) (given (S .rm, S .r1)) (end-answer (S .script) (of1 (left-of S))) done,
-          unless-zero (P S buf .number) (P S buf .number, P S buf .index) (given (S .rm, S .r2)) (end-answer (S .script) (of2 (left-of S))) done,
+          unless-zero (P S buf .number) (P S buf .number, P S buf .index) (given (S .rm, S .r1))
+              (end-answer (S .script) (of1 (left-of S))) done,
+          unless-zero (P S buf .number) (P S buf .number, P S buf .index) (given (S .rm, S .r2))
+              (end-answer (S .script) (of2 (left-of S))) done,
         )
 
   pub finish : (s : Trio) → Standing S buf s → orders-in (S .script) ≤ s .one .state .order → s ≡ ran S buf

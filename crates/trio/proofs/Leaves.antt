@@ -49,25 +49,41 @@ module _ (S : Stage) (buf : List ℕ) (done : P S buf .number ≡ 0) where
   abbrev end-state : Triple
   end-state = left-of S
 
-  over-is : over ≡ record { number = P S buf .number; index = P S buf .index; deals = P S buf .deals; masks = P S buf .masks; one = end-answer (S .script) (of1 end-state); two = end-answer (S .script) (of2 end-state); buffer = P S buf .buffer }
+  over-is : over
+      ≡ record {
+        number = P S buf .number;
+        index = P S buf .index;
+        deals = P S buf .deals;
+        masks = P S buf .masks;
+        one = end-answer (S .script) (of1 end-state);
+        two = end-answer (S .script) (of2 end-state);
+        buffer = P S buf .buffer;
+      }
   unfolding together after-preparation
   over-is =
       rw (
-        unless-zero (P S buf .number) (P S buf .number, P S buf .index) (given (S .rm, S .r1)) (end-answer (S .script) (of1 end-state)) done,
-        unless-zero (P S buf .number) (P S buf .number, P S buf .index) (given (S .rm, S .r2)) (end-answer (S .script) (of2 end-state)) done,
+        unless-zero (P S buf .number) (P S buf .number, P S buf .index) (given (S .rm, S .r1))
+            (end-answer (S .script) (of1 end-state)) done,
+        unless-zero (P S buf .number) (P S buf .number, P S buf .index) (given (S .rm, S .r2))
+            (end-answer (S .script) (of2 end-state)) done,
       )
 
   masks-are : P S buf .masks ≡ (take (S .script .slots) (end-state .1), take (S .script .slots) (end-state .2))
   unfolding left
   masks-are = go (prepares-ok S (S .r1, S .r2) buf refl done)
     where
-      go : {t : List Pair} {d : List ℕ} → DealerOk S (ready (P S buf .masks) t) d → P S buf .masks ≡ (take (S .script .slots) (end-state .1), take (S .script .slots) (end-state .2))
+      go : {t : List Pair} {d : List ℕ} → DealerOk S (ready (P S buf .masks) t) d
+          → P S buf .masks ≡ (take (S .script .slots) (end-state .1), take (S .script .slots) (end-state .2))
       go (dealt-all post e m t) = m
 
   -- opening never meets 10
-  pub register-opens : (w i : ℕ) → i < S .script .slots → opened-slot w (over .masks) (over .one .state .m, over .one .state .mask) (over .two .state .m, over .two .state .mask) i ≡ (0, signed w (value (numbers w) (slot end-state i)))
+  pub register-opens : (w i : ℕ) → i < S .script .slots
+      → opened-slot w (over .masks) (over .one .state .m, over .one .state .mask) (over .two .state .m, over .two .state .mask) i
+      ≡ (0, signed w (value (numbers w) (slot end-state i)))
   unfolding end-answer
-  register-opens w i h = rw (over-is, masks-are, getD-take (S .script .slots) (end-state .1) i 0 h, getD-take (S .script .slots) (end-state .2) i 0 h) (share-opens w (slot end-state i))
+  register-opens w i h =
+      rw (over-is, masks-are, getD-take (S .script .slots) (end-state .1) i 0 h, getD-take (S .script .slots) (end-state .2) i 0 h)
+      (share-opens w (slot end-state i))
 
   pub words-spoken : (over .one .spoken ≡ script-cost (S .script) .b) × (over .two .spoken ≡ script-cost (S .script) .b)
   unfolding end-answer

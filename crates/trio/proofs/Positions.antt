@@ -10,7 +10,8 @@ use Rattle.gates.proofs.Seen.{through, Always}
 use Rattle.jobs.specs.Job.{Fault}
 use Rattle.calls.specs.Scripts.{Script, script-cost}
 use Rattle.calls.specs.Lent.{worker1, worker2, dealer-fault, lent-fault, worker-with, worker-of}
-use Rattle.calls.specs.Calls.{State, Answer, Prepared, spoken-at, state-of, report, given, start-walk, start, found-of, resume, hear, prepared as Calls-prepared, prepare, word-at}
+use Rattle.calls.specs.Calls.{State, Answer, Prepared, spoken-at, state-of, report, given, start-walk, start, found-of, resume}
+use Rattle.calls.specs.Calls.{hear, prepared as Calls-prepared, prepare, word-at}
 use Rattle.runs.specs.Runs.{Stage, ready, lent1, lent2, preparation, Accepted}
 use Rattle.runs.proofs.Places.{Halted, one-halt}
 use Rattle.runs.proofs.Ties.{shadow1, shadow2, joint, words, Went, starts, hears-on}
@@ -105,16 +106,30 @@ module _ (S : Stage) (buf : List ℕ) where
     passed2 = lent2-zero S buf accepted D deals-there
 
     abbrev Went1 : ℕ → List Pair → Answer → List Pair → Type 0
-    Went1 = Went (S .A) (S .B) (all S) (j₀ S) (worker1 (S .A)) of1 (joint1 (S .A) (S .B)) (joint2 (S .A) (S .B)) Always (shadow1 (S .A) (S .B)) tt
+    Went1 =
+        Went (S .A) (S .B) (all S) (j₀ S) (worker1 (S .A)) of1 (joint1 (S .A) (S .B)) (joint2 (S .A) (S .B)) Always
+        (shadow1 (S .A) (S .B)) tt
 
     abbrev Went2 : ℕ → List Pair → Answer → List Pair → Type 0
-    Went2 = Went (S .A) (S .B) (all S) (j₀ S) (worker2 (S .B) D) of2 (joint2 (S .A) (S .B)) (joint1 (S .A) (S .B)) (Supplied (S .A) (S .B) D) (shadow2 (S .A) (S .B) D) supply
+    Went2 =
+        Went (S .A) (S .B) (all S) (j₀ S) (worker2 (S .B) D) of2 (joint2 (S .A) (S .B)) (joint1 (S .A) (S .B)) (Supplied (S .A) (S .B) D)
+        (shadow2 (S .A) (S .B) D) supply
 
     -- two answers that went on from position k leave the three standing
     both : (k : ℕ) (t1 t2 r1 r2 : List Pair) (a b : Answer) → Went1 k t1 a r1 → Went2 k t2 b r2
-        → (x : Standing (record { number = P .number; index = P .index; deals = P .deals; masks = P .masks; one = a; two = b; buffer = D })) × (k ≤ x .n)
+        → (x : Standing (record {
+          number = P .number;
+          index = P .index;
+          deals = P .deals;
+          masks = P .masks;
+          one = a;
+          two = b;
+          buffer = D;
+        })) × (k ≤ x .n)
     both k t1 t2 r1 r2 a b X Y =
-        let e : at-n (Y .to) ≡ at-n (X .to) = one-halt (act (S .A) (S .B)) (all S) (j₀ S) k (Y .to) (X .to) (Y .later) (X .later) (Y .halts) (X .halts) (Y .quietly) (X .quietly) in
+        let e : at-n (Y .to) ≡ at-n (X .to) =
+        one-halt (act (S .A) (S .B)) (all S) (j₀ S) k (Y .to) (X .to) (Y .later) (X .later) (Y .halts) (X .halts) (Y .quietly)
+        (X .quietly) in
         let f : b ≡ answer-at of2 (joint2 (S .A) (S .B)) (X .to) = Y .is ∙ ap {B = Answer} (λ (p : Conf Triple). answer-in p) e in
         (record { n = X .to; halts = X .halts; is = ap₂ {C = Trio} (λ (x y : Answer). with-answers x y) (X .is) f }, X .later)
       where
@@ -122,7 +137,14 @@ module _ (S : Stage) (buf : List ℕ) where
         with-answers x y = record { number = P .number; index = P .index; deals = P .deals; masks = P .masks; one = x; two = y; buffer = D }
 
         answer-in : Conf Triple → Answer
-        answer-in p = record { number = 0; index = 0; spoken = spoken-at (p .rest) (p .cur); word = word-at (joint2 (S .A) (S .B)) (p .rest) (p .cur) (p .state); state = state-of (through of2 p) }
+        answer-in p =
+            record {
+              number = 0;
+              index = 0;
+              spoken = spoken-at (p .rest) (p .cur);
+              word = word-at (joint2 (S .A) (S .B)) (p .rest) (p .cur) (p .state);
+              state = state-of (through of2 p);
+            }
 
     -- ---- both startings
 
@@ -135,17 +157,31 @@ module _ (S : Stage) (buf : List ℕ) where
     start2-is = unless-zero _ _ _ _ passed2
 
     begun-is : begun-of S buf
-        ≡ record { number = P .number; index = P .index; deals = P .deals; masks = P .masks; one = start (lent1 S D) (S .rm, S .r1); two = start (lent2 S D) (S .rm, S .r2); buffer = D }
+        ≡ record {
+          number = P .number;
+          index = P .index;
+          deals = P .deals;
+          masks = P .masks;
+          one = start (lent1 S D) (S .rm, S .r1);
+          two = start (lent2 S D) (S .rm, S .r2);
+          buffer = D;
+        }
     unfolding begun after-preparation
-    begun-is = rw (unless-zero (P .number) (P .number, P .index) (given (S .rm, S .r1)) (start (lent1 S D) (S .rm, S .r1)) done, unless-zero (P .number) (P .number, P .index) (given (S .rm, S .r2)) (start (lent2 S D) (S .rm, S .r2)) done)
+    begun-is =
+        rw (
+          unless-zero (P .number) (P .number, P .index) (given (S .rm, S .r1)) (start (lent1 S D) (S .rm, S .r1)) done,
+          unless-zero (P .number) (P .number, P .index) (given (S .rm, S .r2)) (start (lent2 S D) (S .rm, S .r2)) done,
+        )
 
     pub begun-stands : Standing (begun-of S buf)
     unfolding worker-with start-walk
     begun-stands =
         rw (begun-is, start1-is, start2-is)
         (both 0 [] [] _ _ _ _
-        (starts (S .A) (S .B) (all S) (j₀ S) (worker1 (S .A)) of1 (joint1 (S .A) (S .B)) (joint2 (S .A) (S .B)) Always (shadow1 (S .A) (S .B)) tt (S .rm, S .r1) refl)
-        (starts (S .A) (S .B) (all S) (j₀ S) (worker2 (S .B) D) of2 (joint2 (S .A) (S .B)) (joint1 (S .A) (S .B)) (Supplied (S .A) (S .B) D) (shadow2 (S .A) (S .B) D) supply (S .rm, S .r2) refl) .0)
+        (starts (S .A) (S .B) (all S) (j₀ S) (worker1 (S .A)) of1 (joint1 (S .A) (S .B)) (joint2 (S .A) (S .B)) Always
+        (shadow1 (S .A) (S .B)) tt (S .rm, S .r1) refl)
+        (starts (S .A) (S .B) (all S) (j₀ S) (worker2 (S .B) D) of2 (joint2 (S .A) (S .B)) (joint1 (S .A) (S .B))
+        (Supplied (S .A) (S .B) D) (shadow2 (S .A) (S .B) D) supply (S .rm, S .r2) refl) .0)
 
     -- ---- both hearings
 
@@ -160,7 +196,12 @@ module _ (S : Stage) (buf : List ℕ) where
     pub heard-at : (n : ℕ) → Halted (at-n n .rest) → Exchanging (at-n n .rest) → (x : Standing (heard-of S (standing n))) × (n < x .n)
     unfolding worker-with found-of heard
     heard-at n h x =
-        rw (hear1-is (state-of (through of1 (at-n n))) (words (S .A) (S .B) (all S) (j₀ S) (joint2 (S .A) (S .B)) n), hear2-is (state-of (through of2 (at-n n))) (words (S .A) (S .B) (all S) (j₀ S) (joint1 (S .A) (S .B)) n))
+        rw (
+          hear1-is (state-of (through of1 (at-n n))) (words (S .A) (S .B) (all S) (j₀ S) (joint2 (S .A) (S .B)) n),
+          hear2-is (state-of (through of2 (at-n n))) (words (S .A) (S .B) (all S) (j₀ S) (joint1 (S .A) (S .B)) n),
+        )
         (both (suc n) _ _ _ _ _ _
-        (hears-on (S .A) (S .B) (all S) (j₀ S) (worker1 (S .A)) of1 (joint1 (S .A) (S .B)) (joint2 (S .A) (S .B)) Always (shadow1 (S .A) (S .B)) tt n _ x h refl)
-        (hears-on (S .A) (S .B) (all S) (j₀ S) (worker2 (S .B) D) of2 (joint2 (S .A) (S .B)) (joint1 (S .A) (S .B)) (Supplied (S .A) (S .B) D) (shadow2 (S .A) (S .B) D) supply n _ x h refl))
+        (hears-on (S .A) (S .B) (all S) (j₀ S) (worker1 (S .A)) of1 (joint1 (S .A) (S .B)) (joint2 (S .A) (S .B)) Always
+        (shadow1 (S .A) (S .B)) tt n _ x h refl)
+        (hears-on (S .A) (S .B) (all S) (j₀ S) (worker2 (S .B) D) of2 (joint2 (S .A) (S .B)) (joint1 (S .A) (S .B))
+        (Supplied (S .A) (S .B) D) (shadow2 (S .A) (S .B) D) supply n _ x h refl))

@@ -79,7 +79,8 @@ module _ (S : Stage) (tidy : Orderly (S .script)) (buf : List ℕ) (done : P S b
     pub words1 : length said1 ≡ suc (script-cost (S .script) .b)
     pub words2 : length said2 ≡ suc (script-cost (S .script) .b)
 
-  ends-in : (z : Dealer) (b : List ℕ) (s1 s2 : State) (t1 t2 : List Pair) (said1 said2 : List Spoken) → Ok S (world z b (going s1 t1 said1) (going s2 t2 said2))
+  ends-in : (z : Dealer) (b : List ℕ) (s1 s2 : State) (t1 t2 : List Pair) (said1 said2 : List Spoken)
+      → Ok S (world z b (going s1 t1 said1) (going s2 t2 said2))
       → ((q : ℕ) → q < orders-in (S .script) → Finished (world z b (going s1 t1 said1) (going s2 t2 said2)) q) → Ends s1 s2 said1 said2
   ends-in _ _ s1 s2 t1 t2 said1 said2 (ok z (go1 X) (go2 Y) a) f =
       let l1 : orders-in (S .script) ≤ s1 .order = at-least _ _ (λ q h. f q h .one) in
@@ -160,7 +161,8 @@ trio-ran =
       is-run = λ S tidy E buf one two p1 p2 e. found-run S tidy buf e E one two p1 p2;
       accepted-run = λ S tidy E buf one two p1 p2 acc. found-run S tidy buf (whole .prepares S buf (S .r1, S .r2) acc) E one two p1 p2;
       job-run = λ S E buf one two p1 p2 i.
-          found-run (staged 32 S) (job-orderly 32 (S .job) (S .table)) buf (whole .prepares (staged 32 S) buf (S .r1, S .r2) (whole .accepted-job S buf .0 i)) E
+          found-run (staged 32 S) (job-orderly 32 (S .job) (S .table)) buf
+          (whole .prepares (staged 32 S) buf (S .r1, S .r2) (whole .accepted-job S buf .0 i)) E
           one two p1 p2;
       refused = λ S buf h. turned-down S buf h;
     }

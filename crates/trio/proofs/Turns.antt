@@ -24,7 +24,13 @@ pub first-started : (n i : ℕ) (s : State) (a x : Answer) → n ≡ 0 → x ≡
 first-started n i s a x e h = h ∙ sym (unless-zero n (n, i) s a e)
 
 pub first-refused : (n i : ℕ) (m mask fm fl : Lane) (a : Answer) → n ≢ 0 → fm ≡ fresh m → fl ≡ fresh mask
-    → record { number = n; index = i; spoken = 0; word = 0; state = record { m = fm; mask = fl; order = 0; turn = 0 } } ≡ unless n (n, i) (given (m, mask)) a
+    → record {
+      number = n;
+      index = i;
+      spoken = 0;
+      word = 0;
+      state = record { m = fm; mask = fl; order = 0; turn = 0 };
+    } ≡ unless n (n, i) (given (m, mask)) a
 unfolding unless given
 first-refused zero i m mask fm fl a h p q = absurd (h refl)
 first-refused (suc n) i m mask fm fl a h p q = rw (p, q)
@@ -35,7 +41,15 @@ module _ (σ : Script) (A B : List ℕ) where
   pub begins : (r : Triple) (buf D : List ℕ) (p : Prepared) (a b : Answer) → p ≡ prepare σ A B buf (of0 r) → p .buffer ≡ D
       → a ≡ unless (p .number) (p .number, p .index) (given (of1 r)) (start (lent 1 σ A D) (of1 r))
       → b ≡ unless (p .number) (p .number, p .index) (given (of2 r)) (start (lent 2 σ B D) (of2 r))
-      → record { number = p .number; index = p .index; deals = p .deals; masks = p .masks; one = a; two = b; buffer = D } ≡ begun σ A B r buf
+      → record {
+        number = p .number;
+        index = p .index;
+        deals = p .deals;
+        masks = p .masks;
+        one = a;
+        two = b;
+        buffer = D;
+      } ≡ begun σ A B r buf
   unfolding begun after-preparation
   begins r buf D p a b e d f g = rw (f, g, ← d, e)
 

@@ -5,13 +5,13 @@ ghost use Rattle.calls.specs.Scripts.{job-script};
 ghost use Rattle.calls.specs.Lent.{lent};
 ghost use Rattle.worker.specs.Answers.{answer-of, lanes-of};
 ghost use Rattle.trio.specs.Together.{trio-of, shared, Full, begun, heard, together};
+use call_check::fresh;
 use dealer::Masks;
 use dealer::prepare;
 use worker::Answer;
 use worker::Registers;
 use worker::State;
 use worker::start;
-use call_check::fresh;
 
 // A share of every register, on which the three hosts agree.
 pub struct Shared {

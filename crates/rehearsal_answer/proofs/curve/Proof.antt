@@ -50,9 +50,19 @@ run-requires c κs = search needs
 returns : tie.Need-returns
 unfolding trial house
 returns c =
+    let p = c .before .before .before .before .before .before .before in
     record {
       buffer = _;
-      is = c .before .run .ensures ∙ rw (c .before .before .before .before .before .before .before .before .before .before .before .before .before .before .before .fill .ensures, c .before .before .before .before .before .before .before .before .before .before .before .before .fill2 .ensures, c .before .before .before .before .before .before .before .before .before .before .mode-word .ensures, c .before .before .before .before .before .before .before .before .before .in-first .ensures, c .before .before .before .before .before .before .before .before .in-first2 .ensures, c .before .before .before .before .before .before .before .in-first3 .ensures);
+      is =
+          c .before .run .ensures
+          ∙ rw (
+            p .before .before .before .before .before .before .before .before .fill .ensures,
+            p .before .before .before .before .before .fill2 .ensures,
+            p .before .before .before .mode-word .ensures,
+            p .before .before .in-first .ensures,
+            p .before .in-first2 .ensures,
+            p .in-first3 .ensures,
+          );
     }
 
 pub curve-spec : {M : Type 1} → statement M

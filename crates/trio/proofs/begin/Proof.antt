@@ -25,7 +25,7 @@ returns c =
     let s = p .before .before .before .before .before .before .before in
     let a = s .args in (
       begins (job-script 32 (now (a .job)) (now (a .table))) (now (a .a)) (now (a .b)) (a .m, a .l1, a .l2) (now (a .deals)) _ _ _ _
-      (p .prepare .ensures) refl (c .before .before .first .ensures) (c .first2 .ensures),
+          (p .prepare .ensures) refl (c .before .before .first .ensures) (c .first2 .ensures),
       record { m = omega (arith, s .good); l1 = omega (arith, s .good); l2 = omega (arith, s .good) },
     )
 
