@@ -31,7 +31,8 @@ exact-cases = (negℤ (pos 5), 1, negℤ (pos 3)) ∷ (negℤ (pos 1), 31, neg�
 
 -- a curve in exact mode on the house table
 abbrev pub CurveOpens : ℤ × ℤ → Type 0
-CurveOpens c = (S : Setting) (q : ℕ) (v : World) → Finishes 32 (staged 32 S) q v → Exact S q → S .table ≡ house
+CurveOpens c =
+    (S : Setting) (q : ℕ) (v : World) → Finishes 32 (staged 32 S) q v → Exact S q → S .table ≡ house
     → reading 32 S q ≡ c .0 → opens 32 S v q ≡ (0, c .1)
 
 -- order q truncates by k

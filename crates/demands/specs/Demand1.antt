@@ -66,7 +66,8 @@ pub record Demand1 (w : ℕ) (needs : (job table : List ℕ) → Cost) : Type 0 
   -- and there is one such number and index
   pub one-preparation : (job table A B buffer : List ℕ)
       → Single (PreparationIs (terms-of w job table (needs job table)) A B buffer)
-  pub one-start : (h : ℕ) (job table M D : List ℕ) → Single (StartIs (terms-of w job table (needs job table)) h M D)
+  pub one-start : (h : ℕ) (job table M D : List ℕ)
+      → Single (StartIs (terms-of w job table (needs job table)) h M D)
   pub one-hearing : (h : ℕ) (job table M D : List ℕ) (o x : ℕ)
       → Single (HearingIs (terms-of w job table (needs job table)) h M D (o, x))
   -- a job's script is what these terms say, so that its calls are those of Numbers.antt

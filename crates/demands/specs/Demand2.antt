@@ -51,7 +51,8 @@ pub record Demand2 : Type 0 where
   -- "every spoken word is the one defined there": one of those defined; in order and each once, InOrder.antt
   pub host1-speaks : (S : Stage) (cs : List Call) (z : Dealer) (buf : List ℕ) (s : State) (t : List Pair)
       (said : List Spoken)
-      (two : Side) → Run S cs (world z buf (going s t said) two) → (p : Spoken) → Among p said → Among p (words-of-1 S)
+      (two : Side) → Run S cs (world z buf (going s t said) two) → (p : Spoken) → Among p said
+      → Among p (words-of-1 S)
   pub host2-speaks : (S : Stage) (cs : List Call) (z : Dealer) (buf : List ℕ) (one : Side) (s : State) (t : List Pair)
       (said : List Spoken) → Run S cs (world z buf one (going s t said)) → (p : Spoken) → Among p said
       → Among p (words-of-2 S)
@@ -63,7 +64,8 @@ pub record Demand2 : Type 0 where
       → (cs : List Call) (z : Dealer) (buf D : List ℕ) (s : State) (two : Side)
       → Run S cs (world z buf (waiting s) two) → start (lent1 S D) (held S s) .number ≡ 0
       → Counted S (start (lent1 S D) (held S s) .spoken) (start (lent1 S D) (held S s) .state) 1
-  pub hear1-counted : (S : Stage) → Orderly (S .script) → (cs : List Call) (z : Dealer) (buf D : List ℕ) (s s2 : State)
+  pub hear1-counted : (S : Stage) → Orderly (S .script)
+      → (cs : List Call) (z : Dealer) (buf D : List ℕ) (s s2 : State)
       (t t2 : List Pair) (said said2 : List Spoken) (v : ℕ)
       → Run S cs (world z buf (going s t said) (going s2 t2 said2))
       → Among (s .order, s .turn, v) said2 → hear (lent1 S D) s v .number ≡ 0
@@ -73,7 +75,8 @@ pub record Demand2 : Type 0 where
       (s : State) → Run S cs (world (ready r t₀) buf one (waiting s)) → Dealt S buf D
       → start (lent2 S D) (held S s) .number ≡ 0
       → Counted S (start (lent2 S D) (held S s) .spoken) (start (lent2 S D) (held S s) .state) 1
-  pub hear2-counted : (S : Stage) → Orderly (S .script) → (cs : List Call) (z : Dealer) (buf D : List ℕ) (s1 s : State)
+  pub hear2-counted : (S : Stage) → Orderly (S .script)
+      → (cs : List Call) (z : Dealer) (buf D : List ℕ) (s1 s : State)
       (t1 t : List Pair) (said1 said : List Spoken) (v : ℕ)
       → Run S cs (world z buf (going s1 t1 said1) (going s t said))
       → Dealt S buf D → Among (s .order, s .turn, v) said1 → hear (lent2 S D) s v .number ≡ 0

@@ -62,7 +62,8 @@ pub record Demand3 : Type 0 where
   -- the sum of the two mask words of the curve's refresh."
   pub one-bit : (S : Setting) (q : ℕ) (v : World) → Finishes 32 (staged 32 S) q v → OneBit S q
       → T (in-range 32 (reading 32 S q))
-      → opens 32 S v q ≡ (0, floor (Y-of 32 S q) 4096 +ℤ pos (slip 12 (wrap 12 (Y-of 32 S q)) (refresh-mask 32 S q)))
+      → opens 32 S v q
+      ≡ (0, floor (Y-of 32 S q) 4096 +ℤ pos (slip 12 (wrap 12 (Y-of 32 S q)) (refresh-mask 32 S q)))
   -- "Over the 2^32 values of that refresh's list A word, in runs that finish the order and are alike in job, table,
   -- registers and every other mask word, exactly (Y mod 4096) × 2^20 give one more."
   pub slips : (S : Setting) (q : ℕ) (v : ℕ → World) → Words 32 (staged 32 S)
@@ -84,4 +85,5 @@ pub record Demand3 : Type 0 where
       → pos (last-count (rows (S .table))) ≤ℤ reading 32 S′ q → opens 32 S v q ≡ opens 32 S′ v′ q
   -- "A run of a job accepted with its lists, after which only refused calls can stand, has finished every order."
   pub finishes : (S : Stage) (v : World) (cs : List Call) → Run S cs v → Accepted S (buffer-of v)
-      → ((c : Call) (v′ : World) → Completes S c v v′ → ⊥) → (q : ℕ) → q < orders-in (S .script) → Finished v q
+      → ((c : Call) (v′ : World) → Completes S c v v′ → ⊥) → (q : ℕ) → q < orders-in (S .script)
+      → Finished v q

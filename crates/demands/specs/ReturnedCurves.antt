@@ -30,7 +30,8 @@ target-opens w S v q = opened-now w 16 v (order-of S q .target)
 pub record ReturnedCurves : Type 0 where
   pub exact : (S : Setting) (q : ℕ) (v : World) → Stays 32 S q v → Exact S q → T (in-range 32 (reading 32 S q))
       → target-opens 32 S v q ≡ (0, floor (Y-of 32 S q) 4096)
-  pub one-bit : (S : Setting) (q : ℕ) (v : World) → Stays 32 S q v → OneBit S q → T (in-range 32 (reading 32 S q))
+  pub one-bit : (S : Setting) (q : ℕ) (v : World) → Stays 32 S q v → OneBit S q
+      → T (in-range 32 (reading 32 S q))
       → target-opens 32 S v q
       ≡ (0, floor (Y-of 32 S q) 4096 +ℤ pos (slip 12 (wrap 12 (Y-of 32 S q)) (refresh-mask 32 S q)))
   pub slips : (S : Setting) (q : ℕ) (v : ℕ → World) → Words 32 (staged 32 S)
@@ -38,16 +39,20 @@ pub record ReturnedCurves : Type 0 where
       → T (in-range 32 (reading 32 S q))
       → count (2 ^ 32) (λ a. eqZ (target-opens 32 S (v a) q .1) (floor (Y-of 32 S q) 4096 +ℤ pos 1))
       ≡ wrap 12 (Y-of 32 S q) * 2 ^ 20
-  pub near-exact : (S : Setting) (q : ℕ) (v : World) → Stays 32 S q v → Exact S q → T (in-range 32 (reading 32 S q))
+  pub near-exact : (S : Setting) (q : ℕ) (v : World) → Stays 32 S q v → Exact S q
+      → T (in-range 32 (reading 32 S q))
       → Near (line (rows (S .table)) (reading 32 S q)) (target-opens 32 S v q .1)
   pub near-one-bit : (S : Setting) (q : ℕ) (v : World) → Stays 32 S q v → OneBit S q
       → T (in-range 32 (reading 32 S q)) → Near (line (rows (S .table)) (reading 32 S q)) (target-opens 32 S v q .1)
-  pub saturated : (S S′ : Setting) (q : ℕ) (v v′ : World) → Alike S S′ → Stays 32 S q v → Stays 32 S′ q v′
+  pub saturated : (S S′ : Setting) (q : ℕ) (v v′ : World) → Alike S S′ → Stays 32 S q v
+      → Stays 32 S′ q v′
       → order-of S q .kind ≡ 10
-      → reading 32 S q ≡ pos (last-count (rows (S .table))) → pos (last-count (rows (S .table))) ≤ℤ reading 32 S′ q
+      → reading 32 S q ≡ pos (last-count (rows (S .table)))
+      → pos (last-count (rows (S .table))) ≤ℤ reading 32 S′ q
       → target-opens 32 S v q ≡ target-opens 32 S′ v′ q
   -- the 2^32 runs of `slips` exist, whatever the buffer, for every order of an accepted job on words: at every width as
   -- many runs as there are words
-  pub family : (w : ℕ) (S : Setting) (q : ℕ) (buffer : List ℕ) → Words w (staged w S) → Accepted (staged w S) buffer
+  pub family : (w : ℕ) (S : Setting) (q : ℕ) (buffer : List ℕ) → Words w (staged w S)
+      → Accepted (staged w S) buffer
       → q < length (orders (S .job))
       → (v : ℕ → World) × ((a : ℕ) → a < 2 ^ w → Finishes w (staged w (with-word w S q a)) q (v a))

@@ -36,8 +36,10 @@ first-world S buf one two = world (idle (S .r1, S .r2)) buf (waiting one) (waiti
 
 pub record Whole : Type 0 where
   -- a script is accepted with its lists and its buffer exactly where its preparation is not refused
-  pub accepted : (S : Stage) (buffer : List ℕ) (r : Pair) → preparation S buffer r .number ≡ 0 → Accepted S buffer
-  pub prepares : (S : Stage) (buffer : List ℕ) (r : Pair) → Accepted S buffer → preparation S buffer r .number ≡ 0
+  pub accepted : (S : Stage) (buffer : List ℕ) (r : Pair) → preparation S buffer r .number ≡ 0
+      → Accepted S buffer
+  pub prepares : (S : Stage) (buffer : List ℕ) (r : Pair) → Accepted S buffer
+      → preparation S buffer r .number ≡ 0
   -- a job exactly where none of the conditions 2 to 7 is met: by document 01's table of costs, and at every width by
   -- the costs of its gates
   pub accepted-job : (S : Setting) (buffer : List ℕ)

@@ -54,8 +54,10 @@ pub record TurnedDown (S : Stage) (buf : List ℕ) (t : Trio) : Type 0 where
 
 pub record TrioRun : Type 0 where
   -- where it is not refused, from any registers that open, whatever the hosts keep beside them
-  pub is-run : (S : Stage) → Orderly (S .script) → (E buffer : List ℕ) (one two : State) → held S one ≡ (S .rm, S .r1)
-      → held S two ≡ (S .rm, S .r2) → ran S buffer .number ≡ 0 → RunTo S E (first-world S buffer one two) (ran S buffer)
+  pub is-run : (S : Stage) → Orderly (S .script) → (E buffer : List ℕ) (one two : State)
+      → held S one ≡ (S .rm, S .r1)
+      → held S two ≡ (S .rm, S .r2) → ran S buffer .number ≡ 0
+      → RunTo S E (first-world S buffer one two) (ran S buffer)
   -- and so where its script is accepted with its lists and its buffer
   pub accepted-run : (S : Stage) → Orderly (S .script) → (E buffer : List ℕ) (one two : State)
       → held S one ≡ (S .rm, S .r1) → held S two ≡ (S .rm, S .r2) → Accepted S buffer
