@@ -4,9 +4,12 @@ use mathlib.Core.Path.{_≡_, refl, sym, ap, _∙_, subst}
 use mathlib.Core.Logic.{_≢_}
 use mathlib.Core.List.{List}
 use Prim.Native.Nat.{ℕ, zero, suc}
+use lib.ListN.{length}
+use Rattle.tables.specs.Table.{rows}
 use Rattle.gates.specs.Hosts.{Pair}
 use Rattle.gates.specs.Costs.{Cost}
-use Rattle.jobs.specs.Job.{Fault, job-fault, job-gates, job-cost}
+use Rattle.jobs.specs.Job.{Fault, orders, job-fault, job-gates, job-cost}
+use Rattle.jobs.specs.CostTable.{table-counts}
 use Rattle.jobs.specs.FirstFault.{Numbered, faultless}
 use Rattle.jobs.proofs.FirstFault.{job-number, number-0}
 use Rattle.jobs.proofs.CostTable.{cost-table}
@@ -17,7 +20,7 @@ use Rattle.calls.specs.Calls.{State, Answer, fresh, report, unless, given, star
 use Rattle.calls.specs.Calls.{resume, hear, prepared, prepare}
 use Rattle.demands.specs.Conditions.{places-from, Terms, Single}
 use Rattle.demands.specs.Numbers.{Told}
-use Rattle.demands.specs.Demand1.{terms-of, table-needs, given-back, Demand1}
+use Rattle.demands.specs.Demand1.{terms-of, job-terms, gate-terms, given-back, Demand1}
 use Rattle.runs.proofs.Chain.{job-orders, job-orderly}
 use Rattle.runs.proofs.Refusals.{start-state, hear-state, prepare-back}
 use Rattle.demands.proofs.Placed.{gates-placed}
@@ -85,7 +88,7 @@ module _ (w : ℕ) (needs : (job table : List ℕ) → Cost) (costs : (job table
   job-told : (job table : List ℕ) → Told (job-script w job table) (terms job table)
   job-told job table = told w job table (needs job table) (costs job table)
 
-  demanded : Demand1 w needs
+  demanded : Demand1 w terms
   demanded =
       record {
         preparing = λ job table A B D r. numbers .preparing (job-script w job table) (terms job table) (job-told job table) A B D r;
@@ -105,9 +108,9 @@ module _ (w : ℕ) (needs : (job table : List ℕ) → Cost) (costs : (job table
       }
 
 -- at every width, by the costs of the orders' gates
-pub demand1-at : (w : ℕ) → Demand1 w (job-cost w)
+pub demand1-at : (w : ℕ) → Demand1 w (gate-terms w)
 demand1-at w = demanded w (job-cost w) (λ job table. refl)
 
 -- at 32 bits, by document 01's table of costs
-pub demand1 : Demand1 32 table-needs
-demand1 = demanded 32 table-needs (cost-table .job-counts)
+pub demand1 : Demand1 32 job-terms
+demand1 = demanded 32 (λ job table. table-counts (length (rows table)) (orders job)) (cost-table .job-counts)

@@ -5,15 +5,13 @@ use mathlib.Core.List.{List, []}
 use Prim.Native.Nat.{ℕ, _<_}
 use native.Mathlib.Omega.{arith}
 use Rattle.gates.specs.Hosts.{Pair}
-use Rattle.gates.specs.Costs.{Cost}
-use Rattle.jobs.specs.Job.{job-cost}
 use Rattle.calls.specs.Scripts.{script-cost, orders-in}
 use Rattle.calls.specs.Calls.{State}
 use Rattle.runs.specs.Runs.{Stage, Setting, staged, Spoken, ready, going, World, world, Call, lent1, lent2, preparation, held}
 use Rattle.runs.specs.Runs.{Completes, prepares, starts1, starts2, hears1, hears2, given-out, begin, Finished, Accepted}
 use Rattle.demands.specs.Conditions.{places-from, Terms, PreparationIs, of-itself, of-lists, of-buffer, prepares-well}
 use Rattle.demands.specs.Numbers.{Told}
-use Rattle.demands.specs.Demand1.{terms-of, table-needs, Demand1}
+use Rattle.demands.specs.Demand1.{job-terms, gate-terms, Demand1}
 use Rattle.runs.specs.Strict.{Calls, none, completes}
 use Rattle.demands.specs.Whole.{WholeRun, first-world, Whole}
 use Rattle.runs.proofs.Kept.{kept}
@@ -113,9 +111,9 @@ module _ (S : Stage) (E : List ℕ) where
 
 -- ---- a job
 
-module _ (w : ℕ) (needs : (job table : List ℕ) → Cost) (d : Demand1 w needs) (S : Setting) (buf : List ℕ) where
+module _ (w : ℕ) (terms : (job table : List ℕ) → Terms) (d : Demand1 w terms) (S : Setting) (buf : List ℕ) where
   abbrev JobIs : ℕ → ℕ → Type 0
-  JobIs = PreparationIs (terms-of w (S .job) (S .table) (needs (S .job) (S .table))) (S .A) (S .B) buf
+  JobIs = PreparationIs (terms (S .job) (S .table)) (S .A) (S .B) buf
 
   job-prepared : JobIs (preparation (staged w S) buf (S .r1, S .r2) .number) (preparation (staged w S) buf (S .r1, S .r2) .index)
   job-prepared = d .preparing (S .job) (S .table) (S .A) (S .B) buf (S .r1, S .r2)
@@ -138,7 +136,7 @@ whole =
     record {
       accepted = λ S buf r e. accepted S buf r e;
       prepares = λ S buf r acc. not-refused S buf r acc;
-      accepted-job = λ S buf. accepted-job 32 table-needs demand1 S buf;
-      accepted-at = λ w S buf. accepted-job w (job-cost w) (demand1-at w) S buf;
+      accepted-job = λ S buf. accepted-job 32 job-terms demand1 S buf;
+      accepted-at = λ w S buf. accepted-job w (gate-terms w) (demand1-at w) S buf;
       whole-run = λ S E buf one two p1 p2 e. whole-run S E buf one two p1 p2 e;
     }

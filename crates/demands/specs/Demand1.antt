@@ -9,7 +9,7 @@ use lib.ListN.{length, replicate}
 use Rattle.gates.specs.Hosts.{Pair}
 use Rattle.tables.specs.Table.{rows}
 use Rattle.gates.specs.Costs.{Cost}
-use Rattle.jobs.specs.Job.{orders, job-gates}
+use Rattle.jobs.specs.Job.{orders, job-gates, job-cost}
 use Rattle.jobs.specs.CostTable.{table-counts}
 use Rattle.jobs.specs.FirstFault.{Numbered}
 use Rattle.calls.specs.Scripts.{Script, job-script}
@@ -29,12 +29,13 @@ terms-of w job table k =
       orders = length (orders job);
     }
 
--- the sum over its orders of document 01's table of costs, which is at 32 bits
-abbrev pub table-needs : (job table : List ℕ) → Cost
-table-needs job table = table-counts (length (rows table)) (orders job)
-
+-- at 32 bits: its counts are the sum over its orders of document 01's table of costs
 abbrev pub job-terms : (job table : List ℕ) → Terms
-job-terms job table = terms-of 32 job table (table-needs job table)
+job-terms job table = terms-of 32 job table (table-counts (length (rows table)) (orders job))
+
+-- at every width: those of its orders' gates
+abbrev pub gate-terms : (w : ℕ) (job table : List ℕ) → Terms
+gate-terms w job table = terms-of w job table (job-cost w job table)
 
 abbrev pub prepare-job : (w : ℕ) (job table A B buffer : List ℕ) (masks : Pair) → Prepared
 prepare-job w job table A B D r = prepare (job-script w job table) A B D r
@@ -50,28 +51,25 @@ hear-job w h job table M D s v = hear (lent h (job-script w job table) M D) s v
 abbrev pub given-back : Pair → State
 given-back r = record { m = r .0 ++ replicate 8 0; mask = r .1 ++ replicate 8 0; order = 0; turn = 0 }
 
--- at the width w, where a job needs what `needs` says: at 32 bits `table-needs`, at every width `job-cost w`
-pub record Demand1 (w : ℕ) (needs : (job table : List ℕ) → Cost) : Type 0 where
+-- at the width w, in these terms: at 32 bits `job-terms`, at every width `gate-terms w`
+pub record Demand1 (w : ℕ) (terms : (job table : List ℕ) → Terms) : Type 0 where
   -- "A call that meets a condition of document 01's list .. gives the number its checking order reaches first", and the
   -- order's index; "every other call completes its work": its number is 0
   pub preparing : (job table A B buffer : List ℕ) (r : Pair)
-      → PreparationIs (terms-of w job table (needs job table)) A B buffer
+      → PreparationIs (terms job table) A B buffer
       (prepare-job w job table A B buffer r .number) (prepare-job w job table A B buffer r .index)
   pub starting : (h : ℕ) (job table M D : List ℕ) (r : Pair)
-      → StartIs (terms-of w job table (needs job table)) h M D
-      (start-job w h job table M D r .number) (start-job w h job table M D r .index)
+      → StartIs (terms job table) h M D (start-job w h job table M D r .number) (start-job w h job table M D r .index)
   pub hearing : (h : ℕ) (job table M D : List ℕ) (s : State) (v : ℕ)
-      → HearingIs (terms-of w job table (needs job table)) h M D (s .order, s .turn)
+      → HearingIs (terms job table) h M D (s .order, s .turn)
       (hear-job w h job table M D s v .number) (hear-job w h job table M D s v .index)
   -- and there is one such number and index
-  pub one-preparation : (job table A B buffer : List ℕ)
-      → Single (PreparationIs (terms-of w job table (needs job table)) A B buffer)
-  pub one-start : (h : ℕ) (job table M D : List ℕ)
-      → Single (StartIs (terms-of w job table (needs job table)) h M D)
+  pub one-preparation : (job table A B buffer : List ℕ) → Single (PreparationIs (terms job table) A B buffer)
+  pub one-start : (h : ℕ) (job table M D : List ℕ) → Single (StartIs (terms job table) h M D)
   pub one-hearing : (h : ℕ) (job table M D : List ℕ) (o x : ℕ)
-      → Single (HearingIs (terms-of w job table (needs job table)) h M D (o, x))
+      → Single (HearingIs (terms job table) h M D (o, x))
   -- a job's script is what these terms say, so that its calls are those of Numbers.antt
-  pub told : (job table : List ℕ) → Told (job-script w job table) (terms-of w job table (needs job table))
+  pub told : (job table : List ℕ) → Told (job-script w job table) (terms job table)
   pub single : (job table : List ℕ) → Single (Numbered w job table)
   -- "and changes no state and no lent word"; "every other number in a refused answer is 0"
   pub preparing-unchanged : (σ : Script) (A B D : List ℕ) (r : Pair) → prepare σ A B D r .number ≢ 0

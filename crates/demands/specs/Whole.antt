@@ -4,13 +4,12 @@ use mathlib.Core.Logic.{_↔_}
 use mathlib.Core.List.{List, []}
 use Prim.Native.Nat.{ℕ, _<_}
 use Rattle.gates.specs.Hosts.{Pair}
-use Rattle.jobs.specs.Job.{job-cost}
 use Rattle.calls.specs.Scripts.{orders-in}
 use Rattle.calls.specs.Calls.{State}
 use Rattle.runs.specs.Runs.{Stage, Setting, staged, Spoken, idle, ready, waiting, going, World, world, Call}
 use Rattle.runs.specs.Runs.{preparation, held, Finished, Accepted}
 use Rattle.demands.specs.Conditions.{PreparationIs}
-use Rattle.demands.specs.Demand1.{terms-of, job-terms}
+use Rattle.demands.specs.Demand1.{job-terms, gate-terms}
 use Rattle.runs.specs.Strict.{Calls}
 
 -- calls from the world v after which host 0 holds these masks and this buffer, hosts 1 and 2 the states one and two,
@@ -45,8 +44,7 @@ pub record Whole : Type 0 where
   pub accepted-job : (S : Setting) (buffer : List ℕ)
       → PreparationIs (job-terms (S .job) (S .table)) (S .A) (S .B) buffer 0 0 ↔ Accepted (staged 32 S) buffer
   pub accepted-at : (w : ℕ) (S : Setting) (buffer : List ℕ)
-      → PreparationIs (terms-of w (S .job) (S .table) (job-cost w (S .job) (S .table))) (S .A) (S .B) buffer 0 0
-      ↔ Accepted (staged w S) buffer
+      → PreparationIs (gate-terms w (S .job) (S .table)) (S .A) (S .B) buffer 0 0 ↔ Accepted (staged w S) buffer
   -- and then, from any registers that open, with whatever kept words and buffer, there are calls that finish every
   -- order, on the masks and the buffer that the preparation returns
   pub whole-run : (S : Stage) (E buffer : List ℕ) (one two : State) → held S one ≡ (S .rm, S .r1)
