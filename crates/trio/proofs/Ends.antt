@@ -1,5 +1,5 @@
 -- Where the three hosts stand at the end of a job, their answers are those of the whole joint walk. Assumes nothing.
-use mathlib.Core.Path.{_≡_, refl, sym, ap, _∙_}
+use mathlib.Core.Path.{_≡_, refl, sym, ap, ap₂, _∙_}
 use mathlib.Core.Logic.{_⊎_, inl, inr}
 use mathlib.Core.List.{List, [], _∷_}
 use Prim.Native.Nat.{ℕ, suc, _+_, _≤_, _<_}
@@ -13,15 +13,14 @@ use Rattle.gates.proofs.Needs.{far-used}
 use Rattle.gates.proofs.Seen.{through}
 use Rattle.calls.specs.Scripts.{Script, script-cost, ends, orders-in, Closed}
 use Rattle.calls.specs.Places.{seek}
-use Rattle.calls.specs.Calls.{State, Answer, word-at, spoken-at, state-of, given}
+use Rattle.calls.specs.Calls.{State, Answer, word-at, spoken-at, state-of}
 use Rattle.runs.specs.Runs.{Stage}
 use Rattle.runs.proofs.Places.{Halted, steps-in, ends-pos, exchange-or-end, seek-pos, shrinks, whole-pos}
 use Rattle.runs.proofs.Counts.{far-at, stands}
 use Rattle.runs.proofs.Kept.{all, j₀}
-use Rattle.runs.proofs.Progress.{unless-zero}
-use Rattle.trio.specs.Together.{Trio, after-preparation, left, end-answer, together}
+use Rattle.trio.specs.Together.{Trio, left, end-answer, together}
 use Rattle.trio.specs.Ran.{ran}
-use Rattle.trio.proofs.Positions.{heard-of, left-of, P, at-n, answer-at, standing, Standing, heard-at}
+use Rattle.trio.proofs.Positions.{heard-of, left-of, P, with-answers, prepared-is, at-n, answer-at, standing, Standing, heard-at}
 
 -- ---- where every step stands in an order, the last ends one: "the end is the number of orders and 0"
 
@@ -144,16 +143,10 @@ module _ (S : Stage) (shut : Closed (S .script .steps)) (buf : List ℕ) (done :
         ∙ ap {B = Answer} (λ (j : Triple). end-answer (S .script) (h j)) state-is
 
     finish-at : standing S buf n ≡ ran S buf
-    unfolding together after-preparation
+    unfolding together
     finish-at =
-        rw (
-          last-is of1 (joint1 (S .A) (S .B)),
-          last-is of2 (joint2 (S .A) (S .B)),
-          unless-zero (P S buf .number) (P S buf .number, P S buf .index) (given (S .rm, S .r1))
-              (end-answer (S .script) (of1 (left-of S))) done,
-          unless-zero (P S buf .number) (P S buf .number, P S buf .index) (given (S .rm, S .r2))
-              (end-answer (S .script) (of2 (left-of S))) done,
-        )
+        ap₂ {C = Trio} (λ (a b : Answer). with-answers S buf a b) (last-is of1 (joint1 (S .A) (S .B))) (last-is of2 (joint2 (S .A) (S .B)))
+        ∙ sym (prepared-is S buf done _ _)
 
   pub finish : (s : Trio) → Standing S buf s → orders-in (S .script) ≤ s .one .state .order → s ≡ ran S buf
   finish s Z l =

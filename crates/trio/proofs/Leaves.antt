@@ -14,16 +14,14 @@ use Rattle.gates.specs.Meaning.{meaning, order-steps, job-steps}
 use Rattle.gates.specs.Walk.{Conf, whole}
 use Rattle.gates.specs.Hosts.{Pair, Triple, of1, of2, act}
 use Rattle.calls.specs.Scripts.{script-cost}
-use Rattle.calls.specs.Calls.{given}
 use Rattle.runs.specs.Runs.{Stage, ready, opened-slot}
 use Rattle.runs.specs.Orders.{slot, after-order, trail, first}
 use Rattle.runs.proofs.Chain.{mark-gate}
 use Rattle.demands.proofs.Demand2.{demand2}
 use Rattle.runs.proofs.Kept.{DealerOk, dealt-all, prepares-ok}
-use Rattle.runs.proofs.Progress.{unless-zero}
-use Rattle.trio.specs.Together.{Trio, after-preparation, left, end-answer, together}
+use Rattle.trio.specs.Together.{Trio, left, end-answer, together}
 use Rattle.trio.specs.Ran.{ran}
-use Rattle.trio.proofs.Positions.{left-of, P}
+use Rattle.trio.proofs.Positions.{left-of, P, with-answers, prepared-is}
 
 -- ---- one order: it leaves what the walk ends with
 
@@ -49,24 +47,10 @@ module _ (S : Stage) (buf : List ℕ) (done : P S buf .number ≡ 0) where
   abbrev end-state : Triple
   end-state = left-of S
 
-  over-is : over
-      ≡ record {
-        number = P S buf .number;
-        index = P S buf .index;
-        deals = P S buf .deals;
-        masks = P S buf .masks;
-        one = end-answer (S .script) (of1 end-state);
-        two = end-answer (S .script) (of2 end-state);
-        buffer = P S buf .buffer;
-      }
-  unfolding together after-preparation
-  over-is =
-      rw (
-        unless-zero (P S buf .number) (P S buf .number, P S buf .index) (given (S .rm, S .r1))
-            (end-answer (S .script) (of1 end-state)) done,
-        unless-zero (P S buf .number) (P S buf .number, P S buf .index) (given (S .rm, S .r2))
-            (end-answer (S .script) (of2 end-state)) done,
-      )
+  -- the last answers
+  pub over-is : over ≡ with-answers S buf (end-answer (S .script) (of1 end-state)) (end-answer (S .script) (of2 end-state))
+  unfolding together
+  over-is = prepared-is S buf done _ _
 
   masks-are : P S buf .masks ≡ (take (S .script .slots) (end-state .1), take (S .script .slots) (end-state .2))
   unfolding left

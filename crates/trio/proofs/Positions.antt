@@ -60,18 +60,30 @@ module _ (S : Stage) (buf : List ℕ) where
         state = state-of (through h (at-n n));
       }
 
-  -- the three hosts there
-  abbrev pub standing : ℕ → Trio
-  standing n =
+  -- the three hosts behind a preparation that is not refused, with these answers of hosts 1 and 2
+  abbrev pub with-answers : (one two : Answer) → Trio
+  with-answers a b =
       record {
         number = P .number;
         index = P .index;
         deals = P .deals;
         masks = P .masks;
-        one = answer-at of1 (joint1 (S .A) (S .B)) n;
-        two = answer-at of2 (joint2 (S .A) (S .B)) n;
+        one = a;
+        two = b;
         buffer = D;
       }
+
+  pub prepared-is : P .number ≡ 0 → (a b : Answer) → after-preparation (S .rm, S .r1, S .r2) P a b ≡ with-answers a b
+  unfolding after-preparation
+  prepared-is done a b =
+      rw (
+        unless-zero (P .number) (P .number, P .index) (given (S .rm, S .r1)) a done,
+        unless-zero (P .number) (P .number, P .index) (given (S .rm, S .r2)) b done,
+      )
+
+  -- the three hosts there
+  abbrev pub standing : ℕ → Trio
+  standing n = with-answers (answer-at of1 (joint1 (S .A) (S .B)) n) (answer-at of2 (joint2 (S .A) (S .B)) n)
 
   pub record Standing (s : Trio) : Type 0 where
     pub n : ℕ
@@ -117,15 +129,7 @@ module _ (S : Stage) (buf : List ℕ) where
 
     -- two answers that went on from position k leave the three standing
     both : (k : ℕ) (t1 t2 r1 r2 : List Pair) (a b : Answer) → Went1 k t1 a r1 → Went2 k t2 b r2
-        → (x : Standing (record {
-          number = P .number;
-          index = P .index;
-          deals = P .deals;
-          masks = P .masks;
-          one = a;
-          two = b;
-          buffer = D;
-        })) × (k ≤ x .n)
+        → (x : Standing (with-answers a b)) × (k ≤ x .n)
     both k t1 t2 r1 r2 a b X Y =
         let e : at-n (Y .to) ≡ at-n (X .to) =
         one-halt (act (S .A) (S .B)) (all S) (j₀ S) k (Y .to) (X .to) (Y .later) (X .later) (Y .halts) (X .halts) (Y .quietly)
@@ -133,9 +137,6 @@ module _ (S : Stage) (buf : List ℕ) where
         let f : b ≡ answer-at of2 (joint2 (S .A) (S .B)) (X .to) = Y .is ∙ ap {B = Answer} (λ (p : Conf Triple). answer-in p) e in
         (record { n = X .to; halts = X .halts; is = ap₂ {C = Trio} (λ (x y : Answer). with-answers x y) (X .is) f }, X .later)
       where
-        with-answers : Answer → Answer → Trio
-        with-answers x y = record { number = P .number; index = P .index; deals = P .deals; masks = P .masks; one = x; two = y; buffer = D }
-
         answer-in : Conf Triple → Answer
         answer-in p =
             record {
@@ -156,22 +157,9 @@ module _ (S : Stage) (buf : List ℕ) where
     unfolding start
     start2-is = unless-zero _ _ _ _ passed2
 
-    begun-is : begun-of S buf
-        ≡ record {
-          number = P .number;
-          index = P .index;
-          deals = P .deals;
-          masks = P .masks;
-          one = start (lent1 S D) (S .rm, S .r1);
-          two = start (lent2 S D) (S .rm, S .r2);
-          buffer = D;
-        }
-    unfolding begun after-preparation
-    begun-is =
-        rw (
-          unless-zero (P .number) (P .number, P .index) (given (S .rm, S .r1)) (start (lent1 S D) (S .rm, S .r1)) done,
-          unless-zero (P .number) (P .number, P .index) (given (S .rm, S .r2)) (start (lent2 S D) (S .rm, S .r2)) done,
-        )
+    begun-is : begun-of S buf ≡ with-answers (start (lent1 S D) (S .rm, S .r1)) (start (lent2 S D) (S .rm, S .r2))
+    unfolding begun
+    begun-is = prepared-is done _ _
 
     pub begun-stands : Standing (begun-of S buf)
     unfolding worker-with start-walk

@@ -7,7 +7,7 @@ use native.Mathlib.Nat.{zero-add}
 use native.Mathlib.Omega.{arith}
 use lib.ListN.{length}
 use Rattle.gates.specs.Steps.{Cursor, origin}
-use Rattle.gates.specs.Hosts.{Pair, of1, of2}
+use Rattle.gates.specs.Hosts.{Pair}
 use Rattle.gates.proofs.Needs.{far-used}
 use Rattle.jobs.specs.Job.{Fault}
 use Rattle.calls.specs.Scripts.{Script, script-cost, orders-in, Orderly}
@@ -17,14 +17,14 @@ use Rattle.demands.specs.Whole.{WholeRun, first-world}
 use Rattle.demands.proofs.Demand1.{demand1}
 use Rattle.runs.proofs.Chain.{job-orderly}
 use Rattle.runs.proofs.Kept.{Ok, ok, go1, go2, kept}
-use Rattle.runs.proofs.Progress.{unless-zero}
 use Rattle.runs.proofs.Strict.{wide-on}
 use Rattle.runs.proofs.Buffers.{buffers}
 use Rattle.runs.proofs.InOrder.{in-order}
 use Rattle.demands.proofs.Whole.{whole}
 use Rattle.trio.specs.Together.{Trio, after-preparation, end-answer, together}
 use Rattle.trio.specs.Ran.{ran, RunTo, TurnedDown, TrioRun}
-use Rattle.trio.proofs.Positions.{left-of, P, D, at-n, standing}
+use Rattle.trio.proofs.Positions.{P, D, at-n, standing}
+use Rattle.trio.proofs.Leaves.{over-is}
 use Rattle.trio.proofs.Ends.{no-step, cur-is, finish}
 
 -- ---- the preparation's number and index
@@ -96,15 +96,6 @@ module _ (S : Stage) (tidy : Orderly (S .script)) (buf : List ℕ) (done : P S b
         words2 = Y .count ∙ ap suc (all-used (Y .n) (no-step S (tidy .closed) buf done (Y .n) (Y .halts) k2));
       }
 
-  -- the last answers
-  one-is : ran S buf .one ≡ end-answer (S .script) (of1 (left-of S))
-  unfolding together after-preparation
-  one-is = unless-zero (P S buf .number) (P S buf .number, P S buf .index) (given (S .rm, S .r1)) _ done
-
-  two-is : ran S buf .two ≡ end-answer (S .script) (of2 (left-of S))
-  unfolding together after-preparation
-  two-is = unless-zero (P S buf .number) (P S buf .number, P S buf .index) (given (S .rm, S .r2)) _ done
-
   -- a host at the end
   record Last (a : Answer) : Type 0 where
     pub number : a .number ≡ 0
@@ -138,8 +129,8 @@ module _ (S : Stage) (tidy : Orderly (S .script)) (buf : List ℕ) (done : P S b
         let e = ends (r .0) (r .1) (r .2) in
         let W : Whole (ran S buf .one .state) (ran S buf .two .state) = moved (r .0) (r .1) _ _ (e .one) (e .two) (r .2) in
         let k = ends (ran S buf .one .state) (ran S buf .two .state) W in
-        let a = last-of (ran S buf .one) _ one-is in
-        let b = last-of (ran S buf .two) _ two-is in
+        let a = last-of (ran S buf .one) _ (ap (λ (t : Trio). t .one) (over-is S buf done)) in
+        let b = last-of (ran S buf .two) _ (ap (λ (t : Trio). t .two) (over-is S buf done)) in
         let R = wide-on S (begin begins) (W .run) in
         record {
           whole = W;
