@@ -1,153 +1,158 @@
 -- What an order of each kind opens, proved for every run that finishes it. Assumes nothing.
 use mathlib.Core.Path.{_≡_, sym, ap, _∙_}
-use Prim.Native.Nat.{ℕ, _^_, _≤_, _<_}
+use Prim.Native.Nat.{ℕ, _-_, _^_, _≤_, _<_}
+use native.Mathlib.Omega.{arith}
 use borrow.Author.Tests.{ltb-false}
-use lib.Dec.{T, eqb, ltb, lit≤, lit<}
+use lib.Dec.{T, eqb, ltb}
 use lib.IntN.{ℤ, pos, negℤ, _+ℤ_, _-ℤ_, _*ℤ_}
-use Rattle.words.specs.Words.{add, numbers}
+use Rattle.words.specs.Words.{add}
 use Rattle.words.specs.Signed.{floor, signed, wrap, in-range}
 use Rattle.words.proofs.Words.{add-lt, sub-lt}
 use Rattle.words.proofs.Signed.{signed-shr, wrap-signed}
 use Rattle.truncations.specs.Truncation.{one-bit, slip}
-use Rattle.shares.specs.Gates.{value, mask}
 use Rattle.tables.specs.Table.{rows}
 use Rattle.curves.specs.Curve.{relu, word-curve, word-scaled}
 use Rattle.curves.proofs.WordCurve.{in-range-reads}
 use Rattle.curves.proofs.Segments.{same-sum, scaled-lt}
 use Rattle.programs.specs.Opens.{curve-value, values}
-use Rattle.programs.proofs.Readings.{sum-reads, difference-reads, product-reads, plus-reads, times-reads, slack-reads, relu-reads, one-bit-reads}
+use Rattle.programs.proofs.Readings.{sum-reads, difference-reads, product-reads, plus-reads, times-reads, slack-reads}
+use Rattle.programs.proofs.Readings.{relu-reads, one-bit-reads}
 use Rattle.jobs.specs.Job.{ill-fourth, ill-fourths}
 use Rattle.jobs.proofs.Accepted.{or-false}
 use Rattle.runs.specs.Runs.{Setting, staged, World}
-use Rattle.runs.specs.Orders.{slot, before-order, order-of, refresh-mask, reading, opens, Finishes}
+use Rattle.runs.specs.Orders.{order-of, refresh-mask, source-value, source-mask, second-value, reading, opens, Finishes}
 use Rattle.demands.specs.Demand3.{Y-of, Exact, OneBit}
-use Rattle.runs.specs.Readings.{reading-of, mask-of}
-use Rattle.demands.specs.ByKind.{reduced, second-reading, shift, L-of, m-of, W-of, ByKind}
-use Rattle.runs.proofs.Opened.{order-good}
-use Rattle.runs.proofs.InJob.{in-job, checked}
-use Rattle.demands.proofs.Curves.{source-word, of-kind, rules-kept, curve-opens}
+use Rattle.demands.specs.ByKind.{reduced, second-reading, shift, m-of, W-of, ByKind}
+use Rattle.demands.proofs.Curves.{good, rules-kept, kind-value, of-kind, curve-opens}
 
--- a word opened
-abbrev opened : ℕ → ℕ × ℤ
-opened n = (0, signed 32 n)
-
-module _ (S : Setting) (q : ℕ) (v : World) (F : Finishes 32 (staged 32 S) q v) where
+module _ (w : ℕ) (wide : 12 < w) (S : Setting) (q : ℕ) (v : World) (F : Finishes w (staged w S) q v) where
   abbrev x : ℕ
-  x = source-word S q v F
+  x = source-value w S q
 
   abbrev y : ℕ
-  y = value (numbers 32) (slot (before-order (staged 32 S) q) (order-of S q .fourth))
+  y = second-value w S q
 
   abbrev L : ℕ
-  L = mask (numbers 32) (slot (before-order (staged 32 S) q) (order-of S q .source))
+  L = source-mask w S q
 
-  hx : x < 2 ^ 32
-  hx = sub-lt 32 _ _
+  hx : x < 2 ^ w
+  hx = sub-lt w _ _
 
-  hy : y < 2 ^ 32
-  hy = sub-lt 32 _ _
+  hy : y < 2 ^ w
+  hy = sub-lt w _ _
 
-  hL : L < 2 ^ 32
-  hL = add-lt 32 _ _
+  hL : L < 2 ^ w
+  hL = add-lt w _ _
 
-  sum : order-of S q .kind ≡ 0 → opens 32 S v q ≡ (0, reduced (reading 32 S q +ℤ second-reading S q))
-  unfolding values reduced reading second-reading reading-of
-  sum e = of-kind S q v F 0 e ∙ ap opened (sum-reads 32 x hx y hy)
+  one : 1 ≤ w
+  one = omega arith
 
-  difference : order-of S q .kind ≡ 1 → opens 32 S v q ≡ (0, reduced (reading 32 S q -ℤ second-reading S q))
-  unfolding values reduced reading second-reading reading-of
-  difference e = of-kind S q v F 1 e ∙ ap opened (difference-reads 32 x hx y hy)
+  two : 2 ≤ w
+  two = omega arith
 
-  plus-constant : order-of S q .kind ≡ 2 → opens 32 S v q ≡ (0, reduced (reading 32 S q +ℤ pos (order-of S q .fourth)))
+  -- an order of kind n whose value is that of a word, or reads a whole number
+  as-word : (n : ℕ) {m : ℕ} → order-of S q .kind ≡ n → kind-value w S q n ≡ m → opens w S v q ≡ (0, signed w m)
+  as-word n k e = of-kind w wide S q v F n k ∙ ap {B = ℕ × ℤ} (λ (m : ℕ). (0, signed w m)) e
+
+  as-number : (n : ℕ) {z : ℤ} → order-of S q .kind ≡ n → signed w (kind-value w S q n) ≡ z → opens w S v q ≡ (0, z)
+  as-number n k e = of-kind w wide S q v F n k ∙ ap {B = ℕ × ℤ} (λ (z : ℤ). (0, z)) e
+
+  sum : order-of S q .kind ≡ 0 → opens w S v q ≡ (0, reduced w (reading w S q +ℤ second-reading w S q))
+  unfolding values reduced reading second-reading
+  sum k = as-word 0 k (sum-reads w x hx y hy)
+
+  difference : order-of S q .kind ≡ 1 → opens w S v q ≡ (0, reduced w (reading w S q -ℤ second-reading w S q))
+  unfolding values reduced reading second-reading
+  difference k = as-word 1 k (difference-reads w x hx y hy)
+
+  plus-constant : order-of S q .kind ≡ 2 → opens w S v q ≡ (0, reduced w (reading w S q +ℤ pos (order-of S q .fourth)))
   unfolding values reduced reading
-  plus-constant e = of-kind S q v F 2 e ∙ ap opened (plus-reads 32 x hx (order-of S q .fourth))
+  plus-constant k = as-word 2 k (plus-reads w x hx (order-of S q .fourth))
 
-  times-constant : order-of S q .kind ≡ 3 → opens 32 S v q ≡ (0, reduced (reading 32 S q *ℤ pos (order-of S q .fourth)))
+  times-constant : order-of S q .kind ≡ 3 → opens w S v q ≡ (0, reduced w (reading w S q *ℤ pos (order-of S q .fourth)))
   unfolding values reduced reading
-  times-constant e = of-kind S q v F 3 e ∙ ap opened (times-reads 32 x hx (order-of S q .fourth))
+  times-constant k = as-word 3 k (times-reads w x hx (order-of S q .fourth))
 
-  product : order-of S q .kind ≡ 4 → opens 32 S v q ≡ (0, reduced (reading 32 S q *ℤ second-reading S q))
-  unfolding values reduced reading second-reading reading-of
-  product e = of-kind S q v F 4 e ∙ ap opened (product-reads 32 x hx y hy)
+  product : order-of S q .kind ≡ 4 → opens w S v q ≡ (0, reduced w (reading w S q *ℤ second-reading w S q))
+  unfolding values reduced reading second-reading
+  product k = as-word 4 k (product-reads w x hx y hy)
 
-  refresh : order-of S q .kind ≡ 5 → opens 32 S v q ≡ (0, reading 32 S q)
+  refresh : order-of S q .kind ≡ 5 → opens w S v q ≡ (0, reading w S q)
   unfolding values reading
-  refresh e = of-kind S q v F 5 e
+  refresh k = of-kind w wide S q v F 5 k
 
   large-slack : order-of S q .kind ≡ 6
-      → opens 32 S v q ≡ (0, reduced (floor (reduced (negℤ (pos (L-of S q)))) (2 ^ shift S q) +ℤ floor (signed 32 (m-of S q)) (2 ^ shift S q)))
-  unfolding values reduced reading L-of mask-of m-of
-  large-slack e = of-kind S q v F 6 e ∙ ap opened (slack-reads 32 (order-of S q .fourth) x L hx hL)
+      → opens w S v q
+      ≡ (0, reduced w (floor (reduced w (negℤ (pos L))) (2 ^ shift S q) +ℤ floor (signed w (m-of w S q)) (2 ^ shift S q)))
+  unfolding values reduced reading m-of
+  large-slack k = as-word 6 k (slack-reads w (shift S q) x L hx hL)
 
   -- "k 1 to 30"
-  shift-low : order-of S q .kind ≡ 7 → shift S q ≤ 30
+  shift-low : order-of S q .kind ≡ 7 → shift S q ≤ w - 2
   unfolding ill-fourth ill-fourths
-  shift-low e =
-      ltb-false 30 (shift S q)
-      (or-false (eqb (shift S q) 0) (ltb 30 (shift S q)) (rw e at (order-good 32 S (F .words) (lit≤ tt) (lit< tt) (checked 32 S q v F .script) q (in-job 32 S q v F) .fourth)) .1)
+  shift-low k =
+      ltb-false (w - 2) (shift S q) (or-false (eqb (shift S q) 0) (ltb (w - 2) (shift S q)) (rw k at (good w S q v F .fourth)) .1)
 
-  one-bit-range : order-of S q .kind ≡ 7 → T (in-range 32 (reading 32 S q))
-      → opens 32 S v q ≡ (0, floor (reading 32 S q) (2 ^ shift S q) +ℤ pos (slip (shift S q) (wrap (shift S q) (reading 32 S q)) (L-of S q)))
-  unfolding values reading L-of mask-of
-  one-bit-range e h = of-kind S q v F 7 e ∙ ap {B = ℕ × ℤ} (λ (z : ℤ). (0, z)) (one-bit-reads 32 (shift S q) x L (lit≤ tt) (shift-low e) hx hL h)
-
-  one-bit-steps : order-of S q .kind ≡ 7 → opens 32 S v q ≡ (0, signed 32 (one-bit 32 (shift S q) (m-of S q) (L-of S q)))
-  unfolding values reading L-of mask-of m-of
-  one-bit-steps e = of-kind S q v F 7 e ∙ ap (λ (m : ℕ). opened (one-bit 32 (shift S q) m L)) (plus-reads 32 x hx L)
-
-  exact-floor : order-of S q .kind ≡ 8 → opens 32 S v q ≡ (0, floor (reading 32 S q) (2 ^ shift S q))
+  one-bit-range : order-of S q .kind ≡ 7 → T (in-range w (reading w S q))
+      → opens w S v q ≡ (0, floor (reading w S q) (2 ^ shift S q) +ℤ pos (slip (shift S q) (wrap (shift S q) (reading w S q)) L))
   unfolding values reading
-  exact-floor e = of-kind S q v F 8 e ∙ ap {B = ℕ × ℤ} (λ (z : ℤ). (0, z)) (signed-shr 32 (shift S q) x (lit≤ tt) hx)
+  one-bit-range k h = as-number 7 k (one-bit-reads w (shift S q) x L two (shift-low k) hx hL h)
 
-  larger : order-of S q .kind ≡ 9 → opens 32 S v q ≡ (0, relu (reading 32 S q))
+  one-bit-steps : order-of S q .kind ≡ 7 → opens w S v q ≡ (0, signed w (one-bit w (shift S q) (m-of w S q) L))
+  unfolding values reading m-of
+  one-bit-steps k = as-word 7 k (ap (λ (m : ℕ). one-bit w (shift S q) m L) (plus-reads w x hx L))
+
+  exact-floor : order-of S q .kind ≡ 8 → opens w S v q ≡ (0, floor (reading w S q) (2 ^ shift S q))
   unfolding values reading
-  larger e = of-kind S q v F 9 e ∙ ap {B = ℕ × ℤ} (λ (z : ℤ). (0, z)) (relu-reads 32 x (lit≤ tt) hx)
+  exact-floor k = as-number 8 k (signed-shr w (shift S q) x one hx)
+
+  larger : order-of S q .kind ≡ 9 → opens w S v q ≡ (0, relu (reading w S q))
+  unfolding values reading
+  larger k = as-number 9 k (relu-reads w x one hx)
 
   -- ---- the curve, for every x
 
-  W-is : word-curve 32 (rows (S .table)) x ≡ W-of S q
+  W-is : word-curve w (rows (S .table)) x ≡ W-of w S q
   unfolding W-of reading
-  W-is = same-sum 32 (rows (S .table)) x ∙ ap (word-scaled 32 (rows (S .table))) (sym (wrap-signed 32 x hx))
+  W-is = same-sum w (rows (S .table)) x ∙ ap (word-scaled w (rows (S .table))) (sym (wrap-signed w x hx))
 
-  W-lt : W-of S q < 2 ^ 32
+  W-lt : W-of w S q < 2 ^ w
   unfolding W-of
-  W-lt = scaled-lt 32 (rows (S .table)) _
+  W-lt = scaled-lt w (rows (S .table)) _
 
-  W-reads : order-of S q .kind ≡ 10 → T (in-range 32 (reading 32 S q)) → signed 32 (W-of S q) ≡ Y-of S q
+  curve-range : 28 ≤ w → order-of S q .kind ≡ 10 → T (in-range w (reading w S q)) → signed w (W-of w S q) ≡ Y-of w S q
   unfolding Y-of reading
-  W-reads k h = ap (signed 32) (sym W-is) ∙ in-range-reads 32 (lit≤ tt) (S .table) (rules-kept S q v F k) x hx h
+  curve-range o k h = ap (signed w) (sym W-is) ∙ in-range-reads w o (S .table) (rules-kept w S q v F k) x hx h
 
-  in-mode : (c : ℕ) → order-of S q .kind ≡ 10 → order-of S q .fourth ≡ c → opens 32 S v q ≡ opened (curve-value 32 (rows (S .table)) c x (refresh-mask 32 S q))
-  in-mode c k m = curve-opens S q v F k ∙ ap (λ (n : ℕ). opened (curve-value 32 (rows (S .table)) n x (refresh-mask 32 S q))) m
-
-  curve-exact : Exact S q → opens 32 S v q ≡ (0, floor (signed 32 (W-of S q)) 4096)
+  curve-exact : Exact S q → opens w S v q ≡ (0, floor (signed w (W-of w S q)) 4096)
   unfolding curve-value
   curve-exact e =
-      in-mode 0 (e .kind) (e .mode)
-      ∙ ap {B = ℕ × ℤ} (λ (z : ℤ). (0, z)) (rw W-is (signed-shr 32 12 (W-of S q) (lit≤ tt) W-lt))
+      curve-opens w wide S q v F 0 (e .kind) (e .mode)
+      ∙ ap {B = ℕ × ℤ} (λ (z : ℤ). (0, z)) (rw W-is (signed-shr w 12 (W-of w S q) one W-lt))
 
-  curve-one-bit : OneBit S q → opens 32 S v q ≡ (0, signed 32 (one-bit 32 12 (add 32 (W-of S q) (refresh-mask 32 S q)) (refresh-mask 32 S q)))
+  curve-one-bit : OneBit S q → opens w S v q ≡ (0, signed w (one-bit w 12 (add w (W-of w S q) (refresh-mask w S q)) (refresh-mask w S q)))
   unfolding curve-value
   curve-one-bit e =
-      in-mode 1 (e .kind) (e .mode)
-      ∙ ap (λ (n : ℕ). opened (one-bit 32 12 (add 32 n (refresh-mask 32 S q)) (refresh-mask 32 S q))) W-is
+      curve-opens w wide S q v F 1 (e .kind) (e .mode)
+      ∙ ap {B = ℕ × ℤ} (λ (n : ℕ). (0, signed w (one-bit w 12 (add w n (refresh-mask w S q)) (refresh-mask w S q)))) W-is
 
-pub by-kind : ByKind
-by-kind =
+-- at every width above the 12 bits that a curve truncates by
+pub by-kind : (w : ℕ) → 12 < w → ByKind w
+by-kind w wide =
     record {
-      sum = sum;
-      difference = difference;
-      plus-constant = plus-constant;
-      times-constant = times-constant;
-      product = product;
-      refresh = refresh;
-      large-slack = large-slack;
-      one-bit-range = one-bit-range;
-      one-bit-steps = one-bit-steps;
-      exact-floor = exact-floor;
-      larger = larger;
-      curve-exact = curve-exact;
-      curve-one-bit = curve-one-bit;
-      curve-sum = same-sum;
-      curve-range = W-reads;
+      sum = sum w wide;
+      difference = difference w wide;
+      plus-constant = plus-constant w wide;
+      times-constant = times-constant w wide;
+      product = product w wide;
+      refresh = refresh w wide;
+      large-slack = large-slack w wide;
+      one-bit-range = one-bit-range w wide;
+      one-bit-steps = one-bit-steps w wide;
+      exact-floor = exact-floor w wide;
+      larger = larger w wide;
+      curve-exact = curve-exact w wide;
+      curve-one-bit = curve-one-bit w wide;
+      curve-sum = same-sum w;
+      curve-range = λ o S q v F. curve-range w wide S q v F o;
     }

@@ -1,5 +1,5 @@
 -- A call that meets no condition does its work, whatever it is lent and given. Assumes nothing.
-use mathlib.Core.Path.{_≡_, refl, sym, ap, ap₂, _∙_}
+use mathlib.Core.Path.{_≡_, refl, sym, ap, _∙_}
 use mathlib.Core.Logic.{inl, inr}
 use mathlib.Core.List.{List, [], _∷_, _++_}
 use Prim.Native.Nat.{ℕ, zero, suc}
@@ -10,9 +10,10 @@ use Rattle.gates.specs.Walk.{far}
 use Rattle.gates.specs.Hosts.{Pair}
 use Rattle.jobs.specs.Job.{Fault}
 use Rattle.calls.specs.Scripts.{Script}
-use Rattle.calls.specs.Places.{Found, found, seek}
+use Rattle.calls.specs.Places.{found, seek}
 use Rattle.calls.specs.Lent.{Lent, dealer-fault, worker-of}
-use Rattle.calls.specs.Calls.{State, Answer, Prepared, fresh, unless, start-walk, start, hear-walk, place-fault, found-of, resume, hear, script-deals, prepare-walk, prepared, prepare}
+use Rattle.calls.specs.Calls.{State, Answer, fresh, unless, start-walk, hear-walk, place-fault, found-of, resume, hear}
+use Rattle.calls.specs.Calls.{script-deals, prepare-walk, prepared, prepare}
 use Rattle.runs.specs.Runs.{Among}
 use Rattle.demands.specs.Conditions.{Place, places-from}
 use Rattle.demands.specs.Completed.{walks-on, Located, Completed}
@@ -38,7 +39,8 @@ seek-to (local d′ m l ∷ pre) ss d e c = seek-to pre ss d e (past (local d′
 seek-to (deal d′ f ∷ pre) ss d e c = seek-to pre ss d e (past (deal d′ f) c)
 seek-to (exchange d′ e′ ∷ pre) ss d e c =
     rw (here-other (far pre (past (exchange d′ e′) c) .order) (far pre (past (exchange d′ e′) c) .turn) c
-    (λ p q. upto-not (c .order) (c .turn) (far pre (past (exchange d′ e′) c)) (upto-far (c .order) (suc (c .turn)) pre (past (exchange d′ e′) c) (behind d′ e′ c)) p q))
+    (λ p q. upto-not (c .order) (c .turn) (far pre (past (exchange d′ e′) c))
+    (upto-far (c .order) (suc (c .turn)) pre (past (exchange d′ e′) c) (behind d′ e′ c)) p q))
     (seek-to pre ss d e (past (exchange d′ e′) c))
 seek-to (end ∷ pre) ss d e c = seek-to pre ss d e (past end c)
 
@@ -58,17 +60,21 @@ prepared-done zero f σ A B buf r e h = refl
 prepared-done (suc k) f σ A B buf r e h = absurd (omega arith)
 
 resumed : (loan : Lent) (s : State) (v : ℕ) (ss : List Step) (c : Cursor) (d : ℕ) (e : Exchange)
-    → resume (worker-of loan) s v (found (exchange d e ∷ ss) c) ≡ walks-on loan ss (past (exchange d e) c) (worker-of loan .hear d e c (s .m, s .mask) v)
+    → resume (worker-of loan) s v (found (exchange d e ∷ ss) c)
+    ≡ walks-on loan ss (past (exchange d e) c) (worker-of loan .hear d e c (s .m, s .mask) v)
 unfolding resume place-fault unless hear-walk
 resumed loan s v ss c d e = refl
 
-module _ (loan : Lent) (s : State) (v : ℕ) (pre ss : List Step) (d : ℕ) (e : Exchange) (is : loan .script .steps ≡ pre ++ (exchange d e ∷ ss))
+module _ (loan : Lent) (s : State) (v : ℕ) (pre ss : List Step) (d : ℕ) (e : Exchange)
+    (is : loan .script .steps ≡ pre ++ (exchange d e ∷ ss))
     (o : s .order ≡ far pre origin .order) (x : s .turn ≡ far pre origin .turn) where
   found-there : found-of loan s ≡ found (exchange d e ∷ ss) (far pre origin)
   unfolding found-of
   found-there = rw (o, x, is) (seek-to pre ss d e origin)
 
-  heard : hear loan s v .number ≡ 0 → hear loan s v ≡ walks-on loan ss (past (exchange d e) (far pre origin)) (worker-of loan .hear d e (far pre origin) (s .m, s .mask) v)
+  heard : hear loan s v .number ≡ 0
+      → hear loan s v ≡ walks-on loan ss (past (exchange d e) (far pre origin))
+      (worker-of loan .hear d e (far pre origin) (s .m, s .mask) v)
   heard h = hear-none loan s v h .1 ∙ ap {B = Answer} (resume (worker-of loan) s v) found-there ∙ resumed loan s v ss (far pre origin) d e
 
 -- ---- every place has its product or refresh

@@ -1,73 +1,85 @@
 -- What a finished order opens after a run: its kind's value; of a curve, the curve's value of its reading. Assumes nothing.
 use mathlib.Core.Path.{_≡_, ap, _∙_}
-use Prim.Native.Nat.{ℕ, suc, _^_, _<_}
-use lib.Dec.{T, lit≤, lit<}
+use Prim.Native.Nat.{ℕ, suc, _^_, _≤_, _<_}
+use native.Mathlib.Omega.{arith}
+use lib.Dec.{T, lit<}
 use lib.IntN.{ℤ, pos, _+ℤ_}
-use lib.ListN.{getD, length}
-use Rattle.words.specs.Words.{numbers}
+use lib.ListN.{getD}
 use Rattle.words.specs.Signed.{floor, signed, wrap}
 use Rattle.truncations.specs.Truncation.{slip}
 use Rattle.words.proofs.Words.{add-lt, sub-lt}
-use Rattle.shares.specs.Gates.{value, mask}
 use Rattle.tables.specs.Table.{rows, keeps-rules}
 use Rattle.programs.specs.Opens.{curve-value, values, order-value}
 use Rattle.programs.proofs.Calibration.{Promised, exact-curve, one-bit-curve}
-use Rattle.jobs.specs.Job.{orders}
-use Rattle.jobs.proofs.Accepted.{curve-ruled}
+use Rattle.jobs.proofs.Accepted.{Good, accepted-orders, curve-ruled}
 use Rattle.runs.specs.Runs.{Setting, staged, World}
-use Rattle.runs.specs.Orders.{slot, before-order, order-of, refresh-mask, reading, opens, Finishes}
+use Rattle.runs.specs.Orders.{order-of, refresh-mask, source-value, source-mask, second-value, reading, opens, Finishes}
 use Rattle.demands.specs.Demand3.{Y-of}
-use Rattle.runs.proofs.Opened.{order-good, order-leaves}
+use Rattle.runs.proofs.Opened.{order-leaves}
 use Rattle.runs.proofs.Opening.{finished-opens}
 use Rattle.runs.proofs.InJob.{in-job, checked}
 
-module _ (S : Setting) (q : ℕ) (v : World) (F : Finishes 32 (staged 32 S) q v) where
-  -- what the order's source opens just before it, as a word
-  abbrev pub source-word : ℕ
-  source-word = value (numbers 32) (slot (before-order (staged 32 S) q) (order-of S q .source))
+-- ---- at every width
 
-  source-lt : source-word < 2 ^ 32
-  source-lt = sub-lt 32 _ _
+-- the order met none of the conditions 3 to 5
+pub good : (w : ℕ) (S : Setting) (q : ℕ) (v : World) → Finishes w (staged w S) q v → Good w (keeps-rules (S .table)) (order-of S q)
+unfolding order-of
+good w S q v F = accepted-orders w (S .job) (S .table) (checked w S q v F .script) q (in-job w S q v F) _
 
-  mask-lt : refresh-mask 32 S q < 2 ^ 32
+-- so a curve's table keeps the rules
+pub rules-kept : (w : ℕ) (S : Setting) (q : ℕ) (v : World) → Finishes w (staged w S) q v → order-of S q .kind ≡ 10
+    → T (keeps-rules (S .table))
+rules-kept w S q v F k = rw (curve-ruled w (keeps-rules (S .table)) (order-of S q) (good w S q v F) k .1) tt
+
+-- the value of kind n on what order q finds
+abbrev pub kind-value : (w : ℕ) → Setting → (q n : ℕ) → ℕ
+kind-value w S q n =
+    getD (values w (rows (S .table)) (order-of S q .fourth) (source-value w S q) (second-value w S q) (source-mask w S q)
+    (refresh-mask w S q)) n 0
+
+module _ (w : ℕ) (wide : 12 < w) (S : Setting) (q : ℕ) (v : World) (F : Finishes w (staged w S) q v) where
+  low : 2 ≤ w
+  low = omega arith
+
+  -- an order of kind n opens that kind's value
+  pub of-kind : (n : ℕ) → order-of S q .kind ≡ n → opens w S v q ≡ (0, signed w (kind-value w S q n))
+  unfolding order-value
+  of-kind n e =
+      finished-opens (staged w S) w v (F .run) q (order-of S q .target) (F .finished)
+      ∙ ap {B = ℕ × ℤ} (λ (x : ℕ). (0, signed w x))
+      (order-leaves w S (F .words) low wide (checked w S q v F .script) q (in-job w S q v F) ∙ ap (kind-value w S q) e)
+
+  -- a curve order opens its curve's value, in its mode
+  pub curve-opens : (mode : ℕ) → order-of S q .kind ≡ 10 → order-of S q .fourth ≡ mode
+      → opens w S v q ≡ (0, signed w (curve-value w (rows (S .table)) mode (source-value w S q) (refresh-mask w S q)))
+  unfolding values
+  curve-opens mode k m =
+      of-kind 10 k
+      ∙ ap {B = ℕ × ℤ} (λ (c : ℕ). (0, signed w (curve-value w (rows (S .table)) c (source-value w S q) (refresh-mask w S q)))) m
+
+-- ---- at 32 bits: a reading that the curve is promised for
+
+module _ (S : Setting) (q : ℕ) (v : World) (F : Finishes 32 (staged 32 S) q v) (k : order-of S q .kind ≡ 10)
+    (p : Promised (S .table) (source-value 32 S q)) where
+  abbrev x : ℕ
+  x = source-value 32 S q
+
+  abbrev R : ℕ
+  R = refresh-mask 32 S q
+
+  mask-lt : R < 2 ^ 32
   unfolding refresh-mask
   mask-lt = add-lt 32 _ _
 
-  -- an order of kind n opens that kind's value
-  pub of-kind : (n : ℕ) → order-of S q .kind ≡ n
-      → opens 32 S v q
-      ≡ (
-        0,
-        signed 32
-            (getD (values 32 (rows (S .table)) (order-of S q .fourth) source-word (value (numbers 32) (slot (before-order (staged 32 S) q) (order-of S q .fourth))) (mask (numbers 32) (slot (before-order (staged 32 S) q) (order-of S q .source))) (refresh-mask 32 S q)) n 0),
-      )
-  unfolding order-value
-  of-kind n e =
-      finished-opens (staged 32 S) 32 v (F .run) q (order-of S q .target) (F .finished)
-      ∙ ap {B = ℕ × ℤ} (λ (x : ℕ). (0, signed 32 x)) (order-leaves 32 S (F .words) (lit≤ tt) (lit< tt) (checked 32 S q v F .script) q (in-job 32 S q v F)
-      ∙ ap (λ (k : ℕ). getD (values 32 (rows (S .table)) (order-of S q .fourth) source-word (value (numbers 32) (slot (before-order (staged 32 S) q) (order-of S q .fourth))) (mask (numbers 32) (slot (before-order (staged 32 S) q) (order-of S q .source))) (refresh-mask 32 S q)) k 0) e)
+  pub exact-opens : order-of S q .fourth ≡ 0 → opens 32 S v q ≡ (0, floor (Y-of 32 S q) 4096)
+  unfolding Y-of reading
+  exact-opens m =
+      curve-opens 32 (lit< tt) S q v F 0 k m
+      ∙ ap {B = ℕ × ℤ} (λ (y : ℤ). (0, y)) (exact-curve (S .table) (rules-kept 32 S q v F k) x (sub-lt 32 _ _) p R)
 
-  -- a curve order opens its curve's value
-  module _ (k : order-of S q .kind ≡ 10) where
-    pub rules-kept : T (keeps-rules (S .table))
-    rules-kept = rw (curve-ruled 32 (keeps-rules (S .table)) (order-of S q) (order-good 32 S (F .words) (lit≤ tt) (lit< tt) (checked 32 S q v F .script) q (in-job 32 S q v F)) k .1) tt
-
-    pub curve-opens : opens 32 S v q ≡ (0, signed 32 (curve-value 32 (rows (S .table)) (order-of S q .fourth) source-word (refresh-mask 32 S q)))
-    unfolding values
-    curve-opens = of-kind 10 k
-
-    -- for a reading that the curve is promised for
-    module _ (p : Promised (S .table) source-word) where
-      pub exact-opens : order-of S q .fourth ≡ 0 → opens 32 S v q ≡ (0, floor (Y-of S q) 4096)
-      unfolding Y-of reading
-      exact-opens m =
-          curve-opens
-          ∙ ap {B = ℕ × ℤ} (λ (c : ℕ). (0, signed 32 (curve-value 32 (rows (S .table)) c source-word (refresh-mask 32 S q)))) m
-          ∙ ap {B = ℕ × ℤ} (λ (x : ℤ). (0, x)) (exact-curve (S .table) rules-kept source-word source-lt p (refresh-mask 32 S q))
-
-      pub one-bit-opens : (c : ℕ) → order-of S q .fourth ≡ suc c → opens 32 S v q ≡ (0, floor (Y-of S q) 4096 +ℤ pos (slip 12 (wrap 12 (Y-of S q)) (refresh-mask 32 S q)))
-      unfolding Y-of reading
-      one-bit-opens c m =
-          curve-opens
-          ∙ ap {B = ℕ × ℤ} (λ (c : ℕ). (0, signed 32 (curve-value 32 (rows (S .table)) c source-word (refresh-mask 32 S q)))) m
-          ∙ ap {B = ℕ × ℤ} (λ (x : ℤ). (0, x)) (one-bit-curve (S .table) rules-kept source-word source-lt p (refresh-mask 32 S q) c mask-lt)
+  pub one-bit-opens : (c : ℕ) → order-of S q .fourth ≡ suc c
+      → opens 32 S v q ≡ (0, floor (Y-of 32 S q) 4096 +ℤ pos (slip 12 (wrap 12 (Y-of 32 S q)) R))
+  unfolding Y-of reading
+  one-bit-opens c m =
+      curve-opens 32 (lit< tt) S q v F (suc c) k m
+      ∙ ap {B = ℕ × ℤ} (λ (y : ℤ). (0, y)) (one-bit-curve (S .table) (rules-kept 32 S q v F k) x (sub-lt 32 _ _) p R c mask-lt)

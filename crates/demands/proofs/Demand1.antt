@@ -1,20 +1,26 @@
--- Demand 1, proved for preparation, starting and hearing: the number and the index of every job's calls, and that a refused call changes nothing. Assumes nothing.
+-- Demand 1, proved for preparation, starting and hearing: the number and the index of every job's calls, and that a
+-- refused call changes nothing. Assumes nothing.
 use mathlib.Core.Path.{_≡_, refl, sym, ap, _∙_, subst}
 use mathlib.Core.Logic.{_≢_}
 use mathlib.Core.List.{List}
 use Prim.Native.Nat.{ℕ, zero, suc}
+use lib.ListN.{length}
+use Rattle.tables.specs.Table.{rows}
 use Rattle.gates.specs.Hosts.{Pair}
-use Rattle.jobs.specs.Job.{Fault, job-fault, job-gates, job-cost}
+use Rattle.gates.specs.Costs.{Cost}
+use Rattle.jobs.specs.Job.{Fault, orders, job-fault, job-gates, job-cost}
+use Rattle.jobs.specs.CostTable.{table-counts}
 use Rattle.jobs.specs.FirstFault.{Numbered, faultless}
 use Rattle.jobs.proofs.FirstFault.{job-number, number-0}
 use Rattle.jobs.proofs.CostTable.{cost-table}
 use Rattle.calls.specs.Scripts.{Script, job-script}
 use Rattle.calls.proofs.Scripts.{job-made}
 use Rattle.calls.specs.Lent.{Lent, lent, lent-fault, dealer-fault, worker-of}
-use Rattle.calls.specs.Calls.{State, Answer, fresh, report, unless, given, start-walk, start, hear-walk, place-fault, found-of, resume, hear, prepared, prepare}
-use Rattle.demands.specs.Conditions.{places-from, Single}
+use Rattle.calls.specs.Calls.{State, Answer, fresh, report, unless, given, start-walk, start, hear-walk, place-fault, found-of}
+use Rattle.calls.specs.Calls.{resume, hear, prepared, prepare}
+use Rattle.demands.specs.Conditions.{places-from, Terms, Single}
 use Rattle.demands.specs.Numbers.{Told}
-use Rattle.demands.specs.Demand1.{terms-of, job-terms, given-back, Demand1}
+use Rattle.demands.specs.Demand1.{terms-of, job-terms, gate-terms, given-back, Demand1}
 use Rattle.runs.proofs.Chain.{job-orders, job-orderly}
 use Rattle.runs.proofs.Refusals.{start-state, hear-state, prepare-back}
 use Rattle.demands.proofs.Placed.{gates-placed}
@@ -23,13 +29,13 @@ use Rattle.demands.proofs.Numbers.{numbers}
 -- ---- a job's terms
 
 module _ (w : ℕ) (job table : List ℕ) where
-  told : Told (job-script w job table) (terms-of w job table (job-cost w job table))
+  told : (needs : Cost) → job-cost w job table ≡ needs → Told (job-script w job table) (terms-of w job table needs)
   unfolding job-cost
-  told =
+  told needs n =
       record {
         none = λ e. let p = number-0 w job table .0 e in faultless (p .0) (p .1);
         some = λ k e. subst (λ (n : ℕ). Numbered w job table n (job-fault w job table .1)) e (job-number w job table _ _ .0 refl);
-        needs = refl;
+        needs = n;
         places = ap (places-from 0 0) (job-made w job table) ∙ gates-placed w 0 (job-gates w job table);
         orders = job-orders w job table;
       }
@@ -39,18 +45,10 @@ module _ (w : ℕ) (job table : List ℕ) where
       let e : _≡_ {A = Fault} (n, i) (m, j) = sym (job-number w job table n i .1 p) ∙ job-number w job table m j .1 q in
       (ap (λ (f : Fault). f .0) e, ap (λ (f : Fault). f .1) e)
 
--- at 32 bits, by the table of costs
-job-told : (job table : List ℕ) → Told (job-script 32 job table) (job-terms job table)
-job-told job table =
-    let t = told 32 job table in
-    record { none = t .none; some = t .some; needs = t .needs ∙ cost-table .job-counts job table; places = t .places; orders = t .orders }
-
-job-single : (job table : List ℕ) → Single (Numbered 32 job table)
-job-single = single 32
-
 -- ---- a refusal's other numbers
 
-prepared-deals : (n : ℕ) (f : Fault) (σ : Script) (A B D : List ℕ) (r : Pair) → prepared n f σ A B D r .number ≢ 0 → prepared n f σ A B D r .deals ≡ 0
+prepared-deals : (n : ℕ) (f : Fault) (σ : Script) (A B D : List ℕ) (r : Pair) → prepared n f σ A B D r .number ≢ 0
+    → prepared n f σ A B D r .deals ≡ 0
 unfolding prepared
 prepared-deals zero f σ A B D r h = absurd (h refl)
 prepared-deals (suc n) f σ A B D r h = refl
@@ -67,7 +65,8 @@ prepare-rest σ A B D r h = prepared-deals (dealer-fault σ A B D .0) (dealer-fa
 
 start-rest : (loan : Lent) (r : Pair) → start loan r .number ≢ 0 → (start loan r .spoken ≡ 0) × (start loan r .word ≡ 0)
 unfolding start
-start-rest loan r h = unless-rest (lent-fault loan .0) (lent-fault loan) (given r) (report (worker-of loan) (start-walk loan r)) h (λ k. absurd (k refl))
+start-rest loan r h =
+    unless-rest (lent-fault loan .0) (lent-fault loan) (given r) (report (worker-of loan) (start-walk loan r)) h (λ k. absurd (k refl))
 
 hear-rest : (loan : Lent) (s : State) (v : ℕ) → hear loan s v .number ≢ 0 → (hear loan s v .spoken ≡ 0) × (hear loan s v .word ≡ 0)
 unfolding hear resume
@@ -82,20 +81,36 @@ start-back : (loan : Lent) (r : Pair) → start loan r .number ≢ 0 → start l
 unfolding given fresh
 start-back loan r h = start-state loan r h
 
-pub demand1 : Demand1
-demand1 =
-    record {
-      preparing = λ job table A B D r. numbers .preparing (job-script 32 job table) (job-terms job table) (job-told job table) A B D r;
-      starting = λ h job table M D r. numbers .starting (lent h (job-script 32 job table) M D) (job-terms job table) (job-told job table) r;
-      hearing = λ h job table M D s v.
-          numbers .hearing (lent h (job-script 32 job table) M D) (job-terms job table) (job-told job table) (job-orderly 32 job table) s v;
-      one-preparation = λ job table. numbers .one-preparation (job-terms job table) (job-single job table);
-      one-start = λ h job table M D. numbers .one-start (job-terms job table) (job-single job table) h M D;
-      one-hearing = λ h job table M D o x.
-          numbers .one-hearing (job-script 32 job table) (job-terms job table) (job-told job table) (job-orderly 32 job table) (job-single job table) h M D o x;
-      told = told;
-      single = single;
-      preparing-unchanged = λ σ A B D r h. let p = prepare-back σ A B D r h in (p .0, p .1, prepare-rest σ A B D r h);
-      starting-unchanged = λ loan r h. let p = start-rest loan r h in (start-back loan r h, p .0, p .1);
-      hearing-unchanged = λ loan s v h. let p = hear-rest loan s v h in (hear-state loan s v h, p .0, p .1);
-    }
+module _ (w : ℕ) (needs : (job table : List ℕ) → Cost) (costs : (job table : List ℕ) → job-cost w job table ≡ needs job table) where
+  abbrev terms : (job table : List ℕ) → Terms
+  terms job table = terms-of w job table (needs job table)
+
+  job-told : (job table : List ℕ) → Told (job-script w job table) (terms job table)
+  job-told job table = told w job table (needs job table) (costs job table)
+
+  demanded : Demand1 w terms
+  demanded =
+      record {
+        preparing = λ job table A B D r. numbers .preparing (job-script w job table) (terms job table) (job-told job table) A B D r;
+        starting = λ h job table M D r. numbers .starting (lent h (job-script w job table) M D) (terms job table) (job-told job table) r;
+        hearing = λ h job table M D s v.
+            numbers .hearing (lent h (job-script w job table) M D) (terms job table) (job-told job table) (job-orderly w job table) s v;
+        one-preparation = λ job table. numbers .one-preparation (terms job table) (single w job table);
+        one-start = λ h job table M D. numbers .one-start (terms job table) (single w job table) h M D;
+        one-hearing = λ h job table M D o x.
+            numbers .one-hearing (job-script w job table) (terms job table) (job-told job table) (job-orderly w job table)
+            (single w job table) h M D o x;
+        told = job-told;
+        single = single w;
+        preparing-unchanged = λ σ A B D r h. let p = prepare-back σ A B D r h in (p .0, p .1, prepare-rest σ A B D r h);
+        starting-unchanged = λ loan r h. let p = start-rest loan r h in (start-back loan r h, p .0, p .1);
+        hearing-unchanged = λ loan s v h. let p = hear-rest loan s v h in (hear-state loan s v h, p .0, p .1);
+      }
+
+-- at every width, by the costs of the orders' gates
+pub demand1-at : (w : ℕ) → Demand1 w (gate-terms w)
+demand1-at w = demanded w (job-cost w) (λ job table. refl)
+
+-- at 32 bits, by document 01's table of costs
+pub demand1 : Demand1 32 job-terms
+demand1 = demanded 32 (λ job table. table-counts (length (rows table)) (orders job)) (cost-table .job-counts)

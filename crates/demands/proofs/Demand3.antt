@@ -9,7 +9,7 @@ use native.Mathlib.Omega.{arith}
 use borrow.Author.Tests.{le-leb, lt-leb}
 use lib.Dec.{T, leb, leb→le, le→leb}
 use lib.IntN.{ℤ, pos, negsuc, _+ℤ_, +ℤ-idr}
-use lib.ListN.{getD, length, length-set}
+use lib.ListN.{length, length-set}
 use lib.Signed.{_≤ℤ_, leZ-yes}
 use Rattle.words.specs.Words.{add}
 use Rattle.words.specs.Signed.{floor, signed, wrap, in-range}
@@ -25,38 +25,38 @@ use Rattle.curves.proofs.Counting.{slips-of-words}
 use Rattle.gates.specs.Steps.{at}
 use Rattle.programs.specs.declared.Order.{Order}
 use Rattle.programs.specs.Programs.{sum-program}
-use Rattle.programs.specs.Costs.{program-cost}
 use Rattle.programs.proofs.Calibration.{Promised, ranged, above}
 use Rattle.jobs.specs.Job.{orders, job-gates, job-cost}
+use Rattle.jobs.specs.FirstFault.{order}
 use Rattle.calls.specs.Scripts.{orders-in}
 use Rattle.runs.specs.Runs.{Stage, Setting, staged, World, Call, Completes, Run, Finished, buffer-of, Accepted}
-use Rattle.runs.specs.Orders.{Words, order-of, used-before, first-counts, refresh-mask, reading, opens, Finishes}
+use Rattle.runs.specs.Orders.{Words, order-of, mask-behind, used-before, first-counts, refresh-mask, source-value, reading, opens, Finishes}
 use Rattle.demands.specs.Demand3.{Y-of, Exact, OneBit, refresh-place, with-word, eqZ, Alike, Demand3}
 use Rattle.runs.proofs.InJob.{in-job, checked}
-use Rattle.demands.proofs.Curves.{source-word, rules-kept, exact-opens, one-bit-opens}
-use Rattle.demands.proofs.Family.{place-needed, reading-same, mask-same}
+use Rattle.demands.proofs.Curves.{rules-kept, exact-opens, one-bit-opens}
+use Rattle.demands.proofs.Family.{word-of-b, place-needed, reading-same, mask-same}
 use Rattle.runs.proofs.Progress.{stuck-ended}
 
 -- ---- a reading in range
 
 module _ (S : Setting) (q : ℕ) (v : World) (F : Finishes 32 (staged 32 S) q v) (h : T (in-range 32 (reading 32 S q))) where
-  in-range-word : Promised (S .table) (source-word S q v F)
+  in-range-word : Promised (S .table) (source-value 32 S q)
   unfolding reading
   in-range-word = ranged h
 
-  exact : Exact S q → opens 32 S v q ≡ (0, floor (Y-of S q) 4096)
+  exact : Exact S q → opens 32 S v q ≡ (0, floor (Y-of 32 S q) 4096)
   exact e = exact-opens S q v F (e .kind) in-range-word (e .mode)
 
-  one-bit : OneBit S q → opens 32 S v q ≡ (0, floor (Y-of S q) 4096 +ℤ pos (slip 12 (wrap 12 (Y-of S q)) (refresh-mask 32 S q)))
+  one-bit : OneBit S q → opens 32 S v q ≡ (0, floor (Y-of 32 S q) 4096 +ℤ pos (slip 12 (wrap 12 (Y-of 32 S q)) (refresh-mask 32 S q)))
   one-bit e = one-bit-opens S q v F (e .kind) in-range-word 0 (e .mode)
 
   near-exact : Exact S q → Near (line (rows (S .table)) (reading 32 S q)) (opens 32 S v q .1)
   unfolding Y-of
-  near-exact e = rw (exact e) (exact-near (S .table) (rules-kept S q v F (e .kind)) (reading 32 S q))
+  near-exact e = rw (exact e) (exact-near (S .table) (rules-kept 32 S q v F (e .kind)) (reading 32 S q))
 
   near-one-bit : OneBit S q → Near (line (rows (S .table)) (reading 32 S q)) (opens 32 S v q .1)
   unfolding Y-of
-  near-one-bit e = rw (one-bit e) (one-bit-near (S .table) (rules-kept S q v F (e .kind)) (reading 32 S q) (refresh-mask 32 S q))
+  near-one-bit e = rw (one-bit e) (one-bit-near (S .table) (rules-kept 32 S q v F (e .kind)) (reading 32 S q) (refresh-mask 32 S q))
 
 -- ---- the count
 
@@ -96,27 +96,27 @@ above-word x n h l =
     (le-or-lt (2 ^ 31) x)
 
 -- what the lists, the job and the table say of an order is the same in runs that are alike
-mask-of : (job table A B : List ℕ) → ℕ → ℕ
-mask-of job table A B q =
-    add 32 (at A (first-counts 32 q (job-gates 32 job table) .a + program-cost 32 (sum-program 32 (getD (orders job) q (record { kind = 0; target = 0; source = 0; fourth = 0 }) .source) (rows table)) .a))
-    (at B (first-counts 32 q (job-gates 32 job table) .b + program-cost 32 (sum-program 32 (getD (orders job) q (record { kind = 0; target = 0; source = 0; fourth = 0 }) .source) (rows table)) .b))
+refresh-by : (w : ℕ) (job table A B : List ℕ) → ℕ → ℕ
+refresh-by w job table A B q =
+    mask-behind w A B (first-counts w q (job-gates w job table)) (sum-program w (order (orders job) q .source) (rows table))
 
-masks-alike : (S S′ : Setting) (q : ℕ) → Alike S S′ → refresh-mask 32 S q ≡ refresh-mask 32 S′ q
-unfolding refresh-mask used-before order-of mask-of
-masks-alike S S′ q e = λ i. mask-of (e .job i) (e .table i) (e .A i) (e .B i) q
+masks-alike : (w : ℕ) (S S′ : Setting) (q : ℕ) → Alike S S′ → refresh-mask w S q ≡ refresh-mask w S′ q
+unfolding refresh-mask used-before order-of refresh-by
+masks-alike w S S′ q e = λ i. refresh-by w (e .job i) (e .table i) (e .A i) (e .B i) q
 
 orders-alike : (S S′ : Setting) (q : ℕ) → Alike S S′ → order-of S q ≡ order-of S′ q
 unfolding order-of
-orders-alike S S′ q e = ap (λ (job : List ℕ). getD (orders job) q (record { kind = 0; target = 0; source = 0; fourth = 0 })) (e .job)
+orders-alike S S′ q e = ap (λ (job : List ℕ). order (orders job) q) (e .job)
 
-module _ (S : Setting) (q : ℕ) (v : World) (F : Finishes 32 (staged 32 S) q v) (k : order-of S q .kind ≡ 10) (l : pos (last-count (rows (S .table))) ≤ℤ reading 32 S q) where
-  above-last : Promised (S .table) (source-word S q v F)
+module _ (S : Setting) (q : ℕ) (v : World) (F : Finishes 32 (staged 32 S) q v) (k : order-of S q .kind ≡ 10)
+    (l : pos (last-count (rows (S .table))) ≤ℤ reading 32 S q) where
+  above-last : Promised (S .table) (source-value 32 S q)
   unfolding reading
-  above-last = let p = above-word (source-word S q v F) (last-count (rows (S .table))) (sub-lt 32 _ _) l in above (p .0) (p .1)
+  above-last = let p = above-word (source-value 32 S q) (last-count (rows (S .table))) (sub-lt 32 _ _) l in above (p .0) (p .1)
 
-  Y-last : Y-of S q ≡ scaled (rows (S .table)) (pos (last-count (rows (S .table))))
+  Y-last : Y-of 32 S q ≡ scaled (rows (S .table)) (pos (last-count (rows (S .table))))
   unfolding Y-of
-  Y-last = scaled-level (S .table) (rules-kept S q v F k) (reading 32 S q) l
+  Y-last = scaled-level (S .table) (rules-kept 32 S q v F k) (reading 32 S q) l
 
   -- by the mode: what the last row opens
   saturated-opens : (mode : ℕ) → order-of S q .fourth ≡ mode
@@ -124,63 +124,79 @@ module _ (S : Setting) (q : ℕ) (v : World) (F : Finishes 32 (staged 32 S) q v)
   unfolding last-value
   saturated-opens zero m = exact-opens S q v F k above-last m ∙ ap {B = ℕ × ℤ} (λ (Y : ℤ). (0, floor Y 4096)) Y-last
   saturated-opens (suc c) m =
-      one-bit-opens S q v F k above-last c m ∙ ap {B = ℕ × ℤ} (λ (Y : ℤ). (0, floor Y 4096 +ℤ pos (slip 12 (wrap 12 Y) (refresh-mask 32 S q)))) Y-last
+      one-bit-opens S q v F k above-last c m
+      ∙ ap {B = ℕ × ℤ} (λ (Y : ℤ). (0, floor Y 4096 +ℤ pos (slip 12 (wrap 12 Y) (refresh-mask 32 S q)))) Y-last
 
-saturated : (S S′ : Setting) (q : ℕ) (v v′ : World) → Alike S S′ → Finishes 32 (staged 32 S) q v → Finishes 32 (staged 32 S′) q v′ → order-of S q .kind ≡ 10
-    → reading 32 S q ≡ pos (last-count (rows (S .table))) → pos (last-count (rows (S .table))) ≤ℤ reading 32 S′ q → opens 32 S v q ≡ opens 32 S′ v′ q
+saturated : (S S′ : Setting) (q : ℕ) (v v′ : World) → Alike S S′ → Finishes 32 (staged 32 S) q v → Finishes 32 (staged 32 S′) q v′
+    → order-of S q .kind ≡ 10
+    → reading 32 S q ≡ pos (last-count (rows (S .table))) → pos (last-count (rows (S .table))) ≤ℤ reading 32 S′ q
+    → opens 32 S v q ≡ opens 32 S′ v′ q
 saturated S S′ q v v′ e F F′ k r l =
     let o = orders-alike S S′ q e in
-    saturated-opens S q v F k (rw r (leZ-yes (le→leb (last-count (rows (S .table))) (last-count (rows (S .table))) (omega arith)))) (order-of S q .fourth) refl
-    ∙ (λ i. (0, last-value (order-of S q .fourth) (scaled (rows (e .table i)) (pos (last-count (rows (e .table i))))) (masks-alike S S′ q e i)))
-    ∙ sym (saturated-opens S′ q v′ F′ (sym (ap (λ (x : Order). x .kind) o) ∙ k) (subst (λ (t : List ℕ). pos (last-count (rows t)) ≤ℤ reading 32 S′ q) (e .table) l) (order-of S q .fourth) (sym (ap (λ (x : Order). x .fourth) o)))
+    saturated-opens S q v F k (rw r (leZ-yes (le→leb (last-count (rows (S .table))) (last-count (rows (S .table))) (omega arith))))
+    (order-of S q .fourth) refl
+    ∙ (λ i. (
+      0,
+      last-value (order-of S q .fourth) (scaled (rows (e .table i)) (pos (last-count (rows (e .table i)))))
+          (masks-alike 32 S S′ q e i),
+    ))
+    ∙ sym (saturated-opens S′ q v′ F′ (sym (ap (λ (x : Order). x .kind) o) ∙ k)
+    (subst (λ (t : List ℕ). pos (last-count (rows t)) ≤ℤ reading 32 S′ q) (e .table) l) (order-of S q .fourth)
+    (sym (ap (λ (x : Order). x .fourth) o)))
 
 -- ---- the family of runs
 
-module _ (S : Setting) (q : ℕ) (v : ℕ → World) (words : Words 32 (staged 32 S)) (F : (a : ℕ) → a < 2 ^ 32 → Finishes 32 (staged 32 (with-word S q a)) q (v a)) (e : OneBit S q)
+module _ (S : Setting) (q : ℕ) (v : ℕ → World) (words : Words 32 (staged 32 S))
+    (F : (a : ℕ) → a < 2 ^ 32 → Finishes 32 (staged 32 (with-word 32 S q a)) q (v a)) (e : OneBit S q)
     (h : T (in-range 32 (reading 32 S q))) where
-  abbrev first-run : Finishes 32 (staged 32 (with-word S q 0)) q (v 0)
+  abbrev first-run : Finishes 32 (staged 32 (with-word 32 S q 0)) q (v 0)
   first-run = F 0 (omega arith)
 
   in-orders : q < length (orders (S .job))
   unfolding with-word
-  in-orders = in-job 32 (with-word S q 0) q (v 0) first-run
+  in-orders = in-job 32 (with-word 32 S q 0) q (v 0) first-run
 
-  place-listed : refresh-place S q < length (S .A)
+  place-listed : refresh-place 32 S q < length (S .A)
   unfolding with-word job-cost
   place-listed =
-      let c = checked 32 (with-word S q 0) q (v 0) first-run in
-      omega (arith, place-needed S q e in-orders, c .a, length-set (S .A) (refresh-place S q) 0)
+      let c = checked 32 (with-word 32 S q 0) q (v 0) first-run in
+      omega (arith, place-needed 32 S q e in-orders, c .a, length-set (S .A) (refresh-place 32 S q) 0)
 
   -- the refresh's word of B
   abbrev b : ℕ
-  b = at (S .B) (used-before 32 S q .b + program-cost 32 (sum-program 32 (order-of S q .source) (rows (S .table))) .b)
+  b = word-of-b 32 S q
 
   abbrev y : ℕ
-  y = wrap 12 (Y-of S q)
+  y = wrap 12 (Y-of 32 S q)
 
   module _ (a : ℕ) (l : a < 2 ^ 32) where
-    same-reading : reading 32 (with-word S q a) q ≡ reading 32 S q
-    same-reading = reading-same S q e a words (F a l .words) in-orders
+    same-reading : reading 32 (with-word 32 S q a) q ≡ reading 32 S q
+    same-reading = reading-same 32 S q a words (F a l .words) in-orders
 
-    word-opens : opens 32 S (v a) q ≡ (0, floor (Y-of S q) 4096 +ℤ pos (slip 12 y (add 32 a b)))
+    word-opens : opens 32 S (v a) q ≡ (0, floor (Y-of 32 S q) 4096 +ℤ pos (slip 12 y (add 32 a b)))
     unfolding with-word order-of Y-of
     word-opens =
-        one-bit (with-word S q a) q (v a) (F a l) (rw same-reading h) (record { kind = e .kind; mode = e .mode })
-        ∙ (λ i. (0, floor (scaled (rows (S .table)) (same-reading i)) 4096 +ℤ pos (slip 12 (wrap 12 (scaled (rows (S .table)) (same-reading i))) (mask-same S q e a place-listed i))))
+        one-bit (with-word 32 S q a) q (v a) (F a l) (rw same-reading h) (record { kind = e .kind; mode = e .mode })
+        ∙ (λ i. (
+          0,
+          floor (scaled (rows (S .table)) (same-reading i)) 4096 +ℤ pos
+              (slip 12 (wrap 12 (scaled (rows (S .table)) (same-reading i))) (mask-same 32 S q a place-listed i)),
+        ))
 
-    gives-one-more : eqZ (opens 32 S (v a) q .1) (floor (Y-of S q) 4096 +ℤ pos 1) ≡ leb 4096 (y + (a + b) % 2 ^ 32 % 4096)
+    gives-one-more : eqZ (opens 32 S (v a) q .1) (floor (Y-of 32 S q) 4096 +ℤ pos 1) ≡ leb 4096 (y + (a + b) % 2 ^ 32 % 4096)
     unfolding slip add
     gives-one-more =
-        ap (λ (p : ℕ × ℤ). eqZ (p .1) (floor (Y-of S q) 4096 +ℤ pos 1)) word-opens
-        ∙ one-more (floor (Y-of S q) 4096) (leb 4096 (y % 4096 + add 32 a b % 4096))
-        ∙ ap (λ (n : ℕ). leb 4096 (n + add 32 a b % 4096)) (mod-eq-of-lt (wrap-lt 12 (Y-of S q)))
+        ap (λ (p : ℕ × ℤ). eqZ (p .1) (floor (Y-of 32 S q) 4096 +ℤ pos 1)) word-opens
+        ∙ one-more (floor (Y-of 32 S q) 4096) (leb 4096 (y % 4096 + add 32 a b % 4096))
+        ∙ ap (λ (n : ℕ). leb 4096 (n + add 32 a b % 4096)) (mod-eq-of-lt (wrap-lt 12 (Y-of 32 S q)))
 
-  slips : count (2 ^ 32) (λ a. eqZ (opens 32 S (v a) q .1) (floor (Y-of S q) 4096 +ℤ pos 1)) ≡ y * 2 ^ 20
-  slips = count-same (2 ^ 32) _ (λ a. leb 4096 (y + (a + b) % 2 ^ 32 % 4096)) gives-one-more ∙ slips-of-words y b (wrap-lt 12 (Y-of S q))
+  slips : count (2 ^ 32) (λ a. eqZ (opens 32 S (v a) q .1) (floor (Y-of 32 S q) 4096 +ℤ pos 1)) ≡ y * 2 ^ 20
+  slips = count-same (2 ^ 32) _ (λ a. leb 4096 (y + (a + b) % 2 ^ 32 % 4096)) gives-one-more ∙ slips-of-words y b (wrap-lt 12 (Y-of 32 S q))
 
 -- ---- every order
 
-finishes : (S : Stage) (v : World) (cs : List Call) → Run S cs v → Accepted S (buffer-of v) → ((c : Call) (v′ : World) → Completes S c v v′ → ⊥)
+finishes : (S : Stage) (v : World) (cs : List Call) → Run S cs v → Accepted S (buffer-of v)
+    → ((c : Call) (v′ : World) → Completes S c v v′ → ⊥)
     → (q : ℕ) → q < orders-in (S .script) → Finished v q
 finishes S v cs r acc n q h =
     let f = stuck-ended S r acc n in

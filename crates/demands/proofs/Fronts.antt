@@ -1,7 +1,7 @@
 -- An order opens what it opens where the script ends with it. Assumes nothing.
 use mathlib.Core.Path.{_≡_, refl, sym, ap, _∙_, subst}
-use mathlib.Core.List.{List, [], _∷_, _++_, map, map-append, append-assoc}
-use Prim.Native.Nat.{ℕ, zero, suc, _+_, _*_, _%_, _≤_, _<_}
+use mathlib.Core.List.{List, [], _∷_, _++_, map, map-append}
+use Prim.Native.Nat.{ℕ, zero, suc, _*_, _≤_, _<_}
 use native.Mathlib.Omega.{arith}
 use lib.ListN.{getD, length, take, drop, length-take, List·getD-append}
 use Rattle.words.specs.Words.{numbers}
@@ -21,16 +21,17 @@ use Rattle.jobs.specs.Job.{orders, job-gates, steps-of}
 use Rattle.jobs.specs.FirstFault.{order, IllSized, no-words, above-256, not-by-4, Meets, Faultless}
 use Rattle.jobs.proofs.FirstFault.{number-0}
 use Rattle.calls.specs.Scripts.{script-cost}
-use Rattle.calls.specs.Calls.{fresh}
 use Rattle.runs.specs.Runs.{Stage, Setting, staged, World, opened-after, Accepted}
 use Rattle.runs.specs.Orders.{first, trail, after-order, slot, order-of, opens, Finishes}
-use Rattle.runs.specs.Returned.{opened-now}
+use Rattle.runs.specs.Returned.{opened-now, UnwrittenFrom}
 use Rattle.demands.specs.Fronts.{Front, up-to, Fronts}
 use Rattle.runs.proofs.Places.{trail-grows}
-use Rattle.runs.proofs.Opening.{finished-order}
+use Rattle.runs.proofs.Chain.{job-orders, job-orderly}
+use Rattle.runs.proofs.Unwritten.{closed-from}
+use Rattle.runs.proofs.Opening.{finished-order, finished-opens}
 use Rattle.runs.proofs.InJob.{in-job}
-use Rattle.demands.proofs.Demand2.{demand2}
-use Rattle.runs.proofs.Returned.{returned}
+use Rattle.runs.proofs.Returned.{now-after}
+use Rattle.demands.proofs.Curves.{good}
 
 -- ---- any script
 
@@ -62,11 +63,13 @@ module _ (S′ S : Stage) (F : Front S′ S) (q : ℕ) (h : q < length (trail S�
       ∙ rw (F .A, F .B, F .steps, first-same) (front-leaves (S′ .A) (S′ .B) (S′ .script .steps) (F .behind) (first S′) q h)
       ∙ sym (left-is S′ q)
 
-same : (S′ S : Stage) → Front S′ S → (q : ℕ) (v v′ : World) → Finishes 32 S q v → Finishes 32 S′ q v′ → (i : ℕ) → opened-after 32 v q i ≡ opened-after 32 v′ q i
-same S′ S F q v v′ G G′ i =
-    demand2 .shares-agree S q i v G
-    ∙ ap {B = ℕ × _} (λ (j : Triple). (0, signed 32 (value (numbers 32) (slot j i)))) (after-same S′ S F q (finished-order S′ v′ (G′ .run) q (G′ .finished)))
-    ∙ sym (demand2 .shares-agree S′ q i v′ G′)
+same : (w : ℕ) (S′ S : Stage) → Front S′ S → (q : ℕ) (v v′ : World) → Finishes w S q v → Finishes w S′ q v′ → (i : ℕ)
+    → opened-after w v q i ≡ opened-after w v′ q i
+same w S′ S F q v v′ G G′ i =
+    finished-opens S w v (G .run) q i (G .finished)
+    ∙ ap {B = ℕ × _} (λ (j : Triple). (0, signed w (value (numbers w) (slot j i))))
+    (after-same S′ S F q (finished-order S′ v′ (G′ .run) q (G′ .finished)))
+    ∙ sym (finished-opens S′ w v′ (G′ .run) q i (G′ .finished))
 
 -- ---- a job's orders up to an index
 
@@ -101,22 +104,31 @@ unfolding job-steps
 steps-append w [] ps = refl
 steps-append w (o ∷ os) ps = ap (order-steps w o) (steps-append w os ps) ∙ order-append w o (job-steps w os) (job-steps w ps)
 
-module _ (S : Setting) (q : ℕ) (hq : q < length (orders (S .job))) where
+module _ (w : ℕ) (S : Setting) (q : ℕ) (hq : q < length (orders (S .job))) where
   abbrev n : ℕ
   n = suc q * 4
 
   at-q : Cut (S .job) (suc q)
   at-q = cut (S .job) (suc q) hq
 
-  steps-split : steps-of 32 (S .job) (S .table) ≡ steps-of 32 (take n (S .job)) (S .table) ++ steps-of 32 (drop n (S .job)) (S .table)
+  steps-split : steps-of w (S .job) (S .table) ≡ steps-of w (take n (S .job)) (S .table) ++ steps-of w (drop n (S .job)) (S .table)
   unfolding steps-of job-gates
   steps-split =
-      ap (λ (os : List Order). job-steps 32 (map (program 32 (rows (S .table))) os)) (at-q .splits)
-      ∙ ap (job-steps 32) (map-append (program 32 (rows (S .table))) (orders (take n (S .job))) (orders (drop n (S .job))))
-      ∙ steps-append 32 _ _
+      ap (λ (os : List Order). job-steps w (map (program w (rows (S .table))) os)) (at-q .splits)
+      ∙ ap (job-steps w) (map-append (program w (rows (S .table))) (orders (take n (S .job))) (orders (drop n (S .job))))
+      ∙ steps-append w _ _
 
-  front : Front (staged 32 (up-to S q)) (staged 32 S)
-  front = record { behind = steps-of 32 (drop n (S .job)) (S .table); steps = steps-split; A = refl; B = refl; rm = refl; r1 = refl; r2 = refl }
+  front : Front (staged w (up-to S q)) (staged w S)
+  front =
+      record {
+        behind = steps-of w (drop n (S .job)) (S .table);
+        steps = steps-split;
+        A = refl;
+        B = refl;
+        rm = refl;
+        r1 = refl;
+        r2 = refl;
+      }
 
   -- the orders are the same
   order-same : (i : ℕ) → i < suc q → order (orders (take n (S .job))) i ≡ order (orders (S .job)) i
@@ -124,12 +136,11 @@ module _ (S : Setting) (q : ℕ) (hq : q < length (orders (S .job))) where
       sym (ap (λ (os : List Order). order os i) (at-q .splits)
       ∙ List·getD-append (orders (take n (S .job))) (orders (drop n (S .job))) _ i (omega (arith, at-q .count)))
 
-  of-same : order-of (up-to S q) q ≡ order-of S q
-  unfolding order-of
-  of-same = order-same q (omega arith)
-
-  none-later : (p : ℕ) → suc q ≤ p → p < length (orders (take n (S .job))) → ⊥
-  none-later p l h = omega (arith, at-q .count)
+  -- and no step comes behind order q
+  none-behind : (i : ℕ) → UnwrittenFrom (staged w (up-to S q)) (suc q) i
+  none-behind i p l =
+      closed-from i (steps-of w (take n (S .job)) (S .table)) (job-orderly w (take n (S .job)) (S .table) .closed) p
+      (omega (arith, job-orders w (take n (S .job)) (S .table), at-q .count))
 
   -- ---- accepted
 
@@ -141,39 +152,40 @@ module _ (S : Setting) (q : ℕ) (hq : q < length (orders (S .job))) where
   well-sized f (above-256 h) = f (above-256 (omega (arith, h, length-is, at-q .fits)))
   well-sized f (not-by-4 h) = h (rw length-is (omega arith))
 
-  still-faultless : Faultless 32 (S .table) (orders (S .job)) → Faultless 32 (S .table) (orders (take n (S .job)))
+  still-faultless : Faultless w (S .table) (orders (S .job)) → Faultless w (S .table) (orders (take n (S .job)))
   still-faultless f i k h m =
-      f i k (omega (arith, h, at-q .count)) (subst (λ (o : Order). Meets 32 (S .table) o k) (order-same i (omega (arith, h, at-q .count))) m)
+      f i k (omega (arith, h, at-q .count)) (subst (λ (o : Order). Meets w (S .table) o k) (order-same i (omega (arith, h, at-q .count))) m)
 
-  cost-less : (script-cost (staged 32 (up-to S q) .script) .a ≤ script-cost (staged 32 S .script) .a)
-      × (script-cost (staged 32 (up-to S q) .script) .b ≤ script-cost (staged 32 S .script) .b)
-      × (script-cost (staged 32 (up-to S q) .script) .deals ≤ script-cost (staged 32 S .script) .deals)
+  cost-less : (script-cost (staged w (up-to S q) .script) .a ≤ script-cost (staged w S .script) .a)
+      × (script-cost (staged w (up-to S q) .script) .b ≤ script-cost (staged w S .script) .b)
+      × (script-cost (staged w (up-to S q) .script) .deals ≤ script-cost (staged w S .script) .deals)
   unfolding plus
   cost-less =
-      let e = ap cost steps-split ∙ cost-append (steps-of 32 (take n (S .job)) (S .table)) (steps-of 32 (drop n (S .job)) (S .table)) in (
+      let e = ap cost steps-split ∙ cost-append (steps-of w (take n (S .job)) (S .table)) (steps-of w (drop n (S .job)) (S .table)) in (
         omega (arith, ap (λ (k : Cost). k .a) e),
         omega (arith, ap (λ (k : Cost). k .b) e),
         omega (arith, ap (λ (k : Cost). k .deals) e),
       )
 
-  accepted : (buf : List ℕ) → Accepted (staged 32 S) buf → Accepted (staged 32 (up-to S q)) buf
+  accepted : (buf : List ℕ) → Accepted (staged w S) buf → Accepted (staged w (up-to S q)) buf
   accepted buf acc =
-      let p = number-0 32 (S .job) (S .table) .0 (acc .script) in
+      let p = number-0 w (S .job) (S .table) .0 (acc .script) in
       record {
-        script = number-0 32 (take n (S .job)) (S .table) .1 (well-sized (p .0), still-faultless (p .1));
+        script = number-0 w (take n (S .job)) (S .table) .1 (well-sized (p .0), still-faultless (p .1));
         a = omega (arith, acc .a, cost-less .0);
         b = omega (arith, acc .b, cost-less .1);
         deals = omega (arith, acc .deals, cost-less .2);
       }
 
-as-last : (S : Setting) (q : ℕ) (v v′ : World) → Finishes 32 (staged 32 S) q v → Finishes 32 (staged 32 (up-to S q)) q v′ → opens 32 S v q ≡ opened-now 32 16 v′ (order-of S q .target)
-as-last S q v v′ F F′ =
-    let hq = in-job 32 S q v F in
-    let t : order-of (up-to S q) q .target ≡ order-of S q .target = ap (λ (o : Order). o .target) (of-same S q hq) in
-    same (staged 32 (up-to S q)) (staged 32 S) (front S q hq) q v v′ F F′ (order-of S q .target)
-    ∙ ap (opened-after 32 v′ q) (sym t)
-    ∙ sym (returned .last-writer (up-to S q) q v′ F′ (λ p l h. absurd (none-later S q hq p l h)))
-    ∙ ap (opened-now 32 16 v′) t
+as-last : (w : ℕ) (S : Setting) (q : ℕ) (v v′ : World) → Finishes w (staged w S) q v → Finishes w (staged w (up-to S q)) q v′
+    → opens w S v q ≡ opened-now w 16 v′ (order-of S q .target)
+as-last w S q v v′ F F′ =
+    let hq = in-job w S q v F in
+    let S′ : Stage = staged w (up-to S q) in
+    let t : ℕ = order-of S q .target in
+    same w S′ (staged w S) (front w S q hq) q v v′ F F′ t
+    ∙ finished-opens S′ w v′ (F′ .run) q t (F′ .finished)
+    ∙ sym (now-after w S′ t (good w S q v F .target) v′ (F′ .run) q (F′ .finished) (none-behind w S q hq t))
 
-pub fronts : Fronts
-fronts = record { same = same; as-last = as-last; accepted = λ S q buf hq acc. accepted S q hq buf acc }
+pub fronts : (w : ℕ) → Fronts w
+fronts w = record { same = same w; as-last = as-last w; accepted = λ S q buf hq acc. accepted w S q hq buf acc }

@@ -10,14 +10,16 @@ use lib.Dec.{eqb, ltb, eqb·suc-zero}
 use lib.ListN.{length}
 use Rattle.gates.specs.Hosts.{Pair}
 use Rattle.gates.specs.Steps.{Step, origin}
-use Rattle.gates.specs.Costs.{Cost}
 use Rattle.jobs.specs.Job.{Fault, short-a, short-b, short-deals}
 use Rattle.calls.specs.Scripts.{Script, script-cost, ends, Orderly}
 use Rattle.calls.specs.Places.{Found}
 use Rattle.calls.specs.Lent.{Lent, or-else, lists-fault, lent-fault, dealer-lists-fault, dealer-fault, worker-of}
-use Rattle.calls.specs.Calls.{State, Answer, report, unless, given, start-walk, start, hear-walk, place-fault, found-of, resume, hear, prepared, prepare}
+use Rattle.calls.specs.Calls.{State, Answer, report, unless, given, start-walk, start, hear-walk, place-fault, found-of, resume}
+use Rattle.calls.specs.Calls.{hear, prepared, prepare}
 use Rattle.runs.specs.Runs.{Among}
-use Rattle.demands.specs.Conditions.{Place, places-from, Terms, Single, PreparationIs, of-itself, of-lists, of-buffer, prepares-well, list-needed, StartIs, stranger, of-its-own, of-its-list, of-its-deals, starts-well, end-place, HearingIs, as-starting, misplaced, ended, hears-well}
+use Rattle.demands.specs.Conditions.{Place, places-from, Terms, Single, PreparationIs, of-itself, of-lists, of-buffer}
+use Rattle.demands.specs.Conditions.{prepares-well, list-needed, StartIs, stranger, of-its-own, of-its-list, of-its-deals}
+use Rattle.demands.specs.Conditions.{starts-well, end-place, HearingIs, as-starting, misplaced, ended, hears-well}
 use Rattle.demands.specs.Numbers.{Told, Numbers}
 use Rattle.demands.proofs.Placed.{last-turn, Placed, a-turn, the-end, nothing, placed, last-turn-0, before-end, gates-placed}
 
@@ -36,18 +38,21 @@ below-of a b = go (ltb a b) refl
 
 -- ---- a fault, or where there is none another number
 
-or-else-is : (Q : ℕ → ℕ → Type 0) (m i n : ℕ) → (m ≡ 0 → Q n 0) → ((k : ℕ) → m ≡ suc k → Q (suc k) i) → Q (or-else (m, i) n .0) (or-else (m, i) n .1)
+or-else-is : (Q : ℕ → ℕ → Type 0) (m i n : ℕ) → (m ≡ 0 → Q n 0) → ((k : ℕ) → m ≡ suc k → Q (suc k) i)
+    → Q (or-else (m, i) n .0) (or-else (m, i) n .1)
 unfolding or-else
 or-else-is Q zero i n h k = h refl
 or-else-is Q (suc m) i n h k = rw (eqb·suc-zero m) (k m refl)
 
-unless-is : (Q : ℕ → ℕ → Type 0) (n : ℕ) (f : Fault) (s : State) (a : Answer) → f .0 ≡ n → (n ≡ 0 → Q (a .number) (a .index)) → ((k : ℕ) → n ≡ suc k → Q n (f .1))
+unless-is : (Q : ℕ → ℕ → Type 0) (n : ℕ) (f : Fault) (s : State) (a : Answer) → f .0 ≡ n → (n ≡ 0 → Q (a .number) (a .index))
+    → ((k : ℕ) → n ≡ suc k → Q n (f .1))
     → Q (unless n f s a .number) (unless n f s a .index)
 unfolding unless
 unless-is Q zero f s a e h k = h refl
 unless-is Q (suc n) f s a e h k = rw e (k n refl)
 
-prepared-is : (Q : ℕ → ℕ → Type 0) (n : ℕ) (f : Fault) (σ : Script) (A B D : List ℕ) (r : Pair) → f .0 ≡ n → (n ≡ 0 → Q 0 0) → ((k : ℕ) → n ≡ suc k → Q n (f .1))
+prepared-is : (Q : ℕ → ℕ → Type 0) (n : ℕ) (f : Fault) (σ : Script) (A B D : List ℕ) (r : Pair) → f .0 ≡ n → (n ≡ 0 → Q 0 0)
+    → ((k : ℕ) → n ≡ suc k → Q n (f .1))
     → Q (prepared n f σ A B D r .number) (prepared n f σ A B D r .index)
 unfolding prepared
 prepared-is Q zero f σ A B D r e h k = h refl
@@ -60,7 +65,8 @@ module _ (σ : Script) (T : Terms) (told : Told σ T) (A B D : List ℕ) where
   unfolding dealer-lists-fault short-a short-b short-deals
   lists-are z =
       rw (told .needs)
-      (go (ltb (length A) (T .needs .a)) (ltb (length B) (T .needs .b)) (ltb (length D) (T .needs .deals)) (below-of _ _) (below-of _ _) (below-of _ _))
+      (go (ltb (length A) (T .needs .a)) (ltb (length B) (T .needs .b)) (ltb (length D) (T .needs .deals)) (below-of _ _) (below-of _ _)
+      (below-of _ _))
     where
       go : (a b d : Bool) → Below (length A) (T .needs .a) a → Below (length B) (T .needs .b) b → Below (length D) (T .needs .deals) d
           → PreparationIs T A B D (cond (a || b) 6 (cond d 7 0)) 0
@@ -83,7 +89,8 @@ module _ (σ : Script) (T : Terms) (told : Told σ T) (A B D : List ℕ) where
   pub preparation-is : (r : Pair) → PreparationIs T A B D (prepare σ A B D r .number) (prepare σ A B D r .index)
   unfolding prepare
   preparation-is r =
-      prepared-is (PreparationIs T A B D) (dealer-fault σ A B D .0) (dealer-fault σ A B D) σ A B D r refl (λ e. index-none dealer-is e) (λ k e. dealer-is)
+      prepared-is (PreparationIs T A B D) (dealer-fault σ A B D .0) (dealer-fault σ A B D) σ A B D r refl (λ e. index-none dealer-is e)
+      (λ k e. dealer-is)
 
 -- ---- starting
 
@@ -114,13 +121,15 @@ module _ (loan : Lent) (T : Terms) (told : Told (loan .script) T) where
   unfolding lent-fault lists-fault short-a short-b short-deals
   lent-is = rw (told .needs) (go (eqb (loan .host) 1) (eqb (loan .host) 2) refl (host-known (loan .host)))
     where
-      two-lists : (b d : Bool) → loan .host ≡ 2 → T .own 0 0 → list-needed T (loan .host) ≡ T .needs .b → Below (length (loan .masks)) (T .needs .b) b
+      two-lists : (b d : Bool) → loan .host ≡ 2 → T .own 0 0 → list-needed T (loan .host) ≡ T .needs .b
+          → Below (length (loan .masks)) (T .needs .b) b
           → Below (length (loan .deals)) (T .needs .deals) d → Starts (cond b 6 (cond d 7 0)) 0
       two-lists true d q z e (below h) l = of-its-list (inr q) z (rw e h)
       two-lists false true q z e (above h) (below l) = of-its-deals q z (rw e h) l
       two-lists false false q z e (above h) (above l) = starts-well (inr q) z (rw e h) (λ u. l)
 
-      one-list : (b : Bool) → loan .host ≡ 1 → T .own 0 0 → list-needed T (loan .host) ≡ T .needs .a → Below (length (loan .masks)) (T .needs .a) b
+      one-list : (b : Bool) → loan .host ≡ 1 → T .own 0 0 → list-needed T (loan .host) ≡ T .needs .a
+          → Below (length (loan .masks)) (T .needs .a) b
           → Starts (cond b 6 0) 0
       one-list true q z e (below h) = of-its-list (inl q) z (rw e h)
       one-list false q z e (above h) = starts-well (inl q) z (rw e h) (λ u. absurd (omega arith))
@@ -130,10 +139,12 @@ module _ (loan : Lent) (T : Terms) (told : Told (loan .script) T) where
           (cond {A = Fault} (a || b) (or-else (loan .script .fault) (lists-of a)) (1, 0) .1)
       go true b t (first q) =
           or-else-is Starts (loan .script .fault .0) (loan .script .fault .1) _
-          (λ e. one-list _ q (told .none e) (rw t) (below-of (length (loan .masks)) (T .needs .a))) (λ k e. of-its-own (inl q) (told .some k e))
+          (λ e. one-list _ q (told .none e) (rw t) (below-of (length (loan .masks)) (T .needs .a)))
+          (λ k e. of-its-own (inl q) (told .some k e))
       go false true t (second q) =
           or-else-is Starts (loan .script .fault .0) (loan .script .fault .1) _
-          (λ e. two-lists _ _ q (told .none e) (rw t) (below-of (length (loan .masks)) (T .needs .b)) (below-of (length (loan .deals)) (T .needs .deals)))
+          (λ e. two-lists _ _ q (told .none e) (rw t) (below-of (length (loan .masks)) (T .needs .b))
+          (below-of (length (loan .deals)) (T .needs .deals)))
           (λ k e. of-its-own (inr q) (told .some k e))
       go false false t (neither p q) = stranger p q
 
@@ -147,7 +158,8 @@ module _ (loan : Lent) (T : Terms) (told : Told (loan .script) T) where
   pub start-is : (r : Pair) → Starts (start loan r .number) (start loan r .index)
   unfolding start
   start-is r =
-      unless-is Starts (lent-fault loan .0) (lent-fault loan) (given r) (report (worker-of loan) (start-walk loan r)) refl (λ e. start-none lent-is e) (λ k e. lent-is)
+      unless-is Starts (lent-fault loan .0) (lent-fault loan) (given r) (report (worker-of loan) (start-walk loan r)) refl
+      (λ e. start-none lent-is e) (λ k e. lent-is)
 
 -- ---- hearing
 
@@ -175,7 +187,8 @@ module _ (loan : Lent) (T : Terms) (told : Told (loan .script) T) (ok : Orderly 
       let e : ends all ≡ 0 + ends all = omega arith in
       place-is z _ (rw e (placed (s .order) (s .turn) all origin))
 
-  resumed-is : Starts loan T told 0 0 → (v : ℕ) → Is (resume (worker-of loan) s v (found-of loan s) .number) (resume (worker-of loan) s v (found-of loan s) .index)
+  resumed-is : Starts loan T told 0 0 → (v : ℕ)
+      → Is (resume (worker-of loan) s v (found-of loan s) .number) (resume (worker-of loan) s v (found-of loan s) .index)
   unfolding resume
   resumed-is z v =
       let f : Found = found-of loan s in

@@ -1,9 +1,10 @@
--- The place that a state names: `seek` finds a product or refresh exactly where the place is listed, and the end exactly there. Assumes nothing.
+-- The place that a state names: `seek` finds a product or refresh exactly where the place is listed, and the end
+-- exactly there. Assumes nothing.
 use mathlib.Core.Path.{_≡_, refl, ap, ap₂, _∙_}
-use mathlib.Core.Logic.{_≢_, inl, inr}
+use mathlib.Core.Logic.{inl, inr}
 use mathlib.Core.Bool.{Bool, true, false, _&&_, cond}
 use mathlib.Core.List.{List, [], _∷_, _++_}
-use Prim.Native.Nat.{ℕ, zero, suc, _+_, _≤_, _<_}
+use Prim.Native.Nat.{ℕ, suc, _+_, _<_}
 use native.Mathlib.Omega.{arith}
 use borrow.Author.Tests.{eqb-true, eqb-false}
 use lib.Dec.{eqb}
@@ -48,7 +49,8 @@ module _ (o x : ℕ) where
       none (inl e) = f (omega (arith, place-order e)) (omega (arith, place-turn e))
       none (inr k) = h k
 
-  at-exchange : (a b : Bool) (p t q y d : ℕ) (e : Exchange) (ss : List Step) (c : Cursor) (f : Found) (ps : List Place) → eqb p o ≡ a → eqb t x ≡ b
+  at-exchange : (a b : Bool) (p t q y d : ℕ) (e : Exchange) (ss : List Step) (c : Cursor) (f : Found) (ps : List Place) → eqb p o ≡ a
+      → eqb t x ≡ b
       → Placed ps q y (place-fault f) → Placed ((p, t) ∷ ps) q y (place-fault (cond (a && b) (found (exchange d e ∷ ss) c) f))
   unfolding place-fault
   at-exchange true true p t q y d e ss c f ps g h z =
@@ -115,10 +117,12 @@ gate-placed w o x (Public d a f) ss = refl
 gate-placed w o x (Deal d a f) ss = refl
 gate-placed w o x (DealBits d a) ss = refl
 
-order-placed : (w o x : ℕ) (gs : List Gate) (ss : List Step) → places-from o x (order-steps w gs ss) ≡ order-places o x gs ++ places-from (suc o) 0 ss
+order-placed : (w o x : ℕ) (gs : List Gate) (ss : List Step)
+    → places-from o x (order-steps w gs ss) ≡ order-places o x gs ++ places-from (suc o) 0 ss
 unfolding order-steps places-from order-places
 order-placed w o x [] ss = refl
-order-placed w o x (g ∷ gs) ss = gate-placed w o x g (order-steps w gs ss) ∙ go (speaks g) (order-placed w o (suc x) gs ss) (order-placed w o x gs ss)
+order-placed w o x (g ∷ gs) ss =
+    gate-placed w o x g (order-steps w gs ss) ∙ go (speaks g) (order-placed w o (suc x) gs ss) (order-placed w o x gs ss)
   where
     go : (b : Bool) → places-from o (suc x) (order-steps w gs ss) ≡ order-places o (suc x) gs ++ places-from (suc o) 0 ss
         → places-from o x (order-steps w gs ss) ≡ order-places o x gs ++ places-from (suc o) 0 ss
@@ -130,4 +134,5 @@ order-placed w o x (g ∷ gs) ss = gate-placed w o x g (order-steps w gs ss) ∙
 pub gates-placed : (w o : ℕ) (gates : List (List Gate)) → places-from o 0 (job-steps w gates) ≡ gate-places o gates
 unfolding job-steps places-from gate-places
 gates-placed w o [] = refl
-gates-placed w o (g ∷ gs) = order-placed w o 0 g (job-steps w gs) ∙ ap (λ (l : List Place). order-places o 0 g ++ l) (gates-placed w (suc o) gs)
+gates-placed w o (g ∷ gs) =
+    order-placed w o 0 g (job-steps w gs) ∙ ap (λ (l : List Place). order-places o 0 g ++ l) (gates-placed w (suc o) gs)

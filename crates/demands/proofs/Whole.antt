@@ -5,19 +5,19 @@ use mathlib.Core.List.{List, []}
 use Prim.Native.Nat.{ℕ, _<_}
 use native.Mathlib.Omega.{arith}
 use Rattle.gates.specs.Hosts.{Pair}
-use Rattle.jobs.specs.Job.{job-fault}
 use Rattle.calls.specs.Scripts.{script-cost, orders-in}
 use Rattle.calls.specs.Calls.{State}
-use Rattle.runs.specs.Runs.{Stage, Setting, staged, Spoken, idle, ready, waiting, going, World, world, Call, lent1, lent2, preparation, held, Completes, prepares, starts1, starts2, hears1, hears2, given-out, begin, Finished, Accepted}
+use Rattle.runs.specs.Runs.{Stage, Setting, staged, Spoken, ready, going, World, world, Call, lent1, lent2, preparation, held}
+use Rattle.runs.specs.Runs.{Completes, prepares, starts1, starts2, hears1, hears2, given-out, begin, Finished, Accepted}
 use Rattle.demands.specs.Conditions.{places-from, Terms, PreparationIs, of-itself, of-lists, of-buffer, prepares-well}
 use Rattle.demands.specs.Numbers.{Told}
-use Rattle.demands.specs.Demand1.{job-terms}
+use Rattle.demands.specs.Demand1.{job-terms, gate-terms, Demand1}
 use Rattle.runs.specs.Strict.{Calls, none, completes}
-use Rattle.demands.specs.Whole.{WholeRun, outset, Whole}
+use Rattle.demands.specs.Whole.{WholeRun, first-world, Whole}
 use Rattle.runs.proofs.Kept.{kept}
 use Rattle.runs.proofs.Progress.{lent1-zero, lent2-zero}
 use Rattle.demands.proofs.Numbers.{preparation-is}
-use Rattle.demands.proofs.Demand1.{demand1}
+use Rattle.demands.proofs.Demand1.{demand1-at, demand1}
 use Rattle.runs.proofs.Strict.{wide-on, start-zero, joined, buffer-kept, carried-with}
 
 module _ (S : Stage) (buf : List ℕ) (r : Pair) where
@@ -59,7 +59,8 @@ module _ (S : Stage) (buf : List ℕ) (r : Pair) where
 -- ---- what every call keeps once the three hosts are at work
 
 data AtWork (m : Pair) (b : List ℕ) : World → Type 0 where
-  at-work : {t t1 t2 : List Pair} {s1 s2 : State} {said1 said2 : List Spoken} → AtWork m b (world (ready m t) b (going s1 t1 said1) (going s2 t2 said2))
+  at-work : {t t1 t2 : List Pair} {s1 s2 : State} {said1 said2 : List Spoken}
+      → AtWork m b (world (ready m t) b (going s1 t1 said1) (going s2 t2 said2))
 
 module _ (S : Stage) (E : List ℕ) where
   works-on : (m : Pair) (b : List ℕ) (c : Call) (v v′ : World) → Completes S c v v′ → AtWork m b v → AtWork m b v′
@@ -68,8 +69,22 @@ module _ (S : Stage) (E : List ℕ) where
 
   done-whole : (m : Pair) (b : List ℕ) (v v′ : World) (cs : List Call) (h1 h2 : List Spoken) → AtWork m b v′ → Calls S E v [] [] cs v′ h1 h2
       → ((q : ℕ) → q < orders-in (S .script) → Finished v′ q) → (one : State) × (two : State) × WholeRun S E v m b one two
-  done-whole m b v _ cs h1 h2 (at-work {t = t} {t1 = t1} {t2 = t2} {s1 = s1} {s2 = s2} {said1 = said1} {said2 = said2}) r f =
-      (s1, s2, record { calls = cs; trail0 = t; trail1 = t1; trail2 = t2; said1 = said1; said2 = said2; heard1 = h1; heard2 = h2; run = r; finished = f })
+  done-whole m b v _ cs h1 h2 (at-work {t = t} {t1 = t1} {t2 = t2} {s1 = s1} {s2 = s2} {said1 = said1} {said2 = said2}) r f = (
+    s1,
+    s2,
+    record {
+      calls = cs;
+      trail0 = t;
+      trail1 = t1;
+      trail2 = t2;
+      said1 = said1;
+      said2 = said2;
+      heard1 = h1;
+      heard2 = h2;
+      run = r;
+      finished = f;
+    },
+  )
 
   module _ (buf : List ℕ) (one two : State) (p1 : held S one ≡ (S .rm, S .r1)) (p2 : held S two ≡ (S .rm, S .r2))
       (e : preparation S buf (S .r1, S .r2) .number ≡ 0) where
@@ -79,7 +94,7 @@ module _ (S : Stage) (E : List ℕ) where
     abbrev b : List ℕ
     b = preparation S buf (S .r1, S .r2) .buffer
 
-    whole-run : (s1 : State) × (s2 : State) × WholeRun S E (outset S buf one two) m b s1 s2
+    whole-run : (s1 : State) × (s2 : State) × WholeRun S E (first-world S buf one two) m b s1 s2
     whole-run =
         let acc : Accepted S buf = accepted S buf (S .r1, S .r2) e in
         let b0 = given-out p1 p2 in
@@ -87,17 +102,21 @@ module _ (S : Stage) (E : List ℕ) where
         let acc′ : Accepted S b = buffer-kept S (prepares e) (kept S (wide-on S (begin b0) c1)) acc in
         let c2 = completes c1 (starts1 E (start-zero S (lent1 S E) (held S one) (lent1-zero S b acc′ E))) refl in
         let c3 = completes c2 (starts2 b refl (start-zero S (lent2 S b) (held S two) (lent2-zero S b acc′ b (acc′ .deals)))) refl in
-        let d = carried-with S E (AtWork m b) (works-on m b) (record { from = outset S buf one two; begins = b0; calls = c3 }) acc′ at-work in
+        let d = carried-with S E (AtWork m b) (works-on m b) (record {
+          from = first-world S buf one two;
+          begins = b0;
+          calls = c3;
+        }) acc′ at-work in
         done-whole m b _ (d .0 .ends-in) _ (d .0 .heard1) (d .0 .heard2) (d .1) (joined S c3 (d .0 .calls)) (d .0 .finished)
 
 -- ---- a job
 
-module _ (S : Setting) (buf : List ℕ) where
+module _ (w : ℕ) (terms : (job table : List ℕ) → Terms) (d : Demand1 w terms) (S : Setting) (buf : List ℕ) where
   abbrev JobIs : ℕ → ℕ → Type 0
-  JobIs = PreparationIs (job-terms (S .job) (S .table)) (S .A) (S .B) buf
+  JobIs = PreparationIs (terms (S .job) (S .table)) (S .A) (S .B) buf
 
-  job-prepared : JobIs (preparation (staged 32 S) buf (S .r1, S .r2) .number) (preparation (staged 32 S) buf (S .r1, S .r2) .index)
-  job-prepared = demand1 .preparing (S .job) (S .table) (S .A) (S .B) buf (S .r1, S .r2)
+  job-prepared : JobIs (preparation (staged w S) buf (S .r1, S .r2) .number) (preparation (staged w S) buf (S .r1, S .r2) .index)
+  job-prepared = d .preparing (S .job) (S .table) (S .A) (S .B) buf (S .r1, S .r2)
 
   none-index : {n i : ℕ} → JobIs n i → n ≡ 0 → JobIs 0 0
   none-index (of-itself q) e = absurd (omega arith)
@@ -105,11 +124,11 @@ module _ (S : Setting) (buf : List ℕ) where
   none-index (of-buffer z h k l) e = absurd (omega arith)
   none-index (prepares-well z h k l) e = prepares-well z h k l
 
-  accepted-job : JobIs 0 0 ↔ Accepted (staged 32 S) buf
+  accepted-job : JobIs 0 0 ↔ Accepted (staged w S) buf
   accepted-job = (
-    λ p. accepted (staged 32 S) buf (S .r1, S .r2)
-        (sym (demand1 .one-preparation (S .job) (S .table) (S .A) (S .B) buf _ _ _ _ p job-prepared .0)),
-    λ acc. none-index job-prepared (not-refused (staged 32 S) buf (S .r1, S .r2) acc),
+    λ p. accepted (staged w S) buf (S .r1, S .r2)
+        (sym (d .one-preparation (S .job) (S .table) (S .A) (S .B) buf _ _ _ _ p job-prepared .0)),
+    λ acc. none-index job-prepared (not-refused (staged w S) buf (S .r1, S .r2) acc),
   )
 
 pub whole : Whole
@@ -117,6 +136,7 @@ whole =
     record {
       accepted = λ S buf r e. accepted S buf r e;
       prepares = λ S buf r acc. not-refused S buf r acc;
-      accepted-job = λ S buf. accepted-job S buf;
+      accepted-job = λ S buf. accepted-job 32 job-terms demand1 S buf;
+      accepted-at = λ w S buf. accepted-job w (gate-terms w) (demand1-at w) S buf;
       whole-run = λ S E buf one two p1 p2 e. whole-run S E buf one two p1 p2 e;
     }

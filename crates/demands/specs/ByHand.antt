@@ -9,7 +9,7 @@ use Rattle.curves.specs.Curve.{scaled}
 use Rattle.programs.specs.declared.Order.{Order}
 use Rattle.programs.specs.Opens.{order-value}
 use Rattle.runs.specs.Runs.{Setting, staged, World}
-use Rattle.runs.specs.Orders.{mask-before, order-of, reading, opens, Finishes}
+use Rattle.runs.specs.Orders.{order-of, source-mask, reading, opens, Finishes}
 use Rattle.demands.specs.Demand3.{Exact}
 
 -- "Exact mode: -2^30 gives 0; 200 gives 0; 201 gives 0; 202 gives 1; 455 gives 249; 456 gives 250; 3571 gives 4248;
@@ -31,7 +31,8 @@ exact-cases = (negℤ (pos 5), 1, negℤ (pos 3)) ∷ (negℤ (pos 1), 31, neg�
 
 -- a curve in exact mode on the house table
 abbrev pub CurveOpens : ℤ × ℤ → Type 0
-CurveOpens c = (S : Setting) (q : ℕ) (v : World) → Finishes 32 (staged 32 S) q v → Exact S q → S .table ≡ house
+CurveOpens c =
+    (S : Setting) (q : ℕ) (v : World) → Finishes 32 (staged 32 S) q v → Exact S q → S .table ≡ house
     → reading 32 S q ≡ c .0 → opens 32 S v q ≡ (0, c .1)
 
 -- order q truncates by k
@@ -42,7 +43,7 @@ pub record Truncates (kind k : ℕ) (S : Setting) (q : ℕ) : Type 0 where
 -- L is the mask of its source, just before it
 abbrev pub OneBitOpens : ℕ × ℤ → Type 0
 OneBitOpens c = (S : Setting) (q : ℕ) (v : World) → Finishes 32 (staged 32 S) q v → Truncates 7 2 S q
-    → reading 32 S q ≡ pos 5 → mask-before 32 (staged 32 S) q (order-of S q .source) ≡ c .0 → opens 32 S v q ≡ (0, c .1)
+    → reading 32 S q ≡ pos 5 → source-mask 32 S q ≡ c .0 → opens 32 S v q ≡ (0, c .1)
 
 abbrev pub ExactOpens : ℤ × ℕ × ℤ → Type 0
 ExactOpens c = (S : Setting) (q : ℕ) (v : World) → Finishes 32 (staged 32 S) q v → Truncates 8 (c .1) S q

@@ -9,7 +9,7 @@ use Rattle.gates.specs.Walk.{walk, whole, far}
 use Rattle.gates.specs.Hosts.{Pair, act0, deals}
 use Rattle.calls.specs.Scripts.{Script}
 use Rattle.calls.specs.Lent.{Lent, worker-of}
-use Rattle.calls.specs.Calls.{State, Answer, Prepared, report, start, hear, prepare}
+use Rattle.calls.specs.Calls.{State, Answer, report, start, hear, prepare}
 use Rattle.runs.specs.Runs.{Among}
 use Rattle.demands.specs.Conditions.{places-from}
 

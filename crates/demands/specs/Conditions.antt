@@ -80,7 +80,8 @@ pub data PreparationIs (T : Terms) (A B buffer : List ℕ) : (number index : ℕ
   -- "7. The deal list or deal buffer is shorter than the job's deals (hosts 0 and 2)."
   of-buffer : T .own 0 0 → T .needs .a ≤ length A → T .needs .b ≤ length B → length buffer < T .needs .deals
       → PreparationIs T A B buffer 7 0
-  prepares-well : T .own 0 0 → T .needs .a ≤ length A → T .needs .b ≤ length B → T .needs .deals ≤ length buffer
+  prepares-well : T .own 0 0 → T .needs .a ≤ length A → T .needs .b ≤ length B
+      → T .needs .deals ≤ length buffer
       → PreparationIs T A B buffer 0 0
 
 -- ---- starting, "1 to 7", of the host with this number, lent its mask list and the deals
@@ -94,7 +95,8 @@ pub data StartIs (T : Terms) (h : ℕ) (masks deals : List ℕ) : (number index 
   stranger : h ≢ 1 → h ≢ 2 → StartIs T h masks deals 1 0
   -- 2 to 5, 6 and 7
   of-its-own : {n i : ℕ} → (h ≡ 1) ⊎ (h ≡ 2) → T .own (suc n) i → StartIs T h masks deals (suc n) i
-  of-its-list : (h ≡ 1) ⊎ (h ≡ 2) → T .own 0 0 → length masks < list-needed T h → StartIs T h masks deals 6 0
+  of-its-list : (h ≡ 1) ⊎ (h ≡ 2) → T .own 0 0 → length masks < list-needed T h
+      → StartIs T h masks deals 6 0
   of-its-deals : h ≡ 2 → T .own 0 0 → list-needed T h ≤ length masks → length deals < T .needs .deals
       → StartIs T h masks deals 7 0
   starts-well : (h ≡ 1) ⊎ (h ≡ 2) → T .own 0 0 → list-needed T h ≤ length masks

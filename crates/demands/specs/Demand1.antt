@@ -1,5 +1,6 @@
 -- The customer's demand 1, of preparation, starting and hearing: the number that the checking order reaches first with
--- the order's index, for every job; and that a refused call, of any script at all, changes nothing. Assumes nothing.
+-- the order's index, for every job and at every width; and that a refused call, of any script at all, changes nothing.
+-- Assumes nothing.
 use mathlib.Core.Path.{_≡_}
 use mathlib.Core.Logic.{_≢_}
 use mathlib.Core.List.{List, _++_}
@@ -28,42 +29,48 @@ terms-of w job table k =
       orders = length (orders job);
     }
 
--- its counts are the sum over its orders of document 01's table of costs
+-- at 32 bits: its counts are the sum over its orders of document 01's table of costs
 abbrev pub job-terms : (job table : List ℕ) → Terms
 job-terms job table = terms-of 32 job table (table-counts (length (rows table)) (orders job))
 
-abbrev pub prepare-job : (job table A B buffer : List ℕ) (masks : Pair) → Prepared
-prepare-job job table A B D r = prepare (job-script 32 job table) A B D r
+-- at every width: those of its orders' gates
+abbrev pub gate-terms : (w : ℕ) (job table : List ℕ) → Terms
+gate-terms w job table = terms-of w job table (job-cost w job table)
 
-abbrev pub start-job : (h : ℕ) (job table masks deals : List ℕ) (registers : Pair) → Answer
-start-job h job table M D r = start (lent h (job-script 32 job table) M D) r
+abbrev pub prepare-job : (w : ℕ) (job table A B buffer : List ℕ) (masks : Pair) → Prepared
+prepare-job w job table A B D r = prepare (job-script w job table) A B D r
 
-abbrev pub hear-job : (h : ℕ) (job table masks deals : List ℕ) → State → (heard : ℕ) → Answer
-hear-job h job table M D s v = hear (lent h (job-script 32 job table) M D) s v
+abbrev pub start-job : (w h : ℕ) (job table masks deals : List ℕ) (registers : Pair) → Answer
+start-job w h job table M D r = start (lent h (job-script w job table) M D) r
+
+abbrev pub hear-job : (w h : ℕ) (job table masks deals : List ℕ) → State → (heard : ℕ) → Answer
+hear-job w h job table M D s v = hear (lent h (job-script w job table) M D) s v
 
 -- "Refused starting gives back the registers it was given .. every other number in a refused answer is 0": so the eight
 -- kept words and the place
 abbrev pub given-back : Pair → State
 given-back r = record { m = r .0 ++ replicate 8 0; mask = r .1 ++ replicate 8 0; order = 0; turn = 0 }
 
-pub record Demand1 : Type 0 where
+-- at the width w, in these terms: at 32 bits `job-terms`, at every width `gate-terms w`
+pub record Demand1 (w : ℕ) (terms : (job table : List ℕ) → Terms) : Type 0 where
   -- "A call that meets a condition of document 01's list .. gives the number its checking order reaches first", and the
   -- order's index; "every other call completes its work": its number is 0
   pub preparing : (job table A B buffer : List ℕ) (r : Pair)
-      → PreparationIs (job-terms job table) A B buffer
-      (prepare-job job table A B buffer r .number) (prepare-job job table A B buffer r .index)
+      → PreparationIs (terms job table) A B buffer
+      (prepare-job w job table A B buffer r .number) (prepare-job w job table A B buffer r .index)
   pub starting : (h : ℕ) (job table M D : List ℕ) (r : Pair)
-      → StartIs (job-terms job table) h M D (start-job h job table M D r .number) (start-job h job table M D r .index)
+      → StartIs (terms job table) h M D (start-job w h job table M D r .number) (start-job w h job table M D r .index)
   pub hearing : (h : ℕ) (job table M D : List ℕ) (s : State) (v : ℕ)
-      → HearingIs (job-terms job table) h M D (s .order, s .turn)
-      (hear-job h job table M D s v .number) (hear-job h job table M D s v .index)
+      → HearingIs (terms job table) h M D (s .order, s .turn)
+      (hear-job w h job table M D s v .number) (hear-job w h job table M D s v .index)
   -- and there is one such number and index
-  pub one-preparation : (job table A B buffer : List ℕ) → Single (PreparationIs (job-terms job table) A B buffer)
-  pub one-start : (h : ℕ) (job table M D : List ℕ) → Single (StartIs (job-terms job table) h M D)
-  pub one-hearing : (h : ℕ) (job table M D : List ℕ) (o x : ℕ) → Single (HearingIs (job-terms job table) h M D (o, x))
-  -- at every width: a job's script is what these terms say, so that its calls are those of Numbers.antt
-  pub told : (w : ℕ) (job table : List ℕ) → Told (job-script w job table) (terms-of w job table (job-cost w job table))
-  pub single : (w : ℕ) (job table : List ℕ) → Single (Numbered w job table)
+  pub one-preparation : (job table A B buffer : List ℕ) → Single (PreparationIs (terms job table) A B buffer)
+  pub one-start : (h : ℕ) (job table M D : List ℕ) → Single (StartIs (terms job table) h M D)
+  pub one-hearing : (h : ℕ) (job table M D : List ℕ) (o x : ℕ)
+      → Single (HearingIs (terms job table) h M D (o, x))
+  -- a job's script is what these terms say, so that its calls are those of Numbers.antt
+  pub told : (job table : List ℕ) → Told (job-script w job table) (terms job table)
+  pub single : (job table : List ℕ) → Single (Numbered w job table)
   -- "and changes no state and no lent word"; "every other number in a refused answer is 0"
   pub preparing-unchanged : (σ : Script) (A B D : List ℕ) (r : Pair) → prepare σ A B D r .number ≢ 0
       → (prepare σ A B D r .masks ≡ r) × (prepare σ A B D r .buffer ≡ D) × (prepare σ A B D r .deals ≡ 0)

@@ -24,15 +24,17 @@ pub record Front (S′ S : Stage) : Type 0 where
 abbrev pub up-to : Setting → (q : ℕ) → Setting
 up-to S q = altered S (take (suc q * 4) (S .job)) (S .A)
 
-pub record Fronts : Type 0 where
+pub record Fronts (w : ℕ) : Type 0 where
   -- of any script: order q opens in every slot what it opens where the script ends sooner
-  pub same : (S′ S : Stage) → Front S′ S → (q : ℕ) (v v′ : World) → Finishes 32 S q v → Finishes 32 S′ q v′ → (i : ℕ)
-      → opened-after 32 v q i ≡ opened-after 32 v′ q i
+  pub same : (S′ S : Stage) → Front S′ S → (q : ℕ) (v v′ : World) → Finishes w S q v
+      → Finishes w S′ q v′ → (i : ℕ)
+      → opened-after w v q i ≡ opened-after w v′ q i
   -- of a job: so what demands 2 and 3 say of an order, a later order having written its target or not, they say of what
   -- the calls return for the job that ends with it
-  pub as-last : (S : Setting) (q : ℕ) (v v′ : World) → Finishes 32 (staged 32 S) q v
-      → Finishes 32 (staged 32 (up-to S q)) q v′
-      → opens 32 S v q ≡ opened-now 32 16 v′ (order-of S q .target)
+  pub as-last : (S : Setting) (q : ℕ) (v v′ : World) → Finishes w (staged w S) q v
+      → Finishes w (staged w (up-to S q)) q v′
+      → opens w S v q ≡ opened-now w 16 v′ (order-of S q .target)
   -- which is accepted where the job is, so that there are such runs
-  pub accepted : (S : Setting) (q : ℕ) (buffer : List ℕ) → q < length (orders (S .job)) → Accepted (staged 32 S) buffer
-      → Accepted (staged 32 (up-to S q)) buffer
+  pub accepted : (S : Setting) (q : ℕ) (buffer : List ℕ) → q < length (orders (S .job))
+      → Accepted (staged w S) buffer
+      → Accepted (staged w (up-to S q)) buffer

@@ -26,11 +26,15 @@ pub record Numbers : Type 1 where
   pub starting : (loan : Lent) (T : Terms) → Told (loan .script) T → (r : Pair)
       → StartIs T (loan .host) (loan .masks) (loan .deals) (start loan r .number) (start loan r .index)
   pub hearing : (loan : Lent) (T : Terms) → Told (loan .script) T → Orderly (loan .script) → (s : State) (v : ℕ)
-      → HearingIs T (loan .host) (loan .masks) (loan .deals) (s .order, s .turn) (hear loan s v .number) (hear loan s v .index)
+      → HearingIs T (loan .host) (loan .masks) (loan .deals) (s .order, s .turn) (hear loan s v .number)
+      (hear loan s v .index)
   -- and each relation holds of one number and one index, where the script's own conditions do
-  pub one-preparation : (T : Terms) → Single (T .own) → (A B buffer : List ℕ) → Single (PreparationIs T A B buffer)
+  pub one-preparation : (T : Terms) → Single (T .own) → (A B buffer : List ℕ)
+      → Single (PreparationIs T A B buffer)
   pub one-start : (T : Terms) → Single (T .own) → (h : ℕ) (M D : List ℕ) → Single (StartIs T h M D)
-  pub one-hearing : (σ : Script) (T : Terms) → Told σ T → Orderly σ → Single (T .own) → (h : ℕ) (M D : List ℕ) (o x : ℕ)
+  pub one-hearing : (σ : Script) (T : Terms) → Told σ T → Orderly σ → Single (T .own)
+      → (h : ℕ) (M D : List ℕ) (o x : ℕ)
       → Single (HearingIs T h M D (o, x))
   -- where the orders are lists of gates, the places are those of their products and refreshes
-  pub gates-placed : (w : ℕ) (gates : List (List Gate)) → places-from 0 0 (job-steps w gates) ≡ gate-places 0 gates
+  pub gates-placed : (w : ℕ) (gates : List (List Gate))
+      → places-from 0 0 (job-steps w gates) ≡ gate-places 0 gates

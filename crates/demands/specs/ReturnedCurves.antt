@@ -19,32 +19,40 @@ use Rattle.demands.specs.Demand3.{Y-of, Exact, OneBit, with-word, eqZ, A
 use Rattle.runs.specs.Returned.{opened-now, UntargetedFrom}
 
 -- a run that finishes order q, and no later order writes its target
-pub record Stays (S : Setting) (q : ℕ) (v : World) : Type 0 where
-  pub finishes : Finishes 32 (staged 32 S) q v
+pub record Stays (w : ℕ) (S : Setting) (q : ℕ) (v : World) : Type 0 where
+  pub finishes : Finishes w (staged w S) q v
   pub last : UntargetedFrom S (suc q) (order-of S q .target)
 
 -- what the order's target now opens
-abbrev pub target-opens : Setting → World → ℕ → ℕ × ℤ
-target-opens S v q = opened-now 32 16 v (order-of S q .target)
+abbrev pub target-opens : (w : ℕ) → Setting → World → ℕ → ℕ × ℤ
+target-opens w S v q = opened-now w 16 v (order-of S q .target)
 
 pub record ReturnedCurves : Type 0 where
-  pub exact : (S : Setting) (q : ℕ) (v : World) → Stays S q v → Exact S q → T (in-range 32 (reading 32 S q))
-      → target-opens S v q ≡ (0, floor (Y-of S q) 4096)
-  pub one-bit : (S : Setting) (q : ℕ) (v : World) → Stays S q v → OneBit S q → T (in-range 32 (reading 32 S q))
-      → target-opens S v q ≡ (0, floor (Y-of S q) 4096 +ℤ pos (slip 12 (wrap 12 (Y-of S q)) (refresh-mask 32 S q)))
+  pub exact : (S : Setting) (q : ℕ) (v : World) → Stays 32 S q v → Exact S q → T (in-range 32 (reading 32 S q))
+      → target-opens 32 S v q ≡ (0, floor (Y-of 32 S q) 4096)
+  pub one-bit : (S : Setting) (q : ℕ) (v : World) → Stays 32 S q v → OneBit S q
+      → T (in-range 32 (reading 32 S q))
+      → target-opens 32 S v q
+      ≡ (0, floor (Y-of 32 S q) 4096 +ℤ pos (slip 12 (wrap 12 (Y-of 32 S q)) (refresh-mask 32 S q)))
   pub slips : (S : Setting) (q : ℕ) (v : ℕ → World) → Words 32 (staged 32 S)
-      → ((a : ℕ) → a < 2 ^ 32 → Stays (with-word S q a) q (v a)) → OneBit S q → T (in-range 32 (reading 32 S q))
-      → count (2 ^ 32) (λ a. eqZ (target-opens S (v a) q .1) (floor (Y-of S q) 4096 +ℤ pos 1)) ≡ wrap 12
-      (Y-of S q) * 2 ^ 20
-  pub near-exact : (S : Setting) (q : ℕ) (v : World) → Stays S q v → Exact S q → T (in-range 32 (reading 32 S q))
-      → Near (line (rows (S .table)) (reading 32 S q)) (target-opens S v q .1)
-  pub near-one-bit : (S : Setting) (q : ℕ) (v : World) → Stays S q v → OneBit S q → T (in-range 32 (reading 32 S q))
-      → Near (line (rows (S .table)) (reading 32 S q)) (target-opens S v q .1)
-  pub saturated : (S S′ : Setting) (q : ℕ) (v v′ : World) → Alike S S′ → Stays S q v → Stays S′ q v′
+      → ((a : ℕ) → a < 2 ^ 32 → Stays 32 (with-word 32 S q a) q (v a)) → OneBit S q
+      → T (in-range 32 (reading 32 S q))
+      → count (2 ^ 32) (λ a. eqZ (target-opens 32 S (v a) q .1) (floor (Y-of 32 S q) 4096 +ℤ pos 1))
+      ≡ wrap 12 (Y-of 32 S q) * 2 ^ 20
+  pub near-exact : (S : Setting) (q : ℕ) (v : World) → Stays 32 S q v → Exact S q
+      → T (in-range 32 (reading 32 S q))
+      → Near (line (rows (S .table)) (reading 32 S q)) (target-opens 32 S v q .1)
+  pub near-one-bit : (S : Setting) (q : ℕ) (v : World) → Stays 32 S q v → OneBit S q
+      → T (in-range 32 (reading 32 S q)) → Near (line (rows (S .table)) (reading 32 S q)) (target-opens 32 S v q .1)
+  pub saturated : (S S′ : Setting) (q : ℕ) (v v′ : World) → Alike S S′ → Stays 32 S q v
+      → Stays 32 S′ q v′
       → order-of S q .kind ≡ 10
-      → reading 32 S q ≡ pos (last-count (rows (S .table))) → pos (last-count (rows (S .table))) ≤ℤ reading 32 S′ q
-      → target-opens S v q ≡ target-opens S′ v′ q
-  -- the 2^32 runs of `slips` exist, whatever the buffer, for every order of an accepted job on words
-  pub family : (S : Setting) (q : ℕ) (buffer : List ℕ) → Words 32 (staged 32 S) → Accepted (staged 32 S) buffer
+      → reading 32 S q ≡ pos (last-count (rows (S .table)))
+      → pos (last-count (rows (S .table))) ≤ℤ reading 32 S′ q
+      → target-opens 32 S v q ≡ target-opens 32 S′ v′ q
+  -- the 2^32 runs of `slips` exist, whatever the buffer, for every order of an accepted job on words: at every width as
+  -- many runs as there are words
+  pub family : (w : ℕ) (S : Setting) (q : ℕ) (buffer : List ℕ) → Words w (staged w S)
+      → Accepted (staged w S) buffer
       → q < length (orders (S .job))
-      → (v : ℕ → World) × ((a : ℕ) → a < 2 ^ 32 → Finishes 32 (staged 32 (with-word S q a)) q (v a))
+      → (v : ℕ → World) × ((a : ℕ) → a < 2 ^ w → Finishes w (staged w (with-word w S q a)) q (v a))

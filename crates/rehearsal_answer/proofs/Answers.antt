@@ -107,17 +107,20 @@ module _ (mode : ℕ) (z : ℤ) (v : Sharing) (e : sharing v ≡ split 32 z firs
     value-in : signed 32 (value (numbers 32) (record { m = s .p1 .m; l1 = s .p1 .l; l2 = s .p2 .l })) ≡ z
     value-in =
         rw (m-is, l1-is, l2-is)
-        (ap (signed 32) (ap (λ (x : Word 32). x .0) (numbers-open 32 .masked-opens (wrap 32 z, wrap-lt 32 z) (first-a, lit< tt) (first-b, lit< tt)))
+        (ap (signed 32)
+        (ap (λ (x : Word 32). x .0) (numbers-open 32 .masked-opens (wrap 32 z, wrap-lt 32 z) (first-a, lit< tt) (first-b, lit< tt)))
         ∙ signed-wrap 32 z (lit≤ tt) (omega (arith, in-range-mag 32 z ranged)))
 
     module _ (r : Trio′) (R : Ran r (trial mode (s .p1 .m) (s .p1 .l) (s .p2 .l))) where
       abbrev opens-of : ℕ × ℤ
-      opens-of = opened-slot 32 (r .masks .l1, r .masks .l2) (r .one .state .m, r .one .state .mask) (r .two .state .m, r .two .state .mask) 0
+      opens-of =
+          opened-slot 32 (r .masks .l1, r .masks .l2) (r .one .state .m, r .one .state .mask) (r .two .state .m, r .two .state .mask) 0
 
       opens-is : opens-of ≡ (0, Spec.value mode z)
       opens-is =
           ap {B = ℕ × ℤ} opens-first (R .is)
-          ∙ value-is mode (s .p1 .m) (s .p1 .l) (s .p2 .l) (rw m-is (add-lt 32 _ _)) (rw l1-is (lit< tt)) (rw l2-is (lit< tt)) z value-in ranged
+          ∙ value-is mode (s .p1 .m) (s .p1 .l) (s .p2 .l) (rw m-is (add-lt 32 _ _)) (rw l1-is (lit< tt))
+          (rw l2-is (lit< tt)) z value-in ranged
 
       deals-is : r .deals ≡ Spec.deals mode
       deals-is = ap (λ (x : Trio). x .deals) (R .is) ∙ deals-are mode _ _ _
@@ -128,9 +131,12 @@ module _ (mode : ℕ) (z : ℤ) (v : Sharing) (e : sharing v ≡ split 32 z firs
       module _ (o : Opening) (g : opening o ≡ opens-of) where
         -- opening never meets 10
         pub agreed : o ≡ Disagree → ⊥
-        agreed d = let k : _≡_ {A = ℕ} 10 0 = sym (ap (λ (x : Opening). opening x .0) d) ∙ ap (λ (x : ℕ × ℤ). x .0) (g ∙ opens-is) in omega (arith, k)
+        agreed d =
+            let k : _≡_ {A = ℕ} 10 0 =
+            sym (ap (λ (x : Opening). opening x .0) d) ∙ ap (λ (x : ℕ × ℤ). x .0) (g ∙ opens-is) in omega (arith, k)
 
-        pub printed : (x : ℤ) → o ≡ Opened x → (t : Buffer) → t ≡ filled 80 (answered mode z x (r .deals) (r .one .spoken + r .two .spoken)) → t ≡ holding (asking mode z)
+        pub printed : (x : ℤ) → o ≡ Opened x → (t : Buffer)
+            → t ≡ filled 80 (answered mode z x (r .deals) (r .one .spoken + r .two .spoken)) → t ≡ holding (asking mode z)
         unfolding answer-of
         printed x d t p =
             let y : x ≡ Spec.value mode z = sym (ap (λ (x : Opening). opening x .1) d) ∙ ap (λ (x : ℕ × ℤ). x .1) (g ∙ opens-is) in

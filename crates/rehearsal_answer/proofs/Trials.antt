@@ -1,57 +1,54 @@
 -- What the rehearsal's three hosts open and count: the curve's value of the reading, and document 01's table. Assumes nothing.
 use mathlib.Core.Path.{_≡_, refl, sym, ap, ap₂, _∙_}
 use mathlib.Core.Bool.{Bool, true, false}
-use mathlib.Core.List.{List, [], _∷_}
+use mathlib.Core.List.{List}
 use Prim.Native.Nat.{ℕ, zero, suc, _+_, _*_, _^_, _<_}
 use native.Mathlib.Nat.{zero-add}
 use native.Mathlib.Omega.{arith}
 use lib.Dec.{T, lit≤, lit<}
 use lib.IntN.{ℤ, pos, _+ℤ_}
-use lib.ListN.{getD, length, replicate}
+use lib.ListN.{length, replicate}
 use lib.Pow.{pow-pos}
-use Rattle.words.specs.Words.{add, sub, numbers}
+use Rattle.words.specs.Words.{add, numbers}
 use Rattle.words.specs.Signed.{floor, signed, wrap, in-range}
 use Rattle.truncations.specs.Truncation.{slip}
 use Rattle.words.proofs.Words.{add-lt, sub-lt}
-use Rattle.shares.specs.Gates.{Share, value, mask}
+use Rattle.shares.specs.Gates.{value, mask}
 use Rattle.tables.specs.Table.{rows, keeps-rules, house}
 use Rattle.curves.specs.Curve.{scaled}
 use Rattle.tables.proofs.HouseTable.{house-keeps-rules}
 use Rattle.gates.specs.Steps.{at}
 use Rattle.gates.specs.Meaning.{job-steps}
-use Rattle.gates.specs.Costs.{Cost, cost-of, cost}
-use Rattle.programs.specs.Programs.{sum-program, curve-exact, curve-one-bit}
+use Rattle.gates.specs.Costs.{Cost, cost-of}
+use Rattle.programs.specs.Programs.{sum-program}
 use Rattle.programs.specs.Orders.{curve-program, kinds, program}
 use Rattle.programs.specs.Opens.{curve-value, values, order-value}
 use Rattle.programs.specs.Costs.{program-cost}
 use Rattle.programs.proofs.Costs.{sum-cost, curve-exact-cost, curve-one-bit-cost}
-use Rattle.programs.proofs.Calibration.{Promised, ranged, exact-curve, one-bit-curve}
-use Rattle.jobs.specs.Job.{orders, ill-sized, unknown-kind, unknown-register, two-sources, ill-fourths, ill-fourth, order-fault, fault-at, orders-fault, job-fault, job-gates, steps-of, job-cost}
+use Rattle.programs.proofs.Calibration.{ranged, exact-curve, one-bit-curve}
+use Rattle.jobs.specs.Job.{orders, ill-sized, unknown-kind, unknown-register, two-sources, ill-fourths, ill-fourth, order-fault}
+use Rattle.jobs.specs.Job.{fault-at, orders-fault, job-fault, job-gates, steps-of, job-cost}
 use Rattle.calls.specs.Scripts.{job-script, script-cost}
 use Rattle.calls.specs.Lent.{or-else, dealer-lists-fault, dealer-fault}
 use Rattle.calls.specs.Calls.{fresh}
 use Rattle.calls.proofs.Faults.{long-enough}
 use Rattle.runs.specs.Runs.{Setting, staged, opened-slot}
-use Rattle.runs.specs.Orders.{Words, slot, first, before-order, after-order, order-of, first-counts, used-before, refresh-mask}
+use Rattle.runs.specs.Orders.{Words, slot, before-order, after-order, order-of, first-counts, used-before, refresh-mask, source-value}
 use Rattle.runs.proofs.Opened.{order-leaves}
-use Rattle.sample_masks.specs.Masks.{multiples}
 use Rattle.sample_masks.proofs.Multiples.{multiples-length, multiples-at, multiples-fit}
 use Rattle.gates.specs.Hosts.{Triple}
-use Rattle.trio.specs.Together.{Trio, left}
-use Rattle.trio.proofs.Positions.{prepare-number, lent-of, given-of, P}
+use Rattle.trio.specs.Together.{Trio}
+use Rattle.trio.proofs.Positions.{prepare-number, left-of, P}
 use Rattle.trio.proofs.Leaves.{left-one, register-opens, words-spoken, deals-dealt}
 use Rattle.rehearsal_answer.specs.Rehearsal as Spec
 use Rattle.rehearsal_answer.specs.Rehearsal.{first-a, first-b, refresh-L}
-use Rattle.rehearsal_answer.specs.Trial.{mode-word, in-first, loan, trial}
+use Rattle.rehearsal_answer.specs.Trial.{mode-word, in-first, trial-job, trial-a, trial-b, trial}
 
 -- what register 0 opens
 abbrev pub opens-first : Trio → ℕ × ℤ
 opens-first s = opened-slot 32 (s .masks) (s .one .state .m, s .one .state .mask) (s .two .state .m, s .two .state .mask) 0
 
 -- ---- the job and its counts
-
-abbrev job : ℕ → List ℕ
-job k = 10 ∷ 0 ∷ 0 ∷ k ∷ []
 
 eight : length (rows house) ≡ 8
 unfolding rows house
@@ -75,12 +72,12 @@ mask-lt : refresh-L < 2 ^ 32
 unfolding refresh-L
 mask-lt = add-lt 32 _ _
 
-job-counts : (mode : ℕ) → job-cost 32 (job (mode-word mode)) house ≡ counts mode
+job-counts : (mode : ℕ) → job-cost 32 (trial-job mode) house ≡ counts mode
 unfolding job-cost steps-of job-steps job-gates orders program kinds curve-program program-cost counts
 job-counts zero = curve-exact-cost 0 0 (rows house) ∙ ap (λ (n : ℕ). cost-of (14 * n + 16) (24 * n + 24) (26 * n + 28) (12 * n + 12)) eight
 job-counts (suc m) = curve-one-bit-cost 0 0 (rows house) ∙ ap (λ (n : ℕ). cost-of (14 * n + 3) (24 * n + 4) (26 * n + 5) (12 * n + 2)) eight
 
-script-counts : (mode : ℕ) → script-cost (job-script 32 (job (mode-word mode)) house) ≡ counts mode
+script-counts : (mode : ℕ) → script-cost (job-script 32 (trial-job mode) house) ≡ counts mode
 unfolding job-cost
 script-counts mode = job-counts mode
 
@@ -91,7 +88,7 @@ is-true false t = absurd t
 house-ruled : keeps-rules house ≡ true
 house-ruled = is-true (keeps-rules house) house-keeps-rules
 
-job-sound : (mode : ℕ) → job-fault 32 (job (mode-word mode)) house .0 ≡ 0
+job-sound : (mode : ℕ) → job-fault 32 (trial-job mode) house .0 ≡ 0
 unfolding job-fault ill-sized orders orders-fault fault-at order-fault unknown-kind unknown-register two-sources ill-fourth ill-fourths
 job-sound zero = rw house-ruled
 job-sound (suc m) = rw house-ruled
@@ -110,19 +107,23 @@ fits-first x h (suc i) = fits-zeros 15 i
 abbrev buffer : List ℕ
 buffer = replicate 128 0
 
-lists-long : (mode : ℕ) → 0 ≡ dealer-lists-fault (counts mode) (multiples first-a 2 236) (multiples first-b 2 108) buffer
+lists-long : (mode : ℕ) → 0 ≡ dealer-lists-fault (counts mode) trial-a trial-b buffer
 unfolding counts
-lists-long zero = long-enough 128 216 236 108 _ _ _ (omega (arith, multiples-length first-a 2 236)) (omega (arith, multiples-length first-b 2 108)) (lit≤ tt)
-lists-long (suc n) = long-enough 115 196 213 98 _ _ _ (omega (arith, multiples-length first-a 2 236)) (omega (arith, multiples-length first-b 2 108)) (lit≤ tt)
+lists-long zero =
+    long-enough 128 216 236 108 _ _ _ (omega (arith, multiples-length first-a 2 236)) (omega (arith, multiples-length first-b 2 108))
+    (lit≤ tt)
+lists-long (suc n) =
+    long-enough 115 196 213 98 _ _ _ (omega (arith, multiples-length first-a 2 236)) (omega (arith, multiples-length first-b 2 108))
+    (lit≤ tt)
 
 module _ (mode m l1 l2 : ℕ) where
   abbrev S : Setting
   S =
       record {
-        job = job (mode-word mode);
+        job = trial-job mode;
         table = house;
-        A = multiples first-a 2 236;
-        B = multiples first-b 2 108;
+        A = trial-a;
+        B = trial-b;
         rm = in-first m;
         r1 = in-first l1;
         r2 = in-first l2;
@@ -140,14 +141,15 @@ module _ (mode m l1 l2 : ℕ) where
   -- ---- the counts
 
   pub deals-are : trial mode m l1 l2 .deals ≡ Spec.deals mode
-  unfolding trial loan
+  unfolding trial
   deals-are = deals-dealt (staged 32 S) buffer accepted ∙ ap (λ (k : Cost). k .deals) (script-counts mode) ∙ deals-counted mode
 
   pub words-are : trial mode m l1 l2 .one .spoken + trial mode m l1 l2 .two .spoken ≡ Spec.words mode
-  unfolding trial loan
+  unfolding trial
   words-are =
       let k = words-spoken (staged 32 S) buffer accepted in
-      ap₂ _+_ (k .0 ∙ ap (λ (k : Cost). k .b) (script-counts mode)) (k .1 ∙ ap (λ (k : Cost). k .b) (script-counts mode)) ∙ words-counted mode
+      ap₂ _+_ (k .0 ∙ ap (λ (k : Cost). k .b) (script-counts mode)) (k .1 ∙ ap (λ (k : Cost). k .b) (script-counts mode))
+      ∙ words-counted mode
 
   -- ---- the value
 
@@ -166,7 +168,7 @@ module _ (mode m l1 l2 : ℕ) where
     abbrev x : ℕ
     x = value (numbers 32) (record { m = m; l1 = l1; l2 = l2 })
 
-    source-is : value (numbers 32) (slot (before-order (staged 32 S) 0) (order-of S 0 .source)) ≡ x
+    source-is : source-value 32 S 0 ≡ x
     unfolding before-order order-of orders fresh
     source-is = refl
 
@@ -181,12 +183,13 @@ module _ (mode m l1 l2 : ℕ) where
     mask-is : refresh-mask 32 S 0 ≡ refresh-L
     unfolding refresh-mask refresh-L
     mask-is =
-        ap₂ (add 32) (ap (at (multiples first-a 2 236)) place-a ∙ multiples-at first-a 2 236 208 (lit< tt))
-        (ap (at (multiples first-b 2 108)) place-b ∙ multiples-at first-b 2 108 96 (lit< tt))
+        ap₂ (add 32) (ap (at trial-a) place-a ∙ multiples-at first-a 2 236 208 (lit< tt))
+        (ap (at trial-b) place-b ∙ multiples-at first-b 2 108 96 (lit< tt))
 
-    left-is : left (lent-of (staged 32 S)) (given-of (staged 32 S)) ≡ after-order (staged 32 S) 0
+    left-is : left-of (staged 32 S) ≡ after-order (staged 32 S) 0
     unfolding steps-of job-gates orders
-    left-is = left-one 32 (staged 32 S) (program 32 (rows house) (record { kind = 10; target = 0; source = 0; fourth = mode-word mode })) refl
+    left-is =
+        left-one 32 (staged 32 S) (program 32 (rows house) (record { kind = 10; target = 0; source = 0; fourth = mode-word mode })) refl
 
     leaves : value (numbers 32) (slot (after-order (staged 32 S) 0) 0) ≡ curve-value 32 (rows house) (mode-word mode) x refresh-L
     unfolding order-of orders order-value values
@@ -196,14 +199,17 @@ module _ (mode m l1 l2 : ℕ) where
 
     opens-curve : opens-first (trial mode m l1 l2)
         ≡ (0, signed 32 (curve-value 32 (rows house) (mode-word mode) x refresh-L))
-    unfolding trial loan
+    unfolding trial
     opens-curve =
         register-opens (staged 32 S) buffer accepted 32 0 (lit< tt)
         ∙ ap {B = ℕ × ℤ} (λ (v : ℕ). (0, signed 32 v)) (ap (λ (j : Triple). value (numbers 32) (slot j 0)) left-is ∙ leaves)
 
-    curve-is : (n : ℕ) (z : ℤ) → signed 32 x ≡ z → T (in-range 32 z) → signed 32 (curve-value 32 (rows house) (mode-word n) x refresh-L) ≡ Spec.value n z
+    curve-is : (n : ℕ) (z : ℤ) → signed 32 x ≡ z → T (in-range 32 z)
+        → signed 32 (curve-value 32 (rows house) (mode-word n) x refresh-L) ≡ Spec.value n z
     unfolding Spec.value Spec.Y
-    curve-is zero z e r = exact-curve house house-keeps-rules x (sub-lt 32 _ _) (ranged (rw e r)) refresh-L ∙ ap (λ (y : ℤ). floor (scaled (rows house) y) 4096) e
+    curve-is zero z e r =
+        exact-curve house house-keeps-rules x (sub-lt 32 _ _) (ranged (rw e r)) refresh-L
+        ∙ ap (λ (y : ℤ). floor (scaled (rows house) y) 4096) e
     curve-is (suc n) z e r =
         one-bit-curve house house-keeps-rules x (sub-lt 32 _ _) (ranged (rw e r)) refresh-L 0 mask-lt
         ∙ ap (λ (y : ℤ). floor (scaled (rows house) y) 4096 +ℤ pos (slip 12 (wrap 12 (scaled (rows house) y)) refresh-L)) e

@@ -14,15 +14,14 @@ use Rattle.gates.specs.Meaning.{meaning, order-steps, job-steps}
 use Rattle.gates.specs.Walk.{Conf, whole}
 use Rattle.gates.specs.Hosts.{Pair, Triple, of1, of2, act}
 use Rattle.calls.specs.Scripts.{script-cost}
-use Rattle.calls.specs.Calls.{State, given}
 use Rattle.runs.specs.Runs.{Stage, ready, opened-slot}
 use Rattle.runs.specs.Orders.{slot, after-order, trail, first}
 use Rattle.runs.proofs.Chain.{mark-gate}
 use Rattle.demands.proofs.Demand2.{demand2}
 use Rattle.runs.proofs.Kept.{DealerOk, dealt-all, prepares-ok}
-use Rattle.runs.proofs.Progress.{unless-zero}
-use Rattle.trio.specs.Together.{Trio, prepared, preparation as trio-preparation, left, ended, together}
-use Rattle.trio.proofs.Positions.{lent-of, given-of, P}
+use Rattle.trio.specs.Together.{Trio, left, end-answer, together}
+use Rattle.trio.specs.Ran.{ran}
+use Rattle.trio.proofs.Positions.{left-of, P, with-answers, prepared-is}
 
 -- ---- one order: it leaves what the walk ends with
 
@@ -34,7 +33,7 @@ order-whole w A B (g ∷ gs) c j t =
     let f : List Triple → Conf Triple = λ u. whole (act A B) (order-steps w gs []) (past (meaning w g) c) (act A B (meaning w g) c j) u in
     subst (λ (u : List Triple). f u .trail ≡ t ++ (f u .state ∷ [])) (sym (mark-gate w g j t)) (order-whole w A B gs _ _ t)
 
-pub left-one : (w : ℕ) (S : Stage) (gs : List Gate) → S .script .steps ≡ job-steps w (gs ∷ []) → left (lent-of S) (given-of S) ≡ after-order S 0
+pub left-one : (w : ℕ) (S : Stage) (gs : List Gate) → S .script .steps ≡ job-steps w (gs ∷ []) → left-of S ≡ after-order S 0
 unfolding left after-order trail job-steps
 left-one w S gs e =
     let f : List Step → Conf Triple = λ ss. whole (act (S .A) (S .B)) ss origin (first S) [] in
@@ -43,34 +42,36 @@ left-one w S gs e =
 
 module _ (S : Stage) (buf : List ℕ) (done : P S buf .number ≡ 0) where
   abbrev over : Trio
-  over = together (lent-of S) (given-of S) buf
+  over = ran S buf
 
   abbrev end-state : Triple
-  end-state = left (lent-of S) (given-of S)
+  end-state = left-of S
 
-  over-is : over ≡ record { number = P S buf .number; index = P S buf .index; deals = P S buf .deals; masks = P S buf .masks; one = ended (lent-of S) (of1 end-state); two = ended (lent-of S) (of2 end-state); buffer = P S buf .buffer }
-  unfolding together prepared trio-preparation
-  over-is =
-      rw (
-        unless-zero (P S buf .number) (P S buf .number, P S buf .index) (given (S .rm, S .r1)) (ended (lent-of S) (of1 end-state)) done,
-        unless-zero (P S buf .number) (P S buf .number, P S buf .index) (given (S .rm, S .r2)) (ended (lent-of S) (of2 end-state)) done,
-      )
+  -- the last answers
+  pub over-is : over ≡ with-answers S buf (end-answer (S .script) (of1 end-state)) (end-answer (S .script) (of2 end-state))
+  unfolding together
+  over-is = prepared-is S buf done _ _
 
   masks-are : P S buf .masks ≡ (take (S .script .slots) (end-state .1), take (S .script .slots) (end-state .2))
   unfolding left
   masks-are = go (prepares-ok S (S .r1, S .r2) buf refl done)
     where
-      go : {t : List Pair} {d : List ℕ} → DealerOk S (ready (P S buf .masks) t) d → P S buf .masks ≡ (take (S .script .slots) (end-state .1), take (S .script .slots) (end-state .2))
+      go : {t : List Pair} {d : List ℕ} → DealerOk S (ready (P S buf .masks) t) d
+          → P S buf .masks ≡ (take (S .script .slots) (end-state .1), take (S .script .slots) (end-state .2))
       go (dealt-all post e m t) = m
 
   -- opening never meets 10
-  pub register-opens : (w i : ℕ) → i < S .script .slots → opened-slot w (over .masks) (over .one .state .m, over .one .state .mask) (over .two .state .m, over .two .state .mask) i ≡ (0, signed w (value (numbers w) (slot end-state i)))
-  unfolding ended
-  register-opens w i h = rw (over-is, masks-are, getD-take (S .script .slots) (end-state .1) i 0 h, getD-take (S .script .slots) (end-state .2) i 0 h) (share-opens w (slot end-state i))
+  pub register-opens : (w i : ℕ) → i < S .script .slots
+      → opened-slot w (over .masks) (over .one .state .m, over .one .state .mask) (over .two .state .m, over .two .state .mask) i
+      ≡ (0, signed w (value (numbers w) (slot end-state i)))
+  unfolding end-answer
+  register-opens w i h =
+      rw (over-is, masks-are, getD-take (S .script .slots) (end-state .1) i 0 h, getD-take (S .script .slots) (end-state .2) i 0 h)
+      (share-opens w (slot end-state i))
 
   pub words-spoken : (over .one .spoken ≡ script-cost (S .script) .b) × (over .two .spoken ≡ script-cost (S .script) .b)
-  unfolding ended
+  unfolding end-answer
   words-spoken = rw over-is (refl, refl)
 
-pub deals-dealt : (S : Stage) (buf : List ℕ) → P S buf .number ≡ 0 → together (lent-of S) (given-of S) buf .deals ≡ script-cost (S .script) .deals
+pub deals-dealt : (S : Stage) (buf : List ℕ) → P S buf .number ≡ 0 → ran S buf .deals ≡ script-cost (S .script) .deals
 deals-dealt S buf done = ap (λ (s : Trio). s .deals) (over-is S buf done) ∙ demand2 .deals-counted S buf (S .r1, S .r2) done

@@ -7,24 +7,24 @@ use native.Mathlib.Nat.{zero-add}
 use native.Mathlib.Omega.{arith}
 use lib.ListN.{length}
 use Rattle.gates.specs.Steps.{Cursor, origin}
-use Rattle.gates.specs.Hosts.{Pair, of1, of2}
+use Rattle.gates.specs.Hosts.{Pair}
 use Rattle.gates.proofs.Needs.{far-used}
 use Rattle.jobs.specs.Job.{Fault}
 use Rattle.calls.specs.Scripts.{Script, script-cost, orders-in, Orderly}
 use Rattle.calls.specs.Calls.{State, Answer, refused, fresh, unless, given, prepared as Calls-prepared, prepare}
 use Rattle.runs.specs.Runs.{Stage, staged, Spoken, Dealer, going, world, held, Begins, given-out, begin, Finished}
-use Rattle.demands.specs.Whole.{WholeRun, outset}
+use Rattle.demands.specs.Whole.{WholeRun, first-world}
 use Rattle.demands.proofs.Demand1.{demand1}
 use Rattle.runs.proofs.Chain.{job-orderly}
 use Rattle.runs.proofs.Kept.{Ok, ok, go1, go2, kept}
-use Rattle.runs.proofs.Progress.{unless-zero}
 use Rattle.runs.proofs.Strict.{wide-on}
 use Rattle.runs.proofs.Buffers.{buffers}
 use Rattle.runs.proofs.InOrder.{in-order}
 use Rattle.demands.proofs.Whole.{whole}
-use Rattle.trio.specs.Together.{Trio, prepared, preparation as trio-preparation, left, ended, together}
+use Rattle.trio.specs.Together.{Trio, after-preparation, end-answer, together}
 use Rattle.trio.specs.Ran.{ran, RunTo, TurnedDown, TrioRun}
-use Rattle.trio.proofs.Positions.{lent-of, given-of, P, D, at-n, standing}
+use Rattle.trio.proofs.Positions.{P, D, at-n, standing}
+use Rattle.trio.proofs.Leaves.{over-is}
 use Rattle.trio.proofs.Ends.{no-step, cur-is, finish}
 
 -- ---- the preparation's number and index
@@ -47,7 +47,7 @@ unless-some zero f s a h = absurd (h refl)
 unless-some (suc n) f s a h = refl
 
 turned-down : (S : Stage) (buf : List ℕ) → P S buf .number ≢ 0 → TurnedDown S buf (ran S buf)
-unfolding together prepared trio-preparation given fresh
+unfolding together after-preparation given fresh
 turned-down S buf h =
     let p = demand1 .preparing-unchanged (S .script) (S .A) (S .B) buf (S .r1, S .r2) h in
     record {
@@ -79,7 +79,8 @@ module _ (S : Stage) (tidy : Orderly (S .script)) (buf : List ℕ) (done : P S b
     pub words1 : length said1 ≡ suc (script-cost (S .script) .b)
     pub words2 : length said2 ≡ suc (script-cost (S .script) .b)
 
-  ends-in : (z : Dealer) (b : List ℕ) (s1 s2 : State) (t1 t2 : List Pair) (said1 said2 : List Spoken) → Ok S (world z b (going s1 t1 said1) (going s2 t2 said2))
+  ends-in : (z : Dealer) (b : List ℕ) (s1 s2 : State) (t1 t2 : List Pair) (said1 said2 : List Spoken)
+      → Ok S (world z b (going s1 t1 said1) (going s2 t2 said2))
       → ((q : ℕ) → q < orders-in (S .script) → Finished (world z b (going s1 t1 said1) (going s2 t2 said2)) q) → Ends s1 s2 said1 said2
   ends-in _ _ s1 s2 t1 t2 said1 said2 (ok z (go1 X) (go2 Y) a) f =
       let l1 : orders-in (S .script) ≤ s1 .order = at-least _ _ (λ q h. f q h .one) in
@@ -95,15 +96,6 @@ module _ (S : Stage) (tidy : Orderly (S .script)) (buf : List ℕ) (done : P S b
         words2 = Y .count ∙ ap suc (all-used (Y .n) (no-step S (tidy .closed) buf done (Y .n) (Y .halts) k2));
       }
 
-  -- the last answers
-  one-is : ran S buf .one ≡ ended (lent-of S) (of1 (left (lent-of S) (given-of S)))
-  unfolding together prepared trio-preparation
-  one-is = unless-zero (P S buf .number) (P S buf .number, P S buf .index) (given (S .rm, S .r1)) _ done
-
-  two-is : ran S buf .two ≡ ended (lent-of S) (of2 (left (lent-of S) (given-of S)))
-  unfolding together prepared trio-preparation
-  two-is = unless-zero (P S buf .number) (P S buf .number, P S buf .index) (given (S .rm, S .r2)) _ done
-
   -- a host at the end
   record Last (a : Answer) : Type 0 where
     pub number : a .number ≡ 0
@@ -112,16 +104,16 @@ module _ (S : Stage) (tidy : Orderly (S .script)) (buf : List ℕ) (done : P S b
     pub word : a .word ≡ 0
     pub order : a .state .order ≡ orders-in (S .script)
 
-  last-of : (a : Answer) (l : Pair) → a ≡ ended (lent-of S) l → Last a
-  unfolding ended
+  last-of : (a : Answer) (l : Pair) → a ≡ end-answer (S .script) l → Last a
+  unfolding end-answer
   last-of a l e = rw e (record { number = refl; index = refl; spoken = refl; word = refl; order = refl })
 
   module _ (E : List ℕ) (one two : State) (p1 : held S one ≡ (S .rm, S .r1)) (p2 : held S two ≡ (S .rm, S .r2)) where
-    begins : Begins S (outset S buf one two)
+    begins : Begins S (first-world S buf one two)
     begins = given-out p1 p2
 
     abbrev Whole : State → State → Type 0
-    Whole s1 s2 = WholeRun S E (outset S buf one two) (P S buf .masks) (D S buf) s1 s2
+    Whole s1 s2 = WholeRun S E (first-world S buf one two) (P S buf .masks) (D S buf) s1 s2
 
     module _ (s1 s2 : State) (W : Whole s1 s2) where
       ends : Ends s1 s2 (W .said1) (W .said2)
@@ -130,15 +122,15 @@ module _ (S : Stage) (tidy : Orderly (S .script)) (buf : List ℕ) (done : P S b
     moved : (s1 s2 t1 t2 : State) → s1 ≡ t1 → s2 ≡ t2 → Whole s1 s2 → Whole t1 t2
     moved s1 s2 t1 t2 e f W = rw (← e, ← f) W
 
-    found-run : RunTo S E (outset S buf one two) (ran S buf)
-    unfolding together prepared trio-preparation
+    found-run : RunTo S E (first-world S buf one two) (ran S buf)
+    unfolding together after-preparation
     found-run =
         let r = whole .whole-run S E buf one two p1 p2 done in
         let e = ends (r .0) (r .1) (r .2) in
         let W : Whole (ran S buf .one .state) (ran S buf .two .state) = moved (r .0) (r .1) _ _ (e .one) (e .two) (r .2) in
         let k = ends (ran S buf .one .state) (ran S buf .two .state) W in
-        let a = last-of (ran S buf .one) _ one-is in
-        let b = last-of (ran S buf .two) _ two-is in
+        let a = last-of (ran S buf .one) _ (ap (λ (t : Trio). t .one) (over-is S buf done)) in
+        let b = last-of (ran S buf .two) _ (ap (λ (t : Trio). t .two) (over-is S buf done)) in
         let R = wide-on S (begin begins) (W .run) in
         record {
           whole = W;
@@ -154,13 +146,14 @@ module _ (S : Stage) (tidy : Orderly (S .script)) (buf : List ℕ) (done : P S b
         }
 
 pub trio-ran : TrioRun
-unfolding together prepared trio-preparation
+unfolding together after-preparation
 trio-ran =
     record {
       is-run = λ S tidy E buf one two p1 p2 e. found-run S tidy buf e E one two p1 p2;
       accepted-run = λ S tidy E buf one two p1 p2 acc. found-run S tidy buf (whole .prepares S buf (S .r1, S .r2) acc) E one two p1 p2;
       job-run = λ S E buf one two p1 p2 i.
-          found-run (staged 32 S) (job-orderly 32 (S .job) (S .table)) buf (whole .prepares (staged 32 S) buf (S .r1, S .r2) (whole .accepted-job S buf .0 i)) E
+          found-run (staged 32 S) (job-orderly 32 (S .job) (S .table)) buf
+          (whole .prepares (staged 32 S) buf (S .r1, S .r2) (whole .accepted-job S buf .0 i)) E
           one two p1 p2;
       refused = λ S buf h. turned-down S buf h;
     }

@@ -13,12 +13,12 @@ use Rattle.demands.specs.Conditions.{PreparationIs}
 use Rattle.demands.specs.Demand1.{job-terms, given-back}
 use Rattle.runs.specs.InOrder.{words-of-1, words-of-2}
 use Rattle.runs.specs.Buffers.{deals-of, with-deals}
-use Rattle.demands.specs.Whole.{WholeRun, outset}
-use Rattle.trio.specs.Together.{lending, Trio, together}
+use Rattle.demands.specs.Whole.{WholeRun, first-world}
+use Rattle.trio.specs.Together.{Trio, together}
 
 -- the whole script of a stage, in one place
 abbrev pub ran : Stage → (buffer : List ℕ) → Trio
-ran S buf = together (lending (S .script) (S .A) (S .B)) (S .rm, S .r1, S .r2) buf
+ran S buf = together (S .script) (S .A) (S .B) (S .rm, S .r1, S .r2) buf
 
 -- the three hosts' last answers t are those of a run of document 01 from the world v
 pub record RunTo (S : Stage) (E : List ℕ) (v : World) (t : Trio) : Type 0 where
@@ -54,16 +54,18 @@ pub record TurnedDown (S : Stage) (buf : List ℕ) (t : Trio) : Type 0 where
 
 pub record TrioRun : Type 0 where
   -- where it is not refused, from any registers that open, whatever the hosts keep beside them
-  pub is-run : (S : Stage) → Orderly (S .script) → (E buffer : List ℕ) (one two : State) → held S one ≡ (S .rm, S .r1)
-      → held S two ≡ (S .rm, S .r2) → ran S buffer .number ≡ 0 → RunTo S E (outset S buffer one two) (ran S buffer)
+  pub is-run : (S : Stage) → Orderly (S .script) → (E buffer : List ℕ) (one two : State)
+      → held S one ≡ (S .rm, S .r1)
+      → held S two ≡ (S .rm, S .r2) → ran S buffer .number ≡ 0
+      → RunTo S E (first-world S buffer one two) (ran S buffer)
   -- and so where its script is accepted with its lists and its buffer
   pub accepted-run : (S : Stage) → Orderly (S .script) → (E buffer : List ℕ) (one two : State)
       → held S one ≡ (S .rm, S .r1) → held S two ≡ (S .rm, S .r2) → Accepted S buffer
-      → RunTo S E (outset S buffer one two) (ran S buffer)
+      → RunTo S E (first-world S buffer one two) (ran S buffer)
   -- a job: where it meets none of the conditions 2 to 7
   pub job-run : (S : Setting) (E buffer : List ℕ) (one two : State) → held (staged 32 S) one ≡ (S .rm, S .r1)
       → held (staged 32 S) two ≡ (S .rm, S .r2)
       → PreparationIs (job-terms (S .job) (S .table)) (S .A) (S .B) buffer 0 0
-      → RunTo (staged 32 S) E (outset (staged 32 S) buffer one two) (ran (staged 32 S) buffer)
+      → RunTo (staged 32 S) E (first-world (staged 32 S) buffer one two) (ran (staged 32 S) buffer)
   -- and where it is refused
   pub refused : (S : Stage) (buffer : List ℕ) → ran S buffer .number ≢ 0 → TurnedDown S buffer (ran S buffer)

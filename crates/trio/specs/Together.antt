@@ -8,20 +8,11 @@ use Rattle.gates.specs.Steps.{origin}
 use Rattle.gates.specs.Walk.{whole}
 use Rattle.gates.specs.Hosts.{Pair, Triple, of0, of1, of2, act}
 use Rattle.calls.specs.Scripts.{Script, script-cost, orders-in}
-use Rattle.calls.specs.Lent.{Lent}
+use Rattle.calls.specs.Lent.{lent}
 use Rattle.calls.specs.Calls.{Answer, Prepared, fresh, given, unless, start, hear, prepare}
 use Rattle.worker.specs.Answers.{answer-of}
 use Rattle.trio.specs.declared.Trio.{Trio as Trio′}
 use Rattle.trio.specs.declared.Shared.{Shared}
-
--- "every call is lent the same job, table and lists": the same script and lists
-pub record Lending : Type 0 where
-  pub script : Script
-  pub A : List ℕ
-  pub B : List ℕ
-
-abbrev pub lending : Script → (A B : List ℕ) → Lending
-lending σ a b = record { script = σ; A = a; B = b }
 
 -- the preparation's number, index, deals and masks, the last answers of hosts 1 and 2, and the buffer of deals
 pub record Trio : Type 0 where
@@ -56,36 +47,40 @@ pub record Full (n : ℕ) (r : Triple) : Type 0 where
   pub l1 : length (r .1) ≡ n
   pub l2 : length (r .2) ≡ n
 
--- host 1 is lent A, host 2 B; both the deals, of which host 1 takes no notice
-abbrev pub to1 : Lending → (deals : List ℕ) → Lent
-to1 loan D = record { host = 1; script = loan .script; masks = loan .A; deals = D }
+-- the three hosts after the preparation p, with these answers of hosts 1 and 2; neither starts where the preparation is
+-- refused
+unfoldable pub after-preparation : Triple → (p : Prepared) → (one two : Answer) → Trio
+after-preparation r p a b =
+    record {
+      number = p .number;
+      index = p .index;
+      deals = p .deals;
+      masks = p .masks;
+      one = unless (p .number) (p .number, p .index) (given (of1 r)) a;
+      two = unless (p .number) (p .number, p .index) (given (of2 r)) b;
+      buffer = p .buffer;
+    }
 
-abbrev pub to2 : Lending → (deals : List ℕ) → Lent
-to2 loan D = record { host = 2; script = loan .script; masks = loan .B; deals = D }
+-- a host at the end: "the end is the number of orders and 0", "the word given is 0", and each host has spoken a word
+-- for each word of B, half the script's words
+unfoldable pub end-answer : Script → Pair → Answer
+end-answer σ s =
+    record {
+      number = 0;
+      index = 0;
+      spoken = script-cost σ .b;
+      word = 0;
+      state = record { m = s .0; mask = s .1; order = orders-in σ; turn = 0 };
+    }
 
-module _ (loan : Lending) where
-  unfoldable pub preparation : Triple → (buffer : List ℕ) → Prepared
-  preparation r buf = prepare (loan .script) (loan .A) (loan .B) buf (of0 r)
-
-  -- the three hosts after the preparation, with these answers of hosts 1 and 2; neither starts where the preparation is
-  -- refused
-  unfoldable pub prepared : Triple → Prepared → (one two : Answer) → Trio
-  prepared r p a b =
-      record {
-        number = p .number;
-        index = p .index;
-        deals = p .deals;
-        masks = p .masks;
-        one = unless (p .number) (p .number, p .index) (given (of1 r)) a;
-        two = unless (p .number) (p .number, p .index) (given (of2 r)) b;
-        buffer = p .buffer;
-      }
-
+-- "every call is lent the same job, table and lists": a script and the lists A and B; hosts 1 and 2 both the deals, of
+-- which host 1 takes no notice
+module _ (σ : Script) (A B : List ℕ) where
   -- preparation, then both startings
   unfoldable pub begun : Triple → (buffer : List ℕ) → Trio
   begun r buf =
-      prepared r (preparation r buf) (start (to1 loan (preparation r buf .buffer)) (of1 r))
-      (start (to2 loan (preparation r buf .buffer)) (of2 r))
+      let p : Prepared = prepare σ A B buf (of0 r) in
+      after-preparation r p (start (lent 1 σ A (p .buffer)) (of1 r)) (start (lent 2 σ B (p .buffer)) (of2 r))
 
   -- each hears "the word the other host spoke"
   unfoldable pub heard : Trio → Trio
@@ -95,27 +90,16 @@ module _ (loan : Lending) where
         index = s .index;
         deals = s .deals;
         masks = s .masks;
-        one = hear (to1 loan (s .buffer)) (s .one .state) (s .two .word);
-        two = hear (to2 loan (s .buffer)) (s .two .state) (s .one .word);
+        one = hear (lent 1 σ A (s .buffer)) (s .one .state) (s .two .word);
+        two = hear (lent 2 σ B (s .buffer)) (s .two .state) (s .one .word);
         buffer = s .buffer;
       }
 
   -- the three hosts' lanes m, L1 and L2 when every gate is done
   unfoldable pub left : Triple → Triple
-  left r = whole (act (loan .A) (loan .B)) (loan .script .steps) origin (fresh (r .0), fresh (r .1), fresh (r .2)) [] .state
-
-  -- a host at the end: "the end is the number of orders and 0", "the word given is 0", and each host has spoken a word
-  -- for each word of B, half the script's words
-  unfoldable pub ended : Pair → Answer
-  ended s =
-      record {
-        number = 0;
-        index = 0;
-        spoken = script-cost (loan .script) .b;
-        word = 0;
-        state = record { m = s .0; mask = s .1; order = orders-in (loan .script); turn = 0 };
-      }
+  left r = whole (act A B) (σ .steps) origin (fresh (r .0), fresh (r .1), fresh (r .2)) [] .state
 
   -- the whole script
   unfoldable pub together : Triple → (buffer : List ℕ) → Trio
-  together r buf = prepared r (preparation r buf) (ended (of1 (left r))) (ended (of2 (left r)))
+  together r buf =
+      after-preparation r (prepare σ A B buf (of0 r)) (end-answer σ (of1 (left r))) (end-answer σ (of2 (left r)))

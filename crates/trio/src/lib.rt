@@ -4,7 +4,7 @@ ghost use Rattle.calls.specs.Calls as Calls;
 ghost use Rattle.calls.specs.Scripts.{job-script};
 ghost use Rattle.calls.specs.Lent.{lent};
 ghost use Rattle.worker.specs.Answers.{answer-of, lanes-of};
-ghost use Rattle.trio.specs.Together.{trio-of, shared, Full, lending, begun, heard, together};
+ghost use Rattle.trio.specs.Together.{trio-of, shared, Full, begun, heard, together};
 use call_check::fresh;
 use dealer::Masks;
 use dealer::prepare;
@@ -82,7 +82,7 @@ fn begin(
 ) -> Trio
     ensures { λ r.
         ⌜ trio-of r (now (deals .exit))
-        ≡ begun (lending (job-script 32 (now (job .entry)) (now (table .entry))) (now (a .entry)) (now (b .entry)))
+        ≡ begun (job-script 32 (now (job .entry)) (now (table .entry))) (now (a .entry)) (now (b .entry))
         (m, l1, l2)
         (now (deals .entry)) ⌝ }
     ensures { λ r. ⌜ Full 16 (m, l1, l2) ⌝ }
@@ -125,7 +125,7 @@ fn begin(
 fn exchange(job: &[u32], table: &[u32], a: &[u32], b: &[u32], deals: &[u32], s: Trio) -> Trio
     ensures { λ r.
         ⌜ trio-of r (now (deals .entry))
-        ≡ heard (lending (job-script 32 (now (job .entry)) (now (table .entry))) (now (a .entry)) (now (b .entry)))
+        ≡ heard (job-script 32 (now (job .entry)) (now (table .entry))) (now (a .entry)) (now (b .entry))
         (trio-of s (now (deals .entry))) ⌝ }
 {
     let first = s.one.state;
@@ -154,7 +154,7 @@ pub fn run(
 ) -> Trio
     ensures { λ r.
         ⌜ trio-of r (now (deals .exit))
-        ≡ together (lending (job-script 32 (now (job .entry)) (now (table .entry))) (now (a .entry)) (now (b .entry)))
+        ≡ together (job-script 32 (now (job .entry)) (now (table .entry))) (now (a .entry)) (now (b .entry))
         (shared registers)
         (now (deals .entry)) ⌝ }
 {

@@ -26,7 +26,9 @@ fn held(s: State, register: usize) -> WorkerShare
 
 // What a register, 0 to 15, opens: host 0 gives its masks, hosts 1 and 2 their states.
 pub fn opened(masks: Masks, one: State, two: State, register: usize) -> Opening
-    ensures { λ r. ⌜ opening r ≡ opened-slot 32 (masks .l1, masks .l2) (one .m, one .mask) (two .m, two .mask) register ⌝ }
+    ensures { λ r.
+        ⌜ opening r
+        ≡ opened-slot 32 (masks .l1, masks .l2) (one .m, one .mask) (two .m, two .mask) register ⌝ }
 {
     let l1 = masks.l1;
     let l2 = masks.l2;

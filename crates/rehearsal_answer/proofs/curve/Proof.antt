@@ -1,6 +1,6 @@
 use mathlib.Core.Path.{_∙_}
 use Rattle.tables.specs.Table.{house}
-use Rattle.rehearsal_answer.specs.Trial.{loan, trial}
+use Rattle.rehearsal_answer.specs.Trial.{trial}
 use borrow.Author.Needs.{needs}
 use Rattle.rehearsal_answer.proofs.curve.Statement.{statement}
 use Rattle.rehearsal_answer.proofs.curve.Tie as tie
@@ -48,11 +48,21 @@ run-requires : tie.Need-run-requires
 run-requires c κs = search needs
 
 returns : tie.Need-returns
-unfolding trial loan house
+unfolding trial house
 returns c =
+    let p = c .before .before .before .before .before .before .before in
     record {
       buffer = _;
-      is = c .before .run .ensures ∙ rw (c .before .before .before .before .before .before .before .before .before .before .before .before .before .before .before .fill .ensures, c .before .before .before .before .before .before .before .before .before .before .before .before .fill2 .ensures, c .before .before .before .before .before .before .before .before .before .before .mode-word .ensures, c .before .before .before .before .before .before .before .before .before .in-first .ensures, c .before .before .before .before .before .before .before .before .in-first2 .ensures, c .before .before .before .before .before .before .before .in-first3 .ensures);
+      is =
+          c .before .run .ensures
+          ∙ rw (
+            p .before .before .before .before .before .before .before .before .fill .ensures,
+            p .before .before .before .before .before .fill2 .ensures,
+            p .before .before .before .mode-word .ensures,
+            p .before .before .in-first .ensures,
+            p .before .in-first2 .ensures,
+            p .in-first3 .ensures,
+          );
     }
 
 pub curve-spec : {M : Type 1} → statement M

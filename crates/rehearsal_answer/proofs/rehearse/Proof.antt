@@ -26,7 +26,8 @@ returns : tie.Need-returns
 returns c =
     let a = c .before .before .before .before .args in
     let k = ap (λ (y : ℤ). split 32 y first-a first-b) (toZ-ofZ w64 (a .reading) (c .before .before .before .before .fits .reading)) in
-    out-of-range (a .mode) (a .reading) (c .before .before .before .share .result) (c .before .before .before .share .ensures ∙ k) (c .before .enum-told .given .1) _ (c .refusal-text .ensures)
+    out-of-range (a .mode) (a .reading) (c .before .before .before .share .result) (c .before .before .before .share .ensures ∙ k)
+    (c .before .enum-told .given .1) _ (c .refusal-text .ensures)
 
 curve-requires : tie.Need-curve-requires
 curve-requires c κs = search needs
@@ -45,15 +46,22 @@ refusal-text-requires-2 c κs = search needs
 
 returns-2 : tie.Need-returns-2
 returns-2 c =
-    let a = c .before .before .before .before .before .before .before .before .before .args in
-    let k = ap (λ (y : ℤ). split 32 y first-a first-b) (toZ-ofZ w64 (a .reading) (c .before .before .before .before .before .before .before .before .before .fits .reading)) in
-    absurd (agreed (a .mode) (a .reading) (c .before .before .before .before .before .before .before .before .share .result) (c .before .before .before .before .before .before .before .before .share .ensures ∙ k) _ (c .before .before .before .before .before .before .s .given .1) (c .before .before .before .before .curve .result) (c .before .before .before .before .curve .ensures) (c .before .before .before .opened .result) (c .before .before .before .opened .ensures) (c .before .enum-told2 .given .1))
+    let o = c .before .before .before in
+    let s = o .before .before .before .before .before in
+    let a = s .before .args in
+    let k = ap (λ (y : ℤ). split 32 y first-a first-b) (toZ-ofZ w64 (a .reading) (s .before .fits .reading)) in
+    absurd (agreed (a .mode) (a .reading) (s .share .result) (s .share .ensures ∙ k) _ (o .before .before .before .s .given .1)
+    (o .before .curve .result) (o .before .curve .ensures) (o .opened .result) (o .opened .ensures) (c .before .enum-told2 .given .1))
 
 add-answer-text : tie.Need-add-answer-text
 add-answer-text c =
-    let a = c .before .before .before .before .before .before .before .before .before .before .args in
-    let k = ap (λ (y : ℤ). split 32 y first-a first-b) (toZ-ofZ w64 (a .reading) (c .before .before .before .before .before .before .before .before .before .before .fits .reading)) in
-    let few-words = few (a .mode) _ (words-is (a .mode) (a .reading) (c .before .before .before .before .before .before .before .before .before .share .result) (c .before .before .before .before .before .before .before .before .before .share .ensures ∙ k) _ (c .before .before .before .before .before .before .before .s .given .1) (c .before .before .before .before .before .curve .result) (c .before .before .before .before .before .curve .ensures)) in
+    let o = c .before .before .before .before in
+    let s = o .before .before .before .before .before in
+    let a = s .before .args in
+    let k = ap (λ (y : ℤ). split 32 y first-a first-b) (toZ-ofZ w64 (a .reading) (s .before .fits .reading)) in
+    let few-words =
+    few (a .mode) _ (words-is (a .mode) (a .reading) (s .share .result) (s .share .ensures ∙ k) _
+    (o .before .before .before .s .given .1) (o .before .curve .result) (o .before .curve .ensures)) in
     omega (arith, few-words)
 
 answer-text-requires : tie.Need-answer-text-requires
@@ -61,9 +69,13 @@ answer-text-requires c κs = search needs
 
 returns-3 : tie.Need-returns-3
 returns-3 c =
-    let a = c .before .before .before .before .before .before .before .before .before .before .before .args in
-    let k = ap (λ (y : ℤ). split 32 y first-a first-b) (toZ-ofZ w64 (a .reading) (c .before .before .before .before .before .before .before .before .before .before .before .fits .reading)) in
-    printed (a .mode) (a .reading) (c .before .before .before .before .before .before .before .before .before .before .share .result) (c .before .before .before .before .before .before .before .before .before .before .share .ensures ∙ k) _ (c .before .before .before .before .before .before .before .before .s .given .1) (c .before .before .before .before .before .before .curve .result) (c .before .before .before .before .before .before .curve .ensures) (c .before .before .before .before .before .opened .result) (c .before .before .before .before .before .opened .ensures) _ (c .before .before .before .value .given .1) _ (c .answer-text .ensures ∙ search needs)
+    let o = c .before .before .before .before .before in
+    let s = o .before .before .before .before .before in
+    let a = s .before .args in
+    let k = ap (λ (y : ℤ). split 32 y first-a first-b) (toZ-ofZ w64 (a .reading) (s .before .fits .reading)) in
+    printed (a .mode) (a .reading) (s .share .result) (s .share .ensures ∙ k) _ (o .before .before .before .s .given .1)
+    (o .before .curve .result) (o .before .curve .ensures) (o .opened .result) (o .opened .ensures) _
+    (c .before .before .before .value .given .1) _ (c .answer-text .ensures ∙ search needs)
 
 pub rehearse-spec : {M : Type 1} → statement M
 rehearse-spec =

@@ -21,10 +21,14 @@ refusal-text-requires : tie.Need-refusal-text-requires
 refusal-text-requires c κs = search needs
 
 returns : tie.Need-returns
-returns c = reading-asked (now (c .before .before .before .before .before .before .args .line)) (c .before .before .before .before .parse .result) (c .before .before .before .before .parse .ensures) _ _ (c .before .before .mode .given .1) _ (c .rehearse .ensures ∙ search needs)
+returns c =
+    reading-asked (now (c .before .before .before .before .before .before .args .line)) (c .before .before .before .before .parse .result)
+    (c .before .before .before .before .parse .ensures) _ _ (c .before .before .mode .given .1) _ (c .rehearse .ensures ∙ search needs)
 
 returns-2 : tie.Need-returns-2
-returns-2 c = nothing-asked (now (c .before .before .before .before .before .args .line)) (c .before .before .before .parse .result) (c .before .before .before .parse .ensures) (c .before .enum-told .given .1) _ (c .refusal-text .ensures)
+returns-2 c =
+    nothing-asked (now (c .before .before .before .before .before .args .line)) (c .before .before .before .parse .result)
+    (c .before .before .before .parse .ensures) (c .before .enum-told .given .1) _ (c .refusal-text .ensures)
 
 pub rehearsed-spec : {M : Type 1} → statement M
 rehearsed-spec =

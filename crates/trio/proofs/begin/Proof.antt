@@ -2,7 +2,6 @@ use mathlib.Core.Path.{refl}
 use denote.Ref.{now}
 use native.Mathlib.Omega.{arith}
 use Rattle.calls.specs.Scripts.{job-script}
-use Rattle.trio.specs.Together.{lending, preparation}
 use Rattle.trio.proofs.Turns.{begins}
 use borrow.Author.Needs.{needs}
 use Rattle.trio.proofs.begin.Statement.{statement}
@@ -21,12 +20,12 @@ same-length : tie.Need-same-length
 same-length c = search needs
 
 returns : tie.Need-returns
-unfolding preparation
 returns c =
     let p = c .before .before .before .before .before .before .before in
     let s = p .before .before .before .before .before .before .before in
     let a = s .args in (
-      begins (lending (job-script 32 (now (a .job)) (now (a .table))) (now (a .a)) (now (a .b))) (a .m, a .l1, a .l2) (now (a .deals)) _ _ _ _ (p .prepare .ensures) refl (c .before .before .first .ensures) (c .first2 .ensures),
+      begins (job-script 32 (now (a .job)) (now (a .table))) (now (a .a)) (now (a .b)) (a .m, a .l1, a .l2) (now (a .deals)) _ _ _ _
+          (p .prepare .ensures) refl (c .before .before .first .ensures) (c .first2 .ensures),
       record { m = omega (arith, s .good); l1 = omega (arith, s .good); l2 = omega (arith, s .good) },
     )
 

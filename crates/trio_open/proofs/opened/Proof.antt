@@ -28,7 +28,14 @@ returns : tie.Need-returns
 returns c =
     let one = c .before .before .held .ensures in
     let two = c .before .held2 .ensures in
-    c .reconstruct .ensures ∙ rw (c .before .before .before .before .before .word-at .ensures, c .before .before .before .word-at2 .ensures, one .0, one .1, two .0, two .1)
+    c .reconstruct .ensures ∙ rw (
+      c .before .before .before .before .before .word-at .ensures,
+      c .before .before .before .word-at2 .ensures,
+      one .0,
+      one .1,
+      two .0,
+      two .1,
+    )
 
 pub opened-spec : {M : Type 1} → statement M
 opened-spec =
