@@ -15,10 +15,10 @@ use Rattle.jobs.specs.Job.{Fault}
 use Rattle.calls.specs.Scripts.{script-cost}
 use Rattle.calls.specs.Lent.{worker1, worker2, dealer-fault, worker-with}
 use Rattle.calls.specs.Calls.{State, fresh, fresh2, start-walk, start, found-of, hear, script-deals, prepare-walk, prepared, prepare}
-use Rattle.runs.specs.Runs.{Stage, Spoken, Among, Dealer, idle, ready, Side, waiting, going, World, world, registers, Refuses, dealer, dealer-later, dealer-elsewhere, dealer-later-elsewhere, one-waiting, two-waiting, one-going, two-going, Call, lent1, lent2, Dealt, preparation, started, stepped, Completes, prepares, starts1, starts2, hears1, hears2, given-out, Run, begin, complete, refuse}
+use Rattle.runs.specs.Runs.{Stage, Spoken, Among, Dealer, idle, ready, dealer-holds, Side, waiting, going, side-state, World, world, registers, Refuses, refuses0, refuses0-elsewhere, refuses1, refuses2, Call, lent1, lent2, Dealt, preparation, started, stepped, Completes, prepares, starts1, starts2, hears1, hears2, given-out, Run, begin, complete, refuse}
 use Rattle.runs.proofs.Places.{pos}
 use Rattle.runs.proofs.Ties.{shadow1, shadow2, joint, Heard, Tied, tie-start, tie-hear}
-use Rattle.runs.proofs.Refusals.{start-none, hear-none, prepare-back, Holds, turned-same}
+use Rattle.runs.proofs.Refusals.{start-none, hear-none, prepare-back, masks-back, Holds, turned-back}
 
 -- ---- the deals in front of a list
 
@@ -198,27 +198,20 @@ module _ (S : Stage) where
       let g = f (joint A B all j₀ (Z .n) .state) (pos-lengths A B all j₀ (n + 8) (Z .n) j₀-lengths) in
       rw (Z .is) (record { m = omega (arith, g .0); mask = omega (arith, g .1) })
 
-  one-holds : {s : State} → OneOk (waiting s) → Holds n s
-  one-holds {s} (wait1 h) = holds-waiting s (S .rm) (S .r1) h (S .rm-full) (S .r1-full)
+  one-holds : {x : Side} → OneOk x → Holds n (side-state x)
+  one-holds (wait1 h) = holds-waiting _ (S .rm) (S .r1) h (S .rm-full) (S .r1-full)
+  one-holds (go1 Z) = holds-tied of1 (joint1 A B) _ _ _ (λ j h. (h .m, h .l1)) Z
 
-  two-holds : {s : State} → TwoOk (waiting s) → Holds n s
-  two-holds {s} (wait2 h) = holds-waiting s (S .rm) (S .r2) h (S .rm-full) (S .r2-full)
-
-  one-going-holds : {s : State} {t : List Pair} {said : List Spoken} → OneOk (going s t said) → Holds n s
-  one-going-holds (go1 Z) = holds-tied of1 (joint1 A B) _ _ _ (λ j h. (h .m, h .l1)) Z
-
-  two-going-holds : {s : State} {t : List Pair} {said : List Spoken} → TwoOk (going s t said) → Holds n s
-  two-going-holds (go2 Z) = holds-tied of2 (joint2 A B) _ _ _ (λ j h. (h .m, h .l2)) Z
+  two-holds : {x : Side} → TwoOk x → Holds n (side-state x)
+  two-holds (wait2 h) = holds-waiting _ (S .rm) (S .r2) h (S .rm-full) (S .r2-full)
+  two-holds (go2 Z) = holds-tied of2 (joint2 A B) _ _ _ (λ j h. (h .m, h .l2)) Z
 
   pub refuses-nothing : {v v′ : World} → Ok v → Refuses n v v′ → v′ ≡ v
-  refuses-nothing o (dealer {r = r} {buf = buf} σ A′ B′ e) = let q = prepare-back σ A′ B′ buf r e in rw (q .0, q .1)
-  refuses-nothing o (dealer-later {r = r} {buf = buf} σ A′ B′ e) = let q = prepare-back σ A′ B′ buf r e in rw (q .0, q .1)
-  refuses-nothing o (dealer-elsewhere {r = r} σ A′ B′ b e) = rw (prepare-back σ A′ B′ b r e .0)
-  refuses-nothing o (dealer-later-elsewhere {r = r} σ A′ B′ b e) = rw (prepare-back σ A′ B′ b r e .0)
-  refuses-nothing (ok z one two a) (one-waiting h) = rw (turned-same n (one-holds one) h)
-  refuses-nothing (ok z one two a) (two-waiting h) = rw (turned-same n (two-holds two) h)
-  refuses-nothing (ok z one two a) (one-going h) = rw (turned-same n (one-going-holds one) h)
-  refuses-nothing (ok z one two a) (two-going h) = rw (turned-same n (two-going-holds two) h)
+  refuses-nothing o (refuses0 {z = z} {buf = buf} σ A′ B′ e) =
+      rw (masks-back σ A′ B′ buf z e, prepare-back σ A′ B′ buf (dealer-holds z) e .1)
+  refuses-nothing o (refuses0-elsewhere {z = z} σ A′ B′ b e) = rw (masks-back σ A′ B′ b z e)
+  refuses-nothing (ok z one two a) (refuses1 {one = x} h) = rw (turned-back n x (one-holds one) h)
+  refuses-nothing (ok z one two a) (refuses2 {two = x} h) = rw (turned-back n x (two-holds two) h)
 
   pub kept : {cs : List Call} {v : World} → Run S cs v → Ok v
   kept (begin (given-out h k)) = ok (not-yet refl) (wait1 h) (wait2 k) tt

@@ -12,7 +12,8 @@ use Rattle.jobs.specs.Job.{Fault}
 use Rattle.calls.specs.Scripts.{Script}
 use Rattle.calls.specs.Lent.{Lent, lent-fault, dealer-fault, worker-of}
 use Rattle.calls.specs.Calls.{State, Answer, fresh, report, unless, given, start-walk, start, place-fault, hear-walk, found-of, resume, hear, prepared, prepare}
-use Rattle.runs.specs.Runs.{registers, Turned, at-start, at-hearing}
+use Rattle.runs.specs.Runs.{Dealer, idle, ready, dealer-holds, with-masks, Side, waiting, going, side-state, with-state, registers}
+use Rattle.runs.specs.Runs.{Turned, at-start, at-hearing}
 
 -- an answer that is no refusal
 unless-none : (n : ℕ) (f : Fault) (s : State) (a : Answer) → f .0 ≡ n → unless n f s a .number ≡ 0 → (n ≡ 0) × (unless n f s a ≡ a)
@@ -57,6 +58,12 @@ pub prepare-back : (σ : Script) (A B buf : List ℕ) (r : Pair) → prepare σ 
 unfolding prepare
 prepare-back σ A B buf r h = prepared-back (dealer-fault σ A B buf .0) (dealer-fault σ A B buf) σ A B buf r refl h
 
+-- host 0 holds what it held
+pub masks-back : (σ : Script) (A B buf : List ℕ) (z : Dealer) → prepare σ A B buf (dealer-holds z) .number ≢ 0
+    → with-masks z (prepare σ A B buf (dealer-holds z) .masks) ≡ z
+masks-back σ A B buf (idle r) h = ap idle (prepare-back σ A B buf r h .0)
+masks-back σ A B buf (ready r t) h = ap (λ (p : Pair). ready p t) (prepare-back σ A B buf r h .0)
+
 -- ---- a refused starting or hearing, on a state of n slots and more
 
 pub record Holds (n : ℕ) (s : State) : Type 0 where
@@ -69,8 +76,13 @@ take-fresh n l h =
     let k : length (take n l) ≡ n = length-take n l ∙ min-eq-left h in
     ap (λ (x : List ℕ). x ++ drop n l) (take-append-le n (take n l) (replicate 8 0) (omega arith) ∙ take-all n (take n l) (omega arith)) ∙ take-append-drop n l
 
-pub turned-same : (n : ℕ) {s s′ : State} → Holds n s → Turned n s s′ → s′ ≡ s
+turned-same : (n : ℕ) {s s′ : State} → Holds n s → Turned n s s′ → s′ ≡ s
 unfolding given
 turned-same n {s} z (at-start loan h) =
     rw (start-state loan (registers n s) h, take-fresh n (s .m) (z .m), take-fresh n (s .mask) (z .mask))
 turned-same n {s} z (at-hearing loan v h) = hear-state loan s v h
+
+-- host 1 or 2 holds what it held
+pub turned-back : (n : ℕ) (x : Side) {s : State} → Holds n (side-state x) → Turned n (side-state x) s → with-state x s ≡ x
+turned-back n (waiting s) z h = ap waiting (turned-same n z h)
+turned-back n (going s t said) z h = ap (λ (p : State). going p t said) (turned-same n z h)

@@ -22,10 +22,10 @@ use Rattle.jobs.specs.Job.{orders}
 use Rattle.calls.specs.Scripts.{orders-in, Closed}
 use Rattle.calls.proofs.Scripts.{job-made}
 use Rattle.calls.specs.Calls.{State, fresh}
-use Rattle.runs.specs.Runs.{Stage, Setting, staged, Spoken, Dealer, Side, World, Call, Run, registers, order1, order2, Finished, opened-slot, opened-after}
+use Rattle.runs.specs.Runs.{Stage, Setting, staged, Spoken, Dealer, dealer-holds, Side, World, Call, Run, registers, order1, order2, Finished, opened-slot, opened-after}
 use Rattle.runs.specs.Orders.{Words, trail, after-order, slot, Unwritten, order-of}
 use Rattle.runs.specs.Orders.{Finishes}
-use Rattle.runs.specs.Returned.{dealer-holds, side-holds, opened-now, opened-given, UnwrittenFrom, Holds, by-order, by-given, UntargetedFrom, JobHolds, of-order, of-given, Returned}
+use Rattle.runs.specs.Returned.{side-holds, opened-now, opened-given, UnwrittenFrom, Holds, by-order, by-given, UntargetedFrom, JobHolds, of-order, of-given, Returned}
 use Rattle.runs.proofs.Places.{pos, trail-pos, trail-length, whole-pos}
 use Rattle.runs.proofs.Ties.{joint, Tied}
 use Rattle.runs.proofs.Kept.{all, j₀, last, DealerOk, not-yet, dealt-all, OneOk, wait1, go1, TwoOk, wait2, go2, Ok, ok, kept}

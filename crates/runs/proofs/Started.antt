@@ -1,5 +1,5 @@
 -- A host that has started was lent an accepted script, with lists that are long enough. Assumes nothing.
-use mathlib.Core.Path.{_≡_, refl}
+use mathlib.Core.Path.{_≡_, refl, subst}
 use mathlib.Core.Bool.{Bool, true, false, cond}
 use mathlib.Core.List.{List}
 use Prim.Native.Nat.{ℕ, _≤_, _<_}
@@ -11,8 +11,9 @@ use lib.ListN.{length}
 use Rattle.jobs.specs.Job.{Fault, short-a}
 use Rattle.calls.specs.Scripts.{script-cost}
 use Rattle.calls.specs.Lent.{or-else, lists-fault, lent-fault}
-use Rattle.runs.specs.Runs.{Stage, waiting, going, World, world, Refuses, dealer, dealer-later, dealer-elsewhere, dealer-later-elsewhere, one-waiting, two-waiting, one-going, two-going, Call, registers, lent1, Completes, prepares, starts1, starts2, hears1, hears2, given-out, Run, begin, complete, refuse, order1}
+use Rattle.runs.specs.Runs.{Stage, waiting, going, World, world, Call, registers, lent1, Completes, prepares, starts1, starts2, hears1, hears2, given-out, Run, begin, complete, refuse, order1}
 use Rattle.runs.proofs.Refusals.{start-none}
+use Rattle.runs.proofs.Kept.{refuses-nothing, kept}
 
 pub or-else-none : (f : Fault) (n : ℕ) → or-else f n .0 ≡ 0 → (f .0 ≡ 0) × (n ≡ 0)
 unfolding or-else
@@ -51,26 +52,10 @@ module _ (S : Stage) where
   completed (hears1 D v m e) h g = h tt
   completed (hears2 D d v m e) h g = h tt
 
-  refused : {v v′ : World} → Refuses (S .script .slots) v v′ → (Gone v → Checked S) → Gone v′ → Checked S
-  refused (dealer {one = waiting s} σ A B e) h g = absurd g
-  refused (dealer {one = going s t said} σ A B e) h g = h tt
-  refused (dealer-later {one = waiting s} σ A B e) h g = absurd g
-  refused (dealer-later {one = going s t said} σ A B e) h g = h tt
-  refused (dealer-elsewhere {one = waiting s} σ A B b e) h g = absurd g
-  refused (dealer-elsewhere {one = going s t said} σ A B b e) h g = h tt
-  refused (dealer-later-elsewhere {one = waiting s} σ A B b e) h g = absurd g
-  refused (dealer-later-elsewhere {one = going s t said} σ A B b e) h g = h tt
-  refused (one-waiting e) h g = absurd g
-  refused (two-waiting {one = waiting s} e) h g = absurd g
-  refused (two-waiting {one = going s t said} e) h g = h tt
-  refused (one-going e) h g = h tt
-  refused (two-going {one = waiting s} e) h g = absurd g
-  refused (two-going {one = going s t said} e) h g = h tt
-
   gone : {cs : List Call} {v : World} → Run S cs v → Gone v → Checked S
   gone (begin (given-out h k)) g = absurd g
   gone (complete r c) g = completed c (λ h. gone r h) g
-  gone (refuse r c) g = refused c (λ h. gone r h) g
+  gone (refuse r c) g = gone r (subst Gone (refuses-nothing S (kept S r) c) g)
 
   -- a run in which host 1 is past an order is one of an accepted script
   pub past-checked : {cs : List Call} (v : World) (q : ℕ) → Run S cs v → q < order1 v → Checked S

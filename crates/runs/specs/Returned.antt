@@ -10,20 +10,14 @@ use lib.ListN.{length}
 use Rattle.gates.specs.Hosts.{Pair}
 use Rattle.jobs.specs.Job.{orders}
 use Rattle.calls.specs.Scripts.{orders-in, Orderly}
-use Rattle.runs.specs.Runs.{Stage, Setting, staged, Dealer, idle, ready, Side, waiting, going, World, world}
+use Rattle.runs.specs.Runs.{Stage, Setting, staged, Side, dealer-holds, side-state, World, world}
 use Rattle.runs.specs.Runs.{registers, Call, Run, Finished, opened-slot, opened-after}
 use Rattle.runs.specs.Orders.{Words, Unwritten, order-of}
 use Rattle.runs.specs.Orders.{opens, Finishes}
 
--- the masks that host 0 holds
-abbrev pub dealer-holds : Dealer → Pair
-dealer-holds (idle r) = r
-dealer-holds (ready r t) = r
-
 -- the first n slots, for a job sixteen registers, in the state that host 1 or 2 holds
 abbrev pub side-holds : (n : ℕ) → Side → Pair
-side-holds n (waiting s) = registers n s
-side-holds n (going s t said) = registers n s
+side-holds n x = registers n (side-state x)
 
 -- what opening gives on slot i of the three hosts as they stand, each with n slots: of the masks and states that the
 -- calls returned, and of nothing else

@@ -94,6 +94,24 @@ pub data Side : Type 0 where
   waiting : State → Side
   going : State → List Pair → List Spoken → Side
 
+-- the masks that host 0 holds; and host 0 with other masks, its trail as it was
+abbrev pub dealer-holds : Dealer → Pair
+dealer-holds (idle r) = r
+dealer-holds (ready r t) = r
+
+abbrev pub with-masks : Dealer → Pair → Dealer
+with-masks (idle r) r′ = idle r′
+with-masks (ready r t) r′ = ready r′ t
+
+-- the state that host 1 or 2 holds; and the host with another, its trail and the words that it has spoken as they were
+abbrev pub side-state : Side → State
+side-state (waiting s) = s
+side-state (going s t said) = s
+
+abbrev pub with-state : Side → State → Side
+with-state (waiting s) s′ = waiting s′
+with-state (going s t said) s′ = going s′ t said
+
 -- the three hosts, and the buffer that the deals are written to
 pub data World : Type 0 where
   world : Dealer → List ℕ → Side → Side → World
@@ -114,32 +132,25 @@ pub data Turned (n : ℕ) : State → State → Type 0 where
       → Turned n s (with-registers n s (registers n (start loan (registers n s) .state)))
   at-hearing : {s : State} (loan : Lent) (v : ℕ) → hear loan s v .number ≢ 0 → Turned n s (hear loan s v .state)
 
+-- whatever the host holds: a refused call of host 0 leaves its trail, one of host 1 or 2 its trail and the words that it
+-- has spoken
 pub data Refuses (n : ℕ) : World → World → Type 0 where
   -- a preparation, lent the run's buffer
-  dealer : {r : Pair} {buf : List ℕ} {one two : Side} (σ : Script) (A B : List ℕ) → prepare σ A B buf r .number ≢ 0
-      → Refuses n (world (idle r) buf one two)
-      (world (idle (prepare σ A B buf r .masks)) (prepare σ A B buf r .buffer) one two)
-  dealer-later : {r : Pair} {t : List Pair} {buf : List ℕ} {one two : Side} (σ : Script) (A B : List ℕ)
-      → prepare σ A B buf r .number ≢ 0
-      → Refuses n (world (ready r t) buf one two)
-      (world (ready (prepare σ A B buf r .masks) t) (prepare σ A B buf r .buffer) one two)
+  refuses0 : {z : Dealer} {buf : List ℕ} {one two : Side} (σ : Script) (A B : List ℕ)
+      → prepare σ A B buf (dealer-holds z) .number ≢ 0
+      → Refuses n (world z buf one two)
+      (world (with-masks z (prepare σ A B buf (dealer-holds z) .masks)) (prepare σ A B buf (dealer-holds z) .buffer)
+      one two)
   -- or another buffer
-  dealer-elsewhere : {r : Pair} {buf : List ℕ} {one two : Side} (σ : Script) (A B other : List ℕ)
-      → prepare σ A B other r .number ≢ 0
-      → Refuses n (world (idle r) buf one two) (world (idle (prepare σ A B other r .masks)) buf one two)
-  dealer-later-elsewhere : {r : Pair} {t : List Pair} {buf : List ℕ} {one two : Side} (σ : Script) (A B other : List ℕ)
-      → prepare σ A B other r .number ≢ 0
-      → Refuses n (world (ready r t) buf one two) (world (ready (prepare σ A B other r .masks) t) buf one two)
-  one-waiting : {z : Dealer} {buf : List ℕ} {s s′ : State} {two : Side} → Turned n s s′
-      → Refuses n (world z buf (waiting s) two) (world z buf (waiting s′) two)
-  two-waiting : {z : Dealer} {buf : List ℕ} {s s′ : State} {one : Side} → Turned n s s′
-      → Refuses n (world z buf one (waiting s)) (world z buf one (waiting s′))
-  one-going : {z : Dealer} {buf : List ℕ} {s s′ : State} {t : List Pair} {said : List Spoken} {two : Side}
-      → Turned n s s′
-      → Refuses n (world z buf (going s t said) two) (world z buf (going s′ t said) two)
-  two-going : {z : Dealer} {buf : List ℕ} {s s′ : State} {t : List Pair} {said : List Spoken} {one : Side}
-      → Turned n s s′
-      → Refuses n (world z buf one (going s t said)) (world z buf one (going s′ t said))
+  refuses0-elsewhere : {z : Dealer} {buf : List ℕ} {one two : Side} (σ : Script) (A B other : List ℕ)
+      → prepare σ A B other (dealer-holds z) .number ≢ 0
+      → Refuses n (world z buf one two)
+      (world (with-masks z (prepare σ A B other (dealer-holds z) .masks)) buf one two)
+  -- a starting or hearing
+  refuses1 : {z : Dealer} {buf : List ℕ} {one two : Side} {s : State} → Turned n (side-state one) s
+      → Refuses n (world z buf one two) (world z buf (with-state one s) two)
+  refuses2 : {z : Dealer} {buf : List ℕ} {one two : Side} {s : State} → Turned n (side-state two) s
+      → Refuses n (world z buf one two) (world z buf one (with-state two s))
 
 -- ---- calls that complete, of the run's own script
 
