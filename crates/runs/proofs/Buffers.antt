@@ -1,5 +1,5 @@
 -- What the buffer holds: the joint walk's deals in gate order, then the words that stood behind them. Assumes nothing.
-use mathlib.Core.Path.{_≡_, refl, sym, ap, _∙_}
+use mathlib.Core.Path.{_≡_, refl, ap, _∙_}
 use mathlib.Core.List.{List, [], _∷_, _++_}
 use Prim.Native.Nat.{ℕ}
 use lib.ListN.{length, drop}
@@ -9,7 +9,7 @@ use Rattle.gates.proofs.Lanes.{of0-act}
 use Rattle.jobs.specs.Job.{Fault}
 use Rattle.calls.specs.Lent.{dealer-fault}
 use Rattle.calls.specs.Calls.{script-deals, prepare}
-use Rattle.runs.specs.Runs.{Stage, Spoken, Dealer, idle, ready, Side, World, world, Refuses, Call, preparation, Completes, prepares, starts1, starts2, hears1, hears2, Begins, given-out, Run, begin, buffer-of}
+use Rattle.runs.specs.Runs.{Stage, Spoken, idle, ready, Side, World, world, Call, preparation, Completes, prepares, starts1, starts2, hears1, hears2, Begins, given-out, Run, begin, buffer-of}
 use Rattle.runs.specs.Strict.{Calls, none, completes, refuses}
 use Rattle.runs.specs.Buffers.{defined-deals, deals-of, with-deals, Buffers}
 use Rattle.runs.proofs.Kept.{Ok, ok, not-yet, prepared-none, refuses-nothing, kept}

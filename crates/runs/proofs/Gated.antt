@@ -32,7 +32,7 @@ use Rattle.calls.specs.Scripts.{Orderly}
 use Rattle.calls.specs.Calls.{fresh}
 use Rattle.runs.proofs.Lists.{length-map}
 use Rattle.runs.specs.Runs.{Stage}
-use Rattle.runs.specs.Orders.{Words, first, trail, after-order, before-order, slot, first-counts, mask-behind}
+use Rattle.runs.specs.Orders.{Words, first, trail, after-order, before-order, slot, first-counts, mask-behind, share-before, share-after, value-before, value-after, mask-before}
 use Rattle.runs.proofs.Kept.{j₀-lengths}
 use Rattle.runs.proofs.Chain.{ended, points, job-trail, point-before, point-after, point-next}
 
@@ -150,9 +150,9 @@ module _ (w : ℕ) (S : Stage) (tidy : Orderly (S .script)) (words : Words w S) 
           ap₂ (add w) (ap (at (S .A)) (omega (arith, p .a, r .a))) (ap (at (S .B)) (omega (arith, p .b, r .b)))
 
       -- "each order opens to the value that document 01 defines for it"
-      pub program-leaves : value (numbers w) (slot (after-order S q) (o .target))
-          ≡ order-value w ps o (value (numbers w) (slot (before-order S q) (o .source))) (value (numbers w) (slot (before-order S q) (o .fourth)))
-          (mask (numbers w) (slot (before-order S q) (o .source))) (mask-behind w (S .A) (S .B) (first-counts w q gates) (sum-program w (o .source) ps))
+      pub program-leaves : value-after w S q (o .target)
+          ≡ order-value w ps o (value-before w S q (o .source)) (value-before w S q (o .fourth))
+          (mask-before w S q (o .source)) (mask-behind w (S .A) (S .B) (first-counts w q gates) (sum-program w (o .source) ps))
       unfolding order-value program num l1-of l2-of curve-mask
       program-leaves =
           ap (λ (t : Triple). value (numbers w) (slot t (o .target))) left-is
@@ -161,7 +161,7 @@ module _ (w : ℕ) (S : Stage) (tidy : Orderly (S .script)) (words : Words w S) 
           (sym (before-is q hq)) mask-is
 
       -- "the register keeps that until an order writes it"
-      pub program-keeps : (i : ℕ) → i < 16 → eqb i (o .target) ≡ false → slot (after-order S q) i ≡ slot (before-order S q) i
+      pub program-keeps : (i : ℕ) → i < 16 → eqb i (o .target) ≡ false → share-after S q i ≡ share-before S q i
       unfolding program
       program-keeps i hi e =
           ap (λ (t : Triple). slot t i) left-is

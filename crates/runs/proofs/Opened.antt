@@ -7,8 +7,6 @@ use Prim.Native.Nat.{ℕ, _≤_, _<_}
 use native.Mathlib.Omega.{arith}
 use lib.Dec.{eqb}
 use lib.ListN.{getD, length}
-use Rattle.words.specs.Words.{numbers}
-use Rattle.shares.specs.Gates.{value, mask}
 use Rattle.tables.specs.Table.{Row, rows, keeps-rules}
 use Rattle.tables.proofs.Rows.{for-table}
 use Rattle.gates.specs.declared.Gate.{Gate}
@@ -21,7 +19,7 @@ use Rattle.jobs.proofs.Accepted.{Good, accepted-orders}
 use Rattle.calls.proofs.Scripts.{job-made}
 use Rattle.runs.proofs.Lists.{getD-map}
 use Rattle.runs.specs.Runs.{Setting, staged}
-use Rattle.runs.specs.Orders.{Words, trail, after-order, before-order, slot, order-of, used-before, refresh-mask}
+use Rattle.runs.specs.Orders.{Words, trail, order-of, used-before, refresh-mask, share-before, share-after, value-before, value-after, mask-before}
 use Rattle.runs.proofs.Chain.{job-orderly, gates-length}
 use Rattle.runs.proofs.Gated.{trail-gates, program-leaves, program-keeps}
 
@@ -61,12 +59,12 @@ module _ (w : ℕ) (S : Setting) where
     some-row e = for-table (λ rs. 0 < length rs) (λ p rs h. omega arith) (S .table) (rw e tt)
 
     -- "each order opens to the value that document 01 defines for it"
-    pub order-leaves : value (numbers w) (slot (after-order (staged w S) q) (o .target))
-        ≡ order-value w ps o (value (numbers w) (slot (before-order (staged w S) q) (o .source))) (value (numbers w) (slot (before-order (staged w S) q) (o .fourth)))
-        (mask (numbers w) (slot (before-order (staged w S) q) (o .source))) (refresh-mask w S q)
+    pub order-leaves : value-after w (staged w S) q (o .target)
+        ≡ order-value w ps o (value-before w (staged w S) q (o .source)) (value-before w (staged w S) q (o .fourth))
+        (mask-before w (staged w S) q (o .source)) (refresh-mask w S q)
     unfolding refresh-mask used-before
     order-leaves = program-leaves w (staged w S) (job-orderly w (S .job) (S .table)) words gates made low wide q (in-gates q hq) ps o (gates-is q hq) (keeps-rules (S .table)) order-good some-row
 
     -- "the register keeps that until an order writes it"
-    pub order-keeps : (i : ℕ) → i < 16 → eqb i (o .target) ≡ false → slot (after-order (staged w S) q) i ≡ slot (before-order (staged w S) q) i
+    pub order-keeps : (i : ℕ) → i < 16 → eqb i (o .target) ≡ false → share-after (staged w S) q i ≡ share-before (staged w S) q i
     order-keeps = program-keeps w (staged w S) (job-orderly w (S .job) (S .table)) words gates made low wide q (in-gates q hq) ps o (gates-is q hq) (keeps-rules (S .table)) order-good some-row

@@ -21,8 +21,8 @@ use Rattle.jobs.proofs.Accepted.{Good}
 use Rattle.calls.specs.Scripts.{orders-in}
 use Rattle.calls.proofs.Scripts.{job-made}
 use Rattle.runs.specs.Runs.{Stage, Setting, staged, World, Call, Run, trail0, order1, order2, Finished, opened-after}
-use Rattle.runs.specs.Orders.{first, trail, slot, after-order, before-order, Unwritten, order-of}
-use Rattle.runs.specs.Orders.{reading, opens, Finishes}
+use Rattle.runs.specs.Orders.{first, trail, after-order, before-order, Unwritten, order-of}
+use Rattle.runs.specs.Orders.{reading, opens, Finishes, share-before}
 use Rattle.runs.specs.Returned.{opened-given}
 use Rattle.runs.specs.Readings.{reading-of, mask-of, mask-after, mask-given, UnwrittenBetween, UntargetedBetween, Origin, of-order, of-given, Readings}
 use Rattle.runs.proofs.Lists.{getD-map}
@@ -52,14 +52,14 @@ module _ (S : Stage) where
           omega (arith, ends-pos (act (S .A) (S .B)) (all S) (j₀ S) (X .n))
 
   -- "the register keeps that until an order writes it": from just before order p to just before order q
-  kept-to : (p i q : ℕ) → p ≤ q → q ≤ orders-in (S .script) → UnwrittenBetween S p q i → slot (before-order S q) i ≡ slot (before-order S p) i
+  kept-to : (p i q : ℕ) → p ≤ q → q ≤ orders-in (S .script) → UnwrittenBetween S p q i → share-before S q i ≡ share-before S p i
   unfolding before-order
-  kept-to p i zero l h u = let e : 0 ≡ p = omega arith in ap (λ (n : ℕ). slot (before-order S n) i) e
+  kept-to p i zero l h u = let e : 0 ≡ p = omega arith in ap (λ (n : ℕ). share-before S n i) e
   kept-to p i (suc q) l h u = go (decLe p q) (λ k. kept-to p i q k (omega arith) (λ n a b. u n a (omega arith)))
     where
-      go : Dec (p ≤ q) → (p ≤ q → slot (before-order S q) i ≡ slot (before-order S p) i) → slot (before-order S (suc q)) i ≡ slot (before-order S p) i
+      go : Dec (p ≤ q) → (p ≤ q → share-before S q i ≡ share-before S p i) → share-before S (suc q) i ≡ share-before S p i
       go (yes k) f = slot-kept S q i (omega arith) (u q k (omega arith)) ∙ f k
-      go (no k) f = let e : suc q ≡ p = omega arith in ap (λ (n : ℕ). slot (before-order S n) i) e
+      go (no k) f = let e : suc q ≡ p = omega arith in ap (λ (n : ℕ). share-before S n i) e
 
   -- host 0's masks as order p left them
   host0-left : {cs : List Call} (v : World) → Run S cs v → (p : ℕ) → Finished v p → getD (trail0 v) p ([], []) ≡ of0 (after-order S p)

@@ -1,5 +1,5 @@
 -- After every run: what the hosts now hold opens what the last order that wrote the register opened, or what was given. Assumes nothing.
-use mathlib.Core.Path.{_≡_, refl, sym, ap, _∙_, subst}
+use mathlib.Core.Path.{_≡_, refl, sym, ap, _∙_}
 use mathlib.Core.Bool.{Bool, true, false, true≢false}
 use mathlib.Core.List.{List, [], _∷_, _++_}
 use Prim.Native.Nat.{ℕ, zero, suc, _+_, _-_, _≤_, _<_}
@@ -24,7 +24,7 @@ use Rattle.calls.proofs.Scripts.{job-made}
 use Rattle.calls.specs.Calls.{State, fresh}
 use Rattle.runs.specs.Runs.{Stage, Setting, staged, Spoken, Dealer, dealer-holds, Side, World, Call, Run, registers, order1, order2, Finished, opened-slot, opened-after}
 use Rattle.runs.specs.Orders.{Words, trail, after-order, slot, Unwritten, order-of}
-use Rattle.runs.specs.Orders.{Finishes}
+use Rattle.runs.specs.Orders.{Finishes, share-after, value-after}
 use Rattle.runs.specs.Returned.{side-holds, opened-now, opened-given, UnwrittenFrom, Holds, by-order, by-given, UntargetedFrom, JobHolds, of-order, of-given, Returned}
 use Rattle.runs.proofs.Places.{pos, trail-pos, trail-length, whole-pos}
 use Rattle.runs.proofs.Ties.{joint, Tied}
@@ -34,7 +34,7 @@ use Rattle.runs.proofs.Opened.{gates, gates-is, order-good}
 use Rattle.runs.proofs.InJob.{in-job, checked}
 use Rattle.runs.proofs.Opening.{finished-order, finished-opens}
 use Rattle.runs.proofs.Written.{Spares, spares-program}
-use Rattle.runs.proofs.Unwritten.{Misses, act-misses, Spared, spared-all, closed-from, gated-from}
+use Rattle.runs.proofs.Unwritten.{act-misses, Spared, spared-all, closed-from, gated-from}
 
 -- ---- along the joint walk
 
@@ -152,7 +152,7 @@ module _ (w : ℕ) (S : Stage) (i : ℕ) (hi : i < S .script .slots) where
   -- ---- an order q that is finished, where no later order writes register i
 
   pub now-after : {cs : List Call} (v : World) → Run S cs v → (q : ℕ) → Finished v q → UnwrittenFrom S (suc q) i
-      → opened-now w (S .script .slots) v i ≡ (0, signed w (value (numbers w) (slot (after-order S q) i)))
+      → opened-now w (S .script .slots) v i ≡ (0, signed w (value-after w S q i))
   unfolding opened-now after-order trail
   now-after v r q f u = go v (kept S r) (f .one) (f .two) (finished-order S v r q f)
     where
@@ -160,24 +160,24 @@ module _ (w : ℕ) (S : Stage) (i : ℕ) (hi : i < S .script .slots) where
       h = spared-all S (suc q) i u
 
       x : Share ℕ
-      x = slot (after-order S q) i
+      x = share-after S q i
 
-      at-end : q < length (trail S) → slot (last S .state) i ≡ slot (after-order S q) i
+      at-end : q < length (trail S) → slot (last S .state) i ≡ share-after S q i
       at-end l =
           let e = last-is (S .A) (S .B) (all S) (j₀ S) in
           let k : q < length (joint (S .A) (S .B) (all S) (j₀ S) (length (all S)) .trail) = rw (← ap (λ (p : Conf Triple). p .trail) e) l in
           ap (λ (p : Conf Triple). slot (p .state) i) e
           ∙ past-is (S .A) (S .B) (all S) (j₀ S) q i (length (all S)) h (rw (trail-length (act (S .A) (S .B)) (all S) (j₀ S) (length (all S))) at k)
 
-      go : (v : World) → Ok S v → q < order1 v → q < order2 v → q < length (trail S) → opened-now w (S .script .slots) v i ≡ (0, signed w (value (numbers w) (slot (after-order S q) i)))
+      go : (v : World) → Ok S v → q < order1 v → q < order2 v → q < length (trail S) → opened-now w (S .script .slots) v i ≡ (0, signed w (value-after w S q i))
       go _ (ok z (wait1 a) two b) l k m = absurd (not-suc-le-zero l)
       go _ (ok z (go1 X) (wait2 a) b) l k m = absurd (not-suc-le-zero k)
       go _ (ok (not-yet a) (go1 X) (go2 Y) b) l k m = absurd b
       go _ (ok (dealt-all {r = r} p g a e) (go1 {s = s1} X) (go2 {s = s2} Y) b) l k m =
-          let p0 = host0-has (slot (after-order S q) i) r (at-end m) a in
-          let p1 = host1-has (slot (after-order S q) i) _ _ _ X (past-is (S .A) (S .B) (all S) (j₀ S) q i (X .n) h (rw (X .is) at l)) in
-          let p2 = host2-has (slot (after-order S q) i) _ _ _ Y (past-is (S .A) (S .B) (all S) (j₀ S) q i (Y .n) h (rw (Y .is) at k)) in
-          same-share w r (registers (S .script .slots) s1) (registers (S .script .slots) s2) i (slot (after-order S q) i) (p0 .0) (p0 .1) (p1 .0) (p1 .1) (p2 .0) (p2 .1)
+          let p0 = host0-has (share-after S q i) r (at-end m) a in
+          let p1 = host1-has (share-after S q i) _ _ _ X (past-is (S .A) (S .B) (all S) (j₀ S) q i (X .n) h (rw (X .is) at l)) in
+          let p2 = host2-has (share-after S q i) _ _ _ Y (past-is (S .A) (S .B) (all S) (j₀ S) q i (Y .n) h (rw (Y .is) at k)) in
+          same-share w r (registers (S .script .slots) s1) (registers (S .script .slots) s2) i (share-after S q i) (p0 .0) (p0 .1) (p1 .0) (p1 .1) (p2 .0) (p2 .1)
 
   -- ---- a register that no order writes
 

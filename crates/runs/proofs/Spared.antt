@@ -13,7 +13,7 @@ use Rattle.gates.specs.Walk.{whole}
 use Rattle.gates.specs.Hosts.{Triple, act}
 use Rattle.calls.specs.Scripts.{ends, orders-in}
 use Rattle.runs.specs.Runs.{Stage}
-use Rattle.runs.specs.Orders.{first, trail, after-order, before-order, slot, Unwritten}
+use Rattle.runs.specs.Orders.{first, trail, after-order, before-order, slot, Unwritten, share-before, share-after}
 
 module _ (A B : List ℕ) where
   abbrev left : List Step → Cursor → Triple → List Triple
@@ -64,7 +64,7 @@ module _ (A B : List ℕ) where
       ∙ kept-next i q ss (past end c) j e (omega arith) u
       ∙ ap (λ (t : List Triple). slot (getD t (suc q) e) i) (sym (ended ss c j))
 
-pub slot-kept : (S : Stage) (q i : ℕ) → q < orders-in (S .script) → Unwritten i q (S .script .steps) → slot (after-order S q) i ≡ slot (before-order S q) i
+pub slot-kept : (S : Stage) (q i : ℕ) → q < orders-in (S .script) → Unwritten i q (S .script .steps) → share-after S q i ≡ share-before S q i
 unfolding trail after-order before-order
 slot-kept S zero i h u = kept-first (S .A) (S .B) i (S .script .steps) origin (first S) (first S) h u
 slot-kept S (suc q) i h u = kept-next (S .A) (S .B) i q (S .script .steps) origin (first S) (first S) h u

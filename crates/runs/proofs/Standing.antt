@@ -6,19 +6,19 @@ use Prim.Native.Nat.{ℕ, zero, suc, _+_, _-_, _<_}
 use native.Mathlib.Nat.{zero-add}
 use native.Mathlib.Omega.{arith}
 use lib.Dec.{eqb}
-use lib.ListN.{getD, length, take, length-append, List·getD-append}
+use lib.ListN.{getD, length, length-append, List·getD-append}
 use lib.Seq.{getD-take, getD-at}
 use Rattle.shares.specs.Gates.{Share}
 use Rattle.tables.specs.Table.{rows}
-use Rattle.gates.specs.Steps.{Lane, at, Exchange, Step, local, deal, exchange, end, Cursor, origin, past}
-use Rattle.gates.specs.Walk.{Conf, conf, whole, next}
+use Rattle.gates.specs.Steps.{Lane, at, Exchange, Step, local, deal, exchange, end, Cursor, past}
+use Rattle.gates.specs.Walk.{Conf, conf, next}
 use Rattle.gates.specs.Hosts.{Pair, Triple, of1, of2, act, joint1, joint2}
 use Rattle.jobs.specs.Job.{orders}
 use Rattle.calls.specs.Scripts.{orders-in, ends, Closed}
 use Rattle.calls.proofs.Scripts.{job-made}
 use Rattle.calls.specs.Calls.{State}
 use Rattle.runs.specs.Runs.{Stage, Setting, staged, Spoken, Dealer, ready, Side, going, world, Call, Run}
-use Rattle.runs.specs.Orders.{first, trail, after-order, before-order, slot, Unwritten, order-of}
+use Rattle.runs.specs.Orders.{trail, after-order, before-order, slot, Unwritten, order-of, share-before}
 use Rattle.runs.proofs.Places.{pos, ends-pos, trail-pos, trail-length}
 use Rattle.runs.proofs.Ties.{joint, Tied}
 use Rattle.runs.proofs.Kept.{all, j₀, last, Ok, ok, dealt-all, go1, go2, kept}
@@ -118,7 +118,7 @@ module _ (S : Stage) where
       sym (ap (λ (u : List Triple). getD u q (j₀ S)) (r .1) ∙ List·getD-append (point n .trail) (r .0) (j₀ S) q l)
 
   -- slot i at position n
-  stands-at : (n i : ℕ) → Unwritten i (point n .cur .order) (all S) → slot (point n .state) i ≡ slot (before-order S (point n .cur .order)) i
+  stands-at : (n i : ℕ) → Unwritten i (point n .cur .order) (all S) → slot (point n .state) i ≡ share-before S (point n .cur .order) i
   stands-at n i u = current A B (all S) (j₀ S) i n .same u ∙ ap (λ (x : Triple). slot x i) (before-is n _ refl)
 
   module _ (h : Triple → Pair) (say : Exchange → Cursor → Triple → ℕ) (s : State) (t : List Pair) (said : List Spoken)
@@ -126,28 +126,28 @@ module _ (S : Stage) where
     order-is : s .order ≡ point (Z .n) .cur .order
     order-is = ap (λ (x : State). x .order) (Z .is)
 
-    tied-stands : Unwritten i (s .order) (all S) → slot (point (Z .n) .state) i ≡ slot (before-order S (s .order)) i
+    tied-stands : Unwritten i (s .order) (all S) → slot (point (Z .n) .state) i ≡ share-before S (s .order) i
     tied-stands u =
-        stands-at (Z .n) i (subst (λ (q : ℕ). Unwritten i q (all S)) order-is u) ∙ ap (λ (q : ℕ). slot (before-order S q) i) (sym order-is)
+        stands-at (Z .n) i (subst (λ (q : ℕ). Unwritten i q (all S)) order-is u) ∙ ap (λ (q : ℕ). share-before S q i) (sym order-is)
 
   -- ---- host by host
 
   pub stands1 : {cs : List Call} {z : Dealer} {buf : List ℕ} {s : State} {t : List Pair} {said : List Spoken} {two : Side} → Run S cs (world z buf (going s t said) two)
-      → (i : ℕ) → Unwritten i (s .order) (all S) → (at (s .m) i ≡ slot (before-order S (s .order)) i .m) × (at (s .mask) i ≡ slot (before-order S (s .order)) i .l1)
+      → (i : ℕ) → Unwritten i (s .order) (all S) → (at (s .m) i ≡ share-before S (s .order) i .m) × (at (s .mask) i ≡ share-before S (s .order) i .l1)
   stands1 {s = s} {t = t} {said = said} r i u = go (kept S r)
     where
       go : {z : Dealer} {buf : List ℕ} {two : Side} → Ok S (world z buf (going s t said) two)
-          → (at (s .m) i ≡ slot (before-order S (s .order)) i .m) × (at (s .mask) i ≡ slot (before-order S (s .order)) i .l1)
+          → (at (s .m) i ≡ share-before S (s .order) i .m) × (at (s .mask) i ≡ share-before S (s .order) i .l1)
       go (ok z (go1 X) two a) =
           let e = tied-stands of1 (joint1 A B) s t said X i u in
           (ap (λ (x : State). at (x .m) i) (X .is) ∙ ap (λ (x : Share ℕ). x .m) e, ap (λ (x : State). at (x .mask) i) (X .is) ∙ ap (λ (x : Share ℕ). x .l1) e)
 
   pub stands2 : {cs : List Call} {z : Dealer} {buf : List ℕ} {one : Side} {s : State} {t : List Pair} {said : List Spoken} → Run S cs (world z buf one (going s t said))
-      → (i : ℕ) → Unwritten i (s .order) (all S) → (at (s .m) i ≡ slot (before-order S (s .order)) i .m) × (at (s .mask) i ≡ slot (before-order S (s .order)) i .l2)
+      → (i : ℕ) → Unwritten i (s .order) (all S) → (at (s .m) i ≡ share-before S (s .order) i .m) × (at (s .mask) i ≡ share-before S (s .order) i .l2)
   stands2 {s = s} {t = t} {said = said} r i u = go (kept S r)
     where
       go : {z : Dealer} {buf : List ℕ} {one : Side} → Ok S (world z buf one (going s t said))
-          → (at (s .m) i ≡ slot (before-order S (s .order)) i .m) × (at (s .mask) i ≡ slot (before-order S (s .order)) i .l2)
+          → (at (s .m) i ≡ share-before S (s .order) i .m) × (at (s .mask) i ≡ share-before S (s .order) i .l2)
       go (ok z one (go2 Y) a) =
           let e = tied-stands of2 (joint2 A B) s t said Y i u in
           (ap (λ (x : State). at (x .m) i) (Y .is) ∙ ap (λ (x : Share ℕ). x .m) e, ap (λ (x : State). at (x .mask) i) (Y .is) ∙ ap (λ (x : Share ℕ). x .l2) e)
@@ -162,19 +162,19 @@ module _ (S : Stage) where
       go [] e l = sym (zero-add _) ∙ e
       go (x ∷ ss) e l = absurd (omega arith)
 
-  last-stands : Closed (all S) → (i : ℕ) → slot (last S .state) i ≡ slot (before-order S (orders-in (S .script))) i
+  last-stands : Closed (all S) → (i : ℕ) → slot (last S .state) i ≡ share-before S (orders-in (S .script)) i
   last-stands shut i =
       let n : ℕ = length (all S) in
       let u : Unwritten i (point n .cur .order) (all S) = closed-from i (all S) shut (point n .cur .order) (omega (arith, last-order)) in
-      ap (λ (p : Conf Triple). slot (p .state) i) (last-is A B (all S) (j₀ S)) ∙ stands-at n i u ∙ ap (λ (q : ℕ). slot (before-order S q) i) last-order
+      ap (λ (p : Conf Triple). slot (p .state) i) (last-is A B (all S) (j₀ S)) ∙ stands-at n i u ∙ ap (λ (q : ℕ). share-before S q i) last-order
 
   pub stands0 : {cs : List Call} {r : Pair} {t : List Pair} {buf : List ℕ} {one two : Side} → Closed (all S) → Run S cs (world (ready r t) buf one two)
       → (i : ℕ) → i < S .script .slots
-      → (at (r .0) i ≡ slot (before-order S (orders-in (S .script))) i .l1) × (at (r .1) i ≡ slot (before-order S (orders-in (S .script))) i .l2)
+      → (at (r .0) i ≡ share-before S (orders-in (S .script)) i .l1) × (at (r .1) i ≡ share-before S (orders-in (S .script)) i .l2)
   stands0 {r = r} {t = t} shut R i h = go (kept S R)
     where
       go : {buf : List ℕ} {one two : Side} → Ok S (world (ready r t) buf one two)
-          → (at (r .0) i ≡ slot (before-order S (orders-in (S .script))) i .l1) × (at (r .1) i ≡ slot (before-order S (orders-in (S .script))) i .l2)
+          → (at (r .0) i ≡ share-before S (orders-in (S .script)) i .l1) × (at (r .1) i ≡ share-before S (orders-in (S .script)) i .l2)
       go (ok (dealt-all p g e k) one two a) =
           let z = last-stands shut i in (
             ap (λ (x : Pair). at (x .0) i) e ∙ getD-take (S .script .slots) (last S .state .1) i 0 h ∙ ap (λ (x : Share ℕ). x .l1) z,

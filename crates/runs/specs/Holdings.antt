@@ -6,18 +6,13 @@ use mathlib.Core.List.{List}
 use Prim.Native.Nat.{ℕ, _<_}
 use lib.Dec.{eqb}
 use lib.ListN.{length}
-use Rattle.shares.specs.Gates.{Share}
 use Rattle.gates.specs.Steps.{at}
 use Rattle.gates.specs.Hosts.{Pair}
 use Rattle.jobs.specs.Job.{orders}
 use Rattle.calls.specs.Scripts.{orders-in, Orderly}
 use Rattle.calls.specs.Calls.{State}
 use Rattle.runs.specs.Runs.{Stage, Setting, staged, Spoken, Dealer, ready, Side, going, world, Call, Run}
-use Rattle.runs.specs.Orders.{slot, before-order, Unwritten, order-of}
-
--- the share in slot i just before order q
-abbrev pub share-before : Stage → (q i : ℕ) → Share ℕ
-share-before S q i = slot (before-order S q) i
+use Rattle.runs.specs.Orders.{share-before, Unwritten, order-of}
 
 -- register i is not the target of order q of a job, if there is such an order
 abbrev pub Spared : Setting → (q i : ℕ) → Type 0

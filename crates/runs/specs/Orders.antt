@@ -52,12 +52,22 @@ before-order S (suc q) = after-order S q
 abbrev pub slot : Triple → ℕ → Share ℕ
 slot = share
 
--- what slot i opens just before order q, and its mask there, "L = L1 + L2"
+-- the share in slot i just before order q, and as order q leaves it
+abbrev pub share-before : Stage → (q i : ℕ) → Share ℕ
+share-before S q i = slot (before-order S q) i
+
+abbrev pub share-after : Stage → (q i : ℕ) → Share ℕ
+share-after S q i = slot (after-order S q) i
+
+-- what slot i opens just before order q, and its mask there, "L = L1 + L2"; and what it opens as order q leaves it
 abbrev pub value-before : (w : ℕ) → Stage → (q i : ℕ) → ℕ
-value-before w S q i = value (numbers w) (slot (before-order S q) i)
+value-before w S q i = value (numbers w) (share-before S q i)
 
 abbrev pub mask-before : (w : ℕ) → Stage → (q i : ℕ) → ℕ
-mask-before w S q i = mask (numbers w) (slot (before-order S q) i)
+mask-before w S q i = mask (numbers w) (share-before S q i)
+
+abbrev pub value-after : (w : ℕ) → Stage → (q i : ℕ) → ℕ
+value-after w S q i = value (numbers w) (share-after S q i)
 
 -- no step of order q has slot i as its target
 abbrev pub Unwritten : (i q : ℕ) → List Step → Type 0
