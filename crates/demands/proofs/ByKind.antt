@@ -2,7 +2,7 @@
 use mathlib.Core.Path.{_≡_, sym, ap, _∙_}
 use Prim.Native.Nat.{ℕ, _^_, _≤_, _<_}
 use borrow.Author.Tests.{ltb-false}
-use lib.Dec.{T, eqb, ltb, lit≤, lit<}
+use lib.Dec.{T, eqb, ltb, lit≤}
 use lib.IntN.{ℤ, pos, negℤ, _+ℤ_, _-ℤ_, _*ℤ_}
 use Rattle.words.specs.Words.{add, numbers}
 use Rattle.words.specs.Signed.{floor, signed, wrap, in-range}
@@ -21,10 +21,9 @@ use Rattle.jobs.proofs.Accepted.{or-false}
 use Rattle.runs.specs.Runs.{Setting, staged, World}
 use Rattle.runs.specs.Orders.{slot, before-order, order-of, refresh-mask, reading, opens, Finishes}
 use Rattle.demands.specs.Demand3.{Y-of, Exact, OneBit}
-use Rattle.runs.specs.Readings.{reading-of, mask-of}
+use Rattle.runs.specs.Readings.{reading-of}
 use Rattle.demands.specs.ByKind.{reduced, second-reading, shift, L-of, m-of, W-of, ByKind}
-use Rattle.runs.proofs.Opened.{order-good}
-use Rattle.runs.proofs.InJob.{in-job, checked}
+use Rattle.runs.proofs.InJob.{good-order}
 use Rattle.demands.proofs.Curves.{source-word, of-kind, rules-kept, curve-opens}
 
 -- a word opened
@@ -76,7 +75,7 @@ module _ (S : Setting) (q : ℕ) (v : World) (F : Finishes 32 (staged 32 S) q v)
 
   large-slack : order-of S q .kind ≡ 6
       → opens 32 S v q ≡ (0, reduced (floor (reduced (negℤ (pos (L-of S q)))) (2 ^ shift S q) +ℤ floor (signed 32 (m-of S q)) (2 ^ shift S q)))
-  unfolding values reduced reading L-of mask-of m-of
+  unfolding values reduced reading L-of m-of
   large-slack e = of-kind S q v F 6 e ∙ ap opened (slack-reads 32 (order-of S q .fourth) x L hx hL)
 
   -- "k 1 to 30"
@@ -84,15 +83,15 @@ module _ (S : Setting) (q : ℕ) (v : World) (F : Finishes 32 (staged 32 S) q v)
   unfolding ill-fourth ill-fourths
   shift-low e =
       ltb-false 30 (shift S q)
-      (or-false (eqb (shift S q) 0) (ltb 30 (shift S q)) (rw e at (order-good 32 S (F .words) (lit≤ tt) (lit< tt) (checked 32 S q v F .script) q (in-job 32 S q v F) .fourth)) .1)
+      (or-false (eqb (shift S q) 0) (ltb 30 (shift S q)) (rw e at (good-order 32 S q v F .fourth)) .1)
 
   one-bit-range : order-of S q .kind ≡ 7 → T (in-range 32 (reading 32 S q))
       → opens 32 S v q ≡ (0, floor (reading 32 S q) (2 ^ shift S q) +ℤ pos (slip (shift S q) (wrap (shift S q) (reading 32 S q)) (L-of S q)))
-  unfolding values reading L-of mask-of
+  unfolding values reading L-of
   one-bit-range e h = of-kind S q v F 7 e ∙ ap {B = ℕ × ℤ} (λ (z : ℤ). (0, z)) (one-bit-reads 32 (shift S q) x L (lit≤ tt) (shift-low e) hx hL h)
 
   one-bit-steps : order-of S q .kind ≡ 7 → opens 32 S v q ≡ (0, signed 32 (one-bit 32 (shift S q) (m-of S q) (L-of S q)))
-  unfolding values reading L-of mask-of m-of
+  unfolding values reading L-of m-of
   one-bit-steps e = of-kind S q v F 7 e ∙ ap (λ (m : ℕ). opened (one-bit 32 (shift S q) m L)) (plus-reads 32 x hx L)
 
   exact-floor : order-of S q .kind ≡ 8 → opens 32 S v q ≡ (0, floor (reading 32 S q) (2 ^ shift S q))

@@ -1,7 +1,7 @@
 -- What a finished order opens after a run: its kind's value; of a curve, the curve's value of its reading. Assumes nothing.
 use mathlib.Core.Path.{_≡_, ap, _∙_}
 use Prim.Native.Nat.{ℕ, suc, _^_, _<_}
-use lib.Dec.{T, lit≤, lit<}
+use lib.Dec.{T, lit<}
 use lib.IntN.{ℤ, pos, _+ℤ_}
 use lib.ListN.{getD, length}
 use Rattle.words.specs.Words.{numbers}
@@ -17,9 +17,9 @@ use Rattle.jobs.proofs.Accepted.{curve-ruled}
 use Rattle.runs.specs.Runs.{Setting, staged, World}
 use Rattle.runs.specs.Orders.{slot, before-order, order-of, refresh-mask, reading, opens, Finishes}
 use Rattle.demands.specs.Demand3.{Y-of}
-use Rattle.runs.proofs.Opened.{order-good, order-leaves}
+use Rattle.runs.proofs.Opened.{order-leaves}
 use Rattle.runs.proofs.Opening.{finished-opens}
-use Rattle.runs.proofs.InJob.{in-job, checked}
+use Rattle.runs.proofs.InJob.{in-job, checked, good-order}
 
 module _ (S : Setting) (q : ℕ) (v : World) (F : Finishes 32 (staged 32 S) q v) where
   -- what the order's source opens just before it, as a word
@@ -44,13 +44,13 @@ module _ (S : Setting) (q : ℕ) (v : World) (F : Finishes 32 (staged 32 S) q v)
   unfolding order-value
   of-kind n e =
       finished-opens (staged 32 S) 32 v (F .run) q (order-of S q .target) (F .finished)
-      ∙ ap {B = ℕ × ℤ} (λ (x : ℕ). (0, signed 32 x)) (order-leaves 32 S (F .words) (lit≤ tt) (lit< tt) (checked 32 S q v F .script) q (in-job 32 S q v F)
+      ∙ ap {B = ℕ × ℤ} (λ (x : ℕ). (0, signed 32 x)) (order-leaves 32 S (F .words) (lit< tt) (checked 32 S q v F .script) q (in-job 32 S q v F)
       ∙ ap (λ (k : ℕ). getD (values 32 (rows (S .table)) (order-of S q .fourth) source-word (value (numbers 32) (slot (before-order (staged 32 S) q) (order-of S q .fourth))) (mask (numbers 32) (slot (before-order (staged 32 S) q) (order-of S q .source))) (refresh-mask 32 S q)) k 0) e)
 
   -- a curve order opens its curve's value
   module _ (k : order-of S q .kind ≡ 10) where
     pub rules-kept : T (keeps-rules (S .table))
-    rules-kept = rw (curve-ruled 32 (keeps-rules (S .table)) (order-of S q) (order-good 32 S (F .words) (lit≤ tt) (lit< tt) (checked 32 S q v F .script) q (in-job 32 S q v F)) k .1) tt
+    rules-kept = rw (curve-ruled 32 (keeps-rules (S .table)) (order-of S q) (good-order 32 S q v F) k .1) tt
 
     pub curve-opens : opens 32 S v q ≡ (0, signed 32 (curve-value 32 (rows (S .table)) (order-of S q .fourth) source-word (refresh-mask 32 S q)))
     unfolding values

@@ -3,7 +3,6 @@ use mathlib.Core.Path.{_≡_, refl, sym, ap, _∙_}
 use mathlib.Core.List.{List}
 use Prim.Native.Nat.{ℕ, zero, suc, _*_}
 use native.Mathlib.Omega.{arith}
-use lib.Dec.{lit≤, lit<}
 use Rattle.gates.specs.Steps.{Exchange, Step, Cursor, origin}
 use Rattle.gates.specs.Hosts.{Pair, Triple, of1, of2, joint1, joint2, Supplied}
 use Rattle.gates.proofs.Seen.{Always}
@@ -24,7 +23,7 @@ use Rattle.runs.proofs.Chain.{job-orders, job-orderly}
 use Rattle.runs.proofs.Spared.{slot-kept}
 use Rattle.runs.proofs.Opened.{order-keeps}
 use Rattle.runs.proofs.Opening.{finished-opens}
-use Rattle.runs.proofs.InJob.{in-job, checked}
+use Rattle.runs.proofs.InJob.{in-job}
 use Rattle.demands.proofs.Curves.{of-kind}
 use Rattle.runs.proofs.Counts.{stands, among-defined}
 
@@ -86,7 +85,7 @@ demand2 =
       order-opens = λ S q v F. of-kind S q v F (order-of S q .kind) refl;
       shares-agree = λ S q i v F. finished-opens S 32 v (F .run) q i (F .finished);
       slot-kept = slot-kept;
-      register-kept = λ S q i v F hi e. order-keeps 32 S (F .words) (lit≤ tt) (lit< tt) (checked 32 S q v F .script) q (in-job 32 S q v F) i hi e;
+      register-kept = λ S q i v F hi e. order-keeps 32 S q (in-job 32 S q v F) i hi e;
       host1-speaks = λ S cs z buf s t said two r. speaks1 S (kept S r);
       host2-speaks = λ S cs z buf one s t said r. speaks2 S (kept S r);
       deals-counted = λ S buf r. let f = dealer-fault (S .script) (S .A) (S .B) buf in prepared-count (f .0) f S buf r refl;

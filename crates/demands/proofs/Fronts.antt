@@ -172,7 +172,7 @@ as-last S q v v′ F F′ =
     let t : order-of (up-to S q) q .target ≡ order-of S q .target = ap (λ (o : Order). o .target) (of-same S q hq) in
     same (staged 32 (up-to S q)) (staged 32 S) (front S q hq) q v v′ F F′ (order-of S q .target)
     ∙ ap (opened-after 32 v′ q) (sym t)
-    ∙ sym (returned .last-writer (up-to S q) q v′ F′ (λ p l h. absurd (none-later S q hq p l h)))
+    ∙ sym (returned 32 .last-writer (up-to S q) q v′ F′ (λ p l h. absurd (none-later S q hq p l h)))
     ∙ ap (opened-now 32 16 v′) t
 
 pub fronts : Fronts

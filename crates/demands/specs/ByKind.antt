@@ -11,9 +11,9 @@ use Rattle.truncations.specs.Truncation.{one-bit, slip}
 use Rattle.tables.specs.Table.{Row, rows}
 use Rattle.curves.specs.Curve.{relu, word-curve, word-scaled}
 use Rattle.runs.specs.Runs.{Setting, staged, World}
-use Rattle.runs.specs.Orders.{order-of, refresh-mask, reading, opens, Finishes}
+use Rattle.runs.specs.Orders.{order-of, refresh-mask, reading, opens, Finishes, source-mask}
 use Rattle.demands.specs.Demand3.{Y-of, Exact, OneBit}
-use Rattle.runs.specs.Readings.{reading-of, mask-of}
+use Rattle.runs.specs.Readings.{reading-of}
 
 -- "arithmetic on them is modulo 2^32": the signed reading of the word that is z modulo 2^32
 unfoldable pub reduced : ℤ → ℤ
@@ -21,7 +21,7 @@ reduced z = signed 32 (wrap 32 z)
 
 -- what the second source opens just before order q: "The fourth word is the second source .. for kinds 0, 1, 4"
 unfoldable pub second-reading : Setting → ℕ → ℤ
-second-reading S q = reading-of (staged 32 S) q (order-of S q .fourth)
+second-reading S q = reading-of 32 (staged 32 S) q (order-of S q .fourth)
 
 -- "a shift k for 6, 7, 8"
 abbrev pub shift : Setting → ℕ → ℕ
@@ -29,7 +29,7 @@ shift S q = order-of S q .fourth
 
 -- the first source just before order q: its mask "L = L1 + L2", and "m = x + L"
 unfoldable pub L-of : Setting → ℕ → ℕ
-L-of S q = mask-of (staged 32 S) q (order-of S q .source)
+L-of S q = source-mask 32 S q
 
 unfoldable pub m-of : Setting → ℕ → ℕ
 m-of S q = wrap 32 (reading 32 S q +ℤ pos (L-of S q))

@@ -191,7 +191,7 @@ module _ (mode m l1 l2 : ℕ) where
     leaves : value (numbers 32) (slot (after-order (staged 32 S) 0) 0) ≡ curve-value 32 (rows house) (mode-word mode) x refresh-L
     unfolding order-of orders order-value values
     leaves =
-        order-leaves 32 S fitting (lit≤ tt) (lit< tt) (job-sound mode) 0 (lit< tt)
+        order-leaves 32 S fitting (lit< tt) (job-sound mode) 0 (lit< tt)
         ∙ ap₂ (λ (v R : ℕ). curve-value 32 (rows house) (mode-word mode) v R) source-is mask-is
 
     opens-curve : opens-first (trial mode m l1 l2)

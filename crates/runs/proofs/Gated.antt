@@ -1,12 +1,11 @@
 -- A stage whose steps are those of lists of gates: its trail is what they leave, one after another, and where one of them is an order's program, its target
--- opens the value that document 01 defines and other registers keep their shares. Assumes nothing.
+-- opens the value that document 01 defines. Assumes nothing.
 use mathlib.Core.Path.{_≡_, refl, sym, ap, ap₂, _∙_}
-use mathlib.Core.Bool.{Bool, true, false}
+use mathlib.Core.Bool.{Bool, true}
 use mathlib.Core.List.{List, [], _∷_, _++_, map}
 use Prim.Native.Nat.{ℕ, zero, suc, _+_, _≤_, _<_}
 use native.Mathlib.Omega.{arith}
 use borrow.Author.Tests.{ltb-true}
-use lib.Dec.{eqb}
 use lib.Pow.{pow-pos}
 use lib.ListN.{getD, length, replicate, List·getD-map}
 use Rattle.words.specs.Words.{add, numbers}
@@ -26,13 +25,13 @@ use Rattle.programs.specs.Opens.{order-value}
 use Rattle.programs.specs.Costs.{program-cost}
 use Rattle.programs.proofs.Gates.{Fits}
 use Rattle.programs.proofs.Points.{Point, after, afters, num, l1-of, l2-of}
-use Rattle.programs.proofs.Opens.{new-mask, curve-mask, Sound, kind-opens, kind-keeps}
+use Rattle.programs.proofs.Opens.{new-mask, curve-mask, Sound, kind-opens}
 use Rattle.jobs.proofs.Accepted.{Good, exact-shift, curve-ruled}
 use Rattle.calls.specs.Scripts.{Orderly}
 use Rattle.calls.specs.Calls.{fresh}
 use Rattle.runs.proofs.Lists.{length-map}
 use Rattle.runs.specs.Runs.{Stage}
-use Rattle.runs.specs.Orders.{Words, first, trail, after-order, before-order, slot, first-counts, mask-behind, share-before, share-after, value-before, value-after, mask-before}
+use Rattle.runs.specs.Orders.{Words, first, trail, after-order, before-order, slot, first-counts, mask-behind, value-before, value-after, mask-before}
 use Rattle.runs.proofs.Kept.{j₀-lengths}
 use Rattle.runs.proofs.Chain.{ended, points, job-trail, point-before, point-after, point-next}
 
@@ -128,8 +127,11 @@ module _ (w : ℕ) (S : Stage) (tidy : Orderly (S .script)) (words : Words w S) 
 
     -- ---- where list q is an order's program
 
-    module _ (low : 2 ≤ w) (wide : 12 < w) (q : ℕ) (hq : q < length gates) (ps : List Row) (o : Order) (is : getD gates q [] ≡ program w ps o)
+    module _ (wide : 12 < w) (q : ℕ) (hq : q < length gates) (ps : List Row) (o : Order) (is : getD gates q [] ≡ program w ps o)
         (ruled : Bool) (good : Good w ruled o) (some-row : ruled ≡ true → 0 < length ps) where
+      low : 2 ≤ w
+      low = omega (arith, wide)
+
       sound : Sound w (S .A) (S .B) (words .A) (words .B) low ps (o .target) (o .source) (o .fourth) (good .target) (good .source) (before q) (o .kind)
       sound =
           record {
@@ -159,11 +161,3 @@ module _ (w : ℕ) (S : Stage) (tidy : Orderly (S .script)) (words : Words w S) 
           ∙ kind-opens w (S .A) (S .B) (words .A) (words .B) low ps (o .target) (o .source) (o .fourth) (good .target) (good .source) (before q) (o .kind) (good .kind) sound
           ∙ ap₂ (λ (t : Triple) (R : ℕ). order-value w ps o (value (numbers w) (slot t (o .source))) (value (numbers w) (slot t (o .fourth))) (mask (numbers w) (slot t (o .source))) R)
           (sym (before-is q hq)) mask-is
-
-      -- "the register keeps that until an order writes it"
-      pub program-keeps : (i : ℕ) → i < 16 → eqb i (o .target) ≡ false → share-after S q i ≡ share-before S q i
-      unfolding program
-      program-keeps i hi e =
-          ap (λ (t : Triple). slot t i) left-is
-          ∙ kind-keeps w (S .A) (S .B) (words .A) (words .B) low ps (o .target) (o .source) (o .fourth) (good .target) (good .source) (before q) i hi e (o .kind) (good .kind)
-          ∙ ap (λ (t : Triple). slot t i) (sym (before-is q hq))

@@ -1,10 +1,12 @@
 -- An order that a run finishes is one of the job's, and the job met no condition. Assumes nothing.
 use Prim.Native.Nat.{ℕ, _<_}
 use lib.ListN.{length}
+use Rattle.tables.specs.Table.{keeps-rules}
 use Rattle.jobs.specs.Job.{orders}
+use Rattle.jobs.proofs.Accepted.{Good}
 use Rattle.runs.specs.Runs.{Setting, staged, World}
-use Rattle.runs.specs.Orders.{Finishes}
-use Rattle.runs.proofs.Opened.{trail-orders}
+use Rattle.runs.specs.Orders.{order-of, Finishes}
+use Rattle.runs.proofs.Opened.{trail-orders, order-good}
 use Rattle.runs.proofs.Opening.{finished-order}
 use Rattle.runs.proofs.Started.{Checked, past-checked}
 
@@ -14,3 +16,7 @@ module _ (w : ℕ) (S : Setting) (q : ℕ) (v : World) (F : Finishes w (staged w
 
   pub checked : Checked (staged w S)
   checked = past-checked (staged w S) v q (F .run) (F .finished .one)
+
+  -- the order's kind, registers and parameters keep document 01's conditions
+  pub good-order : Good w (keeps-rules (S .table)) (order-of S q)
+  good-order = order-good w S (checked .script) q in-job

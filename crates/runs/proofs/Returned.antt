@@ -7,20 +7,18 @@ use native.Mathlib.Omega.{arith}
 use native.Mathlib.Nat.{not-suc-le-zero}
 use native.Mathlib.Decide.{decLe}
 use borrow.Author.Tests.{eqb-true}
-use lib.Dec.{eqb, lit≤, lit<}
+use lib.Dec.{eqb}
 use lib.ListN.{getD, length, take, replicate, length-append, List·getD-append}
 use lib.Seq.{getD-take, getD-at}
 use Rattle.words.specs.Words.{numbers}
 use Rattle.words.specs.Signed.{signed}
 use Rattle.shares.specs.Gates.{Share, value}
 use Rattle.shares.proofs.RoundTrip.{share-opens}
-use Rattle.tables.specs.Table.{rows}
 use Rattle.gates.specs.Steps.{Lane, at, Step, local, deal, exchange, end, Cursor, origin, past}
 use Rattle.gates.specs.Walk.{Conf, conf, whole, next}
 use Rattle.gates.specs.Hosts.{Pair, Triple, of1, of2, act, joint1, joint2}
 use Rattle.jobs.specs.Job.{orders}
 use Rattle.calls.specs.Scripts.{orders-in, Closed}
-use Rattle.calls.proofs.Scripts.{job-made}
 use Rattle.calls.specs.Calls.{State, fresh}
 use Rattle.runs.specs.Runs.{Stage, Setting, staged, Spoken, Dealer, dealer-holds, Side, World, Call, Run, registers, order1, order2, Finished, opened-slot, opened-after}
 use Rattle.runs.specs.Orders.{Words, trail, after-order, slot, Unwritten, order-of}
@@ -29,12 +27,10 @@ use Rattle.runs.specs.Returned.{side-holds, opened-now, opened-given, Un
 use Rattle.runs.proofs.Places.{pos, trail-pos, trail-length, whole-pos}
 use Rattle.runs.proofs.Ties.{joint, Tied}
 use Rattle.runs.proofs.Kept.{all, j₀, last, DealerOk, not-yet, dealt-all, OneOk, wait1, go1, TwoOk, wait2, go2, Ok, ok, kept}
-use Rattle.runs.proofs.Chain.{gates-length}
-use Rattle.runs.proofs.Opened.{gates, gates-is, order-good}
-use Rattle.runs.proofs.InJob.{in-job, checked}
+use Rattle.runs.proofs.Opened.{untargeted}
+use Rattle.runs.proofs.InJob.{good-order}
 use Rattle.runs.proofs.Opening.{finished-order, finished-opens}
-use Rattle.runs.proofs.Written.{Spares, spares-program}
-use Rattle.runs.proofs.Unwritten.{act-misses, Spared, spared-all, closed-from, gated-from}
+use Rattle.runs.proofs.Unwritten.{act-misses, Spared, spared-all, closed-from}
 
 -- ---- along the joint walk
 
@@ -223,9 +219,9 @@ module _ (w : ℕ) (S : Stage) (i : ℕ) (hi : i < S .script .slots) where
           same-share w (dealer-holds z) (side-holds (S .script .slots) one) (side-holds (S .script .slots) two) i start (p0 .0) (p0 .1) (p1 .0) (p1 .1) (p2 .0) (p2 .1)
           ∙ sym (same-share w (S .r1, S .r2) (S .rm, S .r1) (S .rm, S .r2) i start refl refl refl refl refl refl)
 
-written : (S : Stage) (q : ℕ) (v : World) → Finishes 32 S q v → (i : ℕ) → i < S .script .slots → UnwrittenFrom S (suc q) i
-    → opened-now 32 (S .script .slots) v i ≡ opened-after 32 v q i
-written S q v F i hi u = now-after 32 S i hi v (F .run) q (F .finished) u ∙ sym (finished-opens S 32 v (F .run) q i (F .finished))
+written : (w : ℕ) (S : Stage) (q : ℕ) (v : World) → Finishes w S q v → (i : ℕ) → i < S .script .slots → UnwrittenFrom S (suc q) i
+    → opened-now w (S .script .slots) v i ≡ opened-after w v q i
+written w S q v F i hi u = now-after w S i hi v (F .run) q (F .finished) u ∙ sym (finished-opens S w v (F .run) q i (F .finished))
 
 -- ---- the last of the first n orders that writes slot i
 
@@ -280,32 +276,23 @@ from-all S q i shut f p l = go (decLe (suc p) (orders-in (S .script)))
     go (yes h) = f p l h
     go (no h) = closed-from i (S .script .steps) shut p (omega arith)
 
-every : (S : Stage) → Closed (S .script .steps) → (cs : List Call) (v : World) → Words 32 S → Run S cs v → ((q : ℕ) → q < orders-in (S .script) → Finished v q)
-    → (i : ℕ) → i < S .script .slots → Holds S v i
-every S shut cs v W r f i hi = go (last-of (λ p. Unwritten i p (S .script .steps)) (λ p. writes i p (S .script .steps)) (orders-in (S .script)))
+every : (w : ℕ) (S : Stage) → Closed (S .script .steps) → (cs : List Call) (v : World) → Words w S → Run S cs v → ((q : ℕ) → q < orders-in (S .script) → Finished v q)
+    → (i : ℕ) → i < S .script .slots → Holds w S v i
+every w S shut cs v W r f i hi = go (last-of (λ p. Unwritten i p (S .script .steps)) (λ p. writes i p (S .script .steps)) (orders-in (S .script)))
   where
-    go : Last (λ p. Unwritten i p (S .script .steps)) (orders-in (S .script)) → Holds S v i
+    go : Last (λ p. Unwritten i p (S .script .steps)) (orders-in (S .script)) → Holds w S v i
     go (writer q h t u) =
         let g : UnwrittenFrom S (suc q) i = from-all S (suc q) i shut u in
-        by-order q h t g (written S q v (record { words = W; calls = cs; run = r; finished = f q h }) i hi g)
-    go (nobody u) = let g : UnwrittenFrom S 0 i = from-all S 0 i shut (λ p l h. u p h) in by-given g (now-given 32 S i hi v r g)
+        by-order q h t g (written w S q v (record { words = W; calls = cs; run = r; finished = f q h }) i hi g)
+    go (nobody u) = let g : UnwrittenFrom S 0 i = from-all S 0 i shut (λ p l h. u p h) in by-given g (now-given w S i hi v r g)
 
 -- ---- of a job
 
-pub untargeted : (S : Setting) (q i : ℕ) → i < 16 → UntargetedFrom S q i → UnwrittenFrom (staged 32 S) q i
-untargeted S q i hi u = gated-from 32 (staged 32 S) (gates 32 S) (job-made 32 (S .job) (S .table)) q i each
-  where
-    each : (p : ℕ) → q ≤ p → p < length (gates 32 S) → Spares i (getD (gates 32 S) p [])
-    each p l h =
-        let k : p < length (orders (S .job)) = rw (gates-length 32 (S .job) (S .table)) at h in
-        rw (gates-is 32 S p k) (spares-program 32 (rows (S .table)) (order-of S p) i hi (u p l k))
+unwritten : (w : ℕ) (S : Setting) (q i : ℕ) → i < 16 → UntargetedFrom S q i → UnwrittenFrom (staged w S) q i
+unwritten w S q i hi u p l = untargeted w S p i hi (u p l)
 
--- an accepted order's target is a register
-target-low : (S : Setting) (q : ℕ) (v : World) (F : Finishes 32 (staged 32 S) q v) → order-of S q .target < 16
-target-low S q v F = order-good 32 S (F .words) (lit≤ tt) (lit< tt) (checked 32 S q v F .script) q (in-job 32 S q v F) .target
-
-job-written : (S : Setting) (q : ℕ) (v : World) → Finishes 32 (staged 32 S) q v → (i : ℕ) → i < 16 → UntargetedFrom S (suc q) i → opened-now 32 16 v i ≡ opened-after 32 v q i
-job-written S q v F i hi u = written (staged 32 S) q v F i hi (untargeted S (suc q) i hi u)
+job-written : (w : ℕ) (S : Setting) (q : ℕ) (v : World) → Finishes w (staged w S) q v → (i : ℕ) → i < 16 → UntargetedFrom S (suc q) i → opened-now w 16 v i ≡ opened-after w v q i
+job-written w S q v F i hi u = written w (staged w S) q v F i hi (unwritten w S (suc q) i hi u)
 
 pub target-is : (i t : ℕ) → (eqb i t ≡ false → ⊥) → t ≡ i
 target-is i t n = go (eqb i t) refl
@@ -314,25 +301,25 @@ target-is i t n = go (eqb i t) refl
     go true e = sym (eqb-true i t e)
     go false e = absurd (n e)
 
-job-every : (S : Setting) (cs : List Call) (v : World) → Words 32 (staged 32 S) → Run (staged 32 S) cs v
-    → ((q : ℕ) → q < length (orders (S .job)) → Finished v q) → (i : ℕ) → i < 16 → JobHolds S v i
-job-every S cs v W r f i hi = go (last-of (λ p. eqb i (order-of S p .target) ≡ false) (λ p. unequal (eqb i (order-of S p .target))) (length (orders (S .job))))
+job-every : (w : ℕ) (S : Setting) (cs : List Call) (v : World) → Words w (staged w S) → Run (staged w S) cs v
+    → ((q : ℕ) → q < length (orders (S .job)) → Finished v q) → (i : ℕ) → i < 16 → JobHolds w S v i
+job-every w S cs v W r f i hi = go (last-of (λ p. eqb i (order-of S p .target) ≡ false) (λ p. unequal (eqb i (order-of S p .target))) (length (orders (S .job))))
   where
-    go : Last (λ p. eqb i (order-of S p .target) ≡ false) (length (orders (S .job))) → JobHolds S v i
+    go : Last (λ p. eqb i (order-of S p .target) ≡ false) (length (orders (S .job))) → JobHolds w S v i
     go (writer q h t u) =
         let e : order-of S q .target ≡ i = target-is i (order-of S q .target) t in
-        of-order q h e u (job-written S q v (record { words = W; calls = cs; run = r; finished = f q h }) i hi u ∙ ap (opened-after 32 v q) (sym e))
-    go (nobody u) = of-given (λ p l h. u p h) (now-given 32 (staged 32 S) i hi v r (untargeted S 0 i hi (λ p l h. u p h)))
+        of-order q h e u (job-written w S q v (record { words = W; calls = cs; run = r; finished = f q h }) i hi u ∙ ap (opened-after w v q) (sym e))
+    go (nobody u) = of-given (λ p l h. u p h) (now-given w (staged w S) i hi v r (unwritten w S 0 i hi (λ p l h. u p h)))
 
-pub returned : Returned
-returned =
+pub returned : (w : ℕ) → Returned w
+returned w =
     record {
-      written = written;
-      untouched = λ S cs v r i hi u. now-given 32 S i hi v r u;
-      all-done = λ S ok q v F e i hi. written S q v F i hi (from-all S (suc q) i (ok .closed) (λ p l h. absurd (omega arith)));
-      every-slot = λ S ok. every S (ok .closed);
-      job-written = job-written;
-      job-untouched = λ S cs v r i hi u. now-given 32 (staged 32 S) i hi v r (untargeted S 0 i hi u);
-      last-writer = λ S q v F u. job-written S q v F (order-of S q .target) (target-low S q v F) u;
-      every-register = job-every;
+      written = written w;
+      untouched = λ S cs v r i hi u. now-given w S i hi v r u;
+      all-done = λ S ok q v F e i hi. written w S q v F i hi (from-all S (suc q) i (ok .closed) (λ p l h. absurd (omega arith)));
+      every-slot = λ S ok. every w S (ok .closed);
+      job-written = job-written w;
+      job-untouched = λ S cs v r i hi u. now-given w (staged w S) i hi v r (unwritten w S 0 i hi u);
+      last-writer = λ S q v F u. job-written w S q v F (order-of S q .target) (good-order w S q v F .target) u;
+      every-register = job-every w;
     }

@@ -1,31 +1,23 @@
 -- Wherever a host stands, a slot that the order at hand does not write holds what it held just before that order. Assumes nothing.
 use mathlib.Core.Path.{_≡_, refl, sym, ap, _∙_, subst}
-use mathlib.Core.Bool.{false}
 use mathlib.Core.List.{List, [], _∷_, _++_}
 use Prim.Native.Nat.{ℕ, zero, suc, _+_, _-_, _<_}
 use native.Mathlib.Nat.{zero-add}
 use native.Mathlib.Omega.{arith}
-use lib.Dec.{eqb}
 use lib.ListN.{getD, length, length-append, List·getD-append}
 use lib.Seq.{getD-take, getD-at}
 use Rattle.shares.specs.Gates.{Share}
-use Rattle.tables.specs.Table.{rows}
 use Rattle.gates.specs.Steps.{Lane, at, Exchange, Step, local, deal, exchange, end, Cursor, past}
 use Rattle.gates.specs.Walk.{Conf, conf, next}
 use Rattle.gates.specs.Hosts.{Pair, Triple, of1, of2, act, joint1, joint2}
-use Rattle.jobs.specs.Job.{orders}
 use Rattle.calls.specs.Scripts.{orders-in, ends, Closed}
-use Rattle.calls.proofs.Scripts.{job-made}
 use Rattle.calls.specs.Calls.{State}
-use Rattle.runs.specs.Runs.{Stage, Setting, staged, Spoken, Dealer, ready, Side, going, world, Call, Run}
-use Rattle.runs.specs.Orders.{trail, after-order, before-order, slot, Unwritten, order-of, share-before}
+use Rattle.runs.specs.Runs.{Stage, Spoken, Dealer, ready, Side, going, world, Call, Run}
+use Rattle.runs.specs.Orders.{trail, after-order, before-order, slot, Unwritten, share-before}
 use Rattle.runs.proofs.Places.{pos, ends-pos, trail-pos, trail-length}
 use Rattle.runs.proofs.Ties.{joint, Tied}
 use Rattle.runs.proofs.Kept.{all, j₀, last, Ok, ok, dealt-all, go1, go2, kept}
-use Rattle.runs.proofs.Chain.{gates-length}
-use Rattle.runs.proofs.Opened.{gates, gates-is}
-use Rattle.runs.proofs.Written.{spares-program}
-use Rattle.runs.proofs.Unwritten.{act-misses, closed-from, unwritten-gates}
+use Rattle.runs.proofs.Unwritten.{act-misses, closed-from}
 use Rattle.runs.proofs.Returned.{rest-length, last-is}
 
 module _ (A B : List ℕ) (all : List Step) (j₀ : Triple) where
@@ -180,12 +172,3 @@ module _ (S : Stage) where
             ap (λ (x : Pair). at (x .0) i) e ∙ getD-take (S .script .slots) (last S .state .1) i 0 h ∙ ap (λ (x : Share ℕ). x .l1) z,
             ap (λ (x : Pair). at (x .1) i) e ∙ getD-take (S .script .slots) (last S .state .2) i 0 h ∙ ap (λ (x : Share ℕ). x .l2) z,
           )
-
--- ---- of a job: a register that is not the target of order q
-
-pub spared-by : (S : Setting) (q i : ℕ) → i < 16 → (q < length (orders (S .job)) → eqb i (order-of S q .target) ≡ false) → Unwritten i q (staged 32 S .script .steps)
-spared-by S q i hi f =
-    subst (λ (ss : List Step). Unwritten i q ss) (sym (job-made 32 (S .job) (S .table)))
-    (unwritten-gates 32 i q (gates 32 S)
-    (λ h. let k : q < length (orders (S .job)) = rw (gates-length 32 (S .job) (S .table)) at h in
-    rw (gates-is 32 S q k) (spares-program 32 (rows (S .table)) (order-of S q) i hi (f k))))

@@ -1,5 +1,5 @@
 -- Steps and gates that do not write a slot, from an order on. Assumes nothing.
-use mathlib.Core.Path.{_≡_, refl, sym, subst}
+use mathlib.Core.Path.{_≡_, refl}
 use mathlib.Core.Bool.{false}
 use mathlib.Core.List.{List, [], _∷_}
 use Prim.Native.Nat.{ℕ, zero, suc, _≤_, _<_}
@@ -134,8 +134,3 @@ unfolding job-steps
 unwritten-gates w i p [] f = tt
 unwritten-gates w i zero (o ∷ os) f = unwritten-order w i o (job-steps w os) (f (omega arith))
 unwritten-gates w i (suc p) (o ∷ os) f = skip-order w i p o (job-steps w os) (unwritten-gates w i p os (λ h. f (omega arith)))
-
--- a stage whose steps are those of lists of gates: where no list from list q on writes slot i
-pub gated-from : (w : ℕ) (S : Stage) (os : List (List Gate)) → S .script .steps ≡ job-steps w os → (q i : ℕ)
-    → ((p : ℕ) → q ≤ p → p < length os → Spares i (getD os p [])) → UnwrittenFrom S q i
-gated-from w S os made q i f p l = subst (λ (ss : List Step). Unwritten i p ss) (sym made) (unwritten-gates w i p os (f p l))

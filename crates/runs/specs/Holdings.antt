@@ -34,13 +34,13 @@ pub record Holdings : Type 0 where
       → (at (r .0) i ≡ share-before S (orders-in (S .script)) i .l1)
       × (at (r .1) i ≡ share-before S (orders-in (S .script)) i .l2)
   -- a job: a register that is not the target of the order at hand
-  pub job-host1 : (S : Setting) (cs : List Call) (z : Dealer) (buf : List ℕ) (s : State) (t : List Pair)
-      (said : List Spoken) (two : Side) → Run (staged 32 S) cs (world z buf (going s t said) two) → (i : ℕ) → i < 16
+  pub job-host1 : (w : ℕ) (S : Setting) (cs : List Call) (z : Dealer) (buf : List ℕ) (s : State) (t : List Pair)
+      (said : List Spoken) (two : Side) → Run (staged w S) cs (world z buf (going s t said) two) → (i : ℕ) → i < 16
       → Spared S (s .order) i
-      → (at (s .m) i ≡ share-before (staged 32 S) (s .order) i .m)
-      × (at (s .mask) i ≡ share-before (staged 32 S) (s .order) i .l1)
-  pub job-host2 : (S : Setting) (cs : List Call) (z : Dealer) (buf : List ℕ) (one : Side) (s : State) (t : List Pair)
-      (said : List Spoken) → Run (staged 32 S) cs (world z buf one (going s t said)) → (i : ℕ) → i < 16
+      → (at (s .m) i ≡ share-before (staged w S) (s .order) i .m)
+      × (at (s .mask) i ≡ share-before (staged w S) (s .order) i .l1)
+  pub job-host2 : (w : ℕ) (S : Setting) (cs : List Call) (z : Dealer) (buf : List ℕ) (one : Side) (s : State) (t : List Pair)
+      (said : List Spoken) → Run (staged w S) cs (world z buf one (going s t said)) → (i : ℕ) → i < 16
       → Spared S (s .order) i
-      → (at (s .m) i ≡ share-before (staged 32 S) (s .order) i .m)
-      × (at (s .mask) i ≡ share-before (staged 32 S) (s .order) i .l2)
+      → (at (s .m) i ≡ share-before (staged w S) (s .order) i .m)
+      × (at (s .mask) i ≡ share-before (staged w S) (s .order) i .l2)
