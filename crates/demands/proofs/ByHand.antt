@@ -6,17 +6,16 @@ use Prim.Native.Nat.{ℕ}
 use lib.Dec.{T}
 use lib.IntN.{ℤ, pos, negsuc}
 use lib.ListN.{getD}
-use Rattle.words.specs.Words.{numbers, add, sub, mul, bit, shr}
+use Rattle.words.specs.Words.{add, sub, mul, bit, shr}
 use Rattle.words.specs.Signed.{floor, signed, wrap, shr-signed, in-range}
 use Rattle.words.proofs.Words.{sub-lt}
 use Rattle.words.proofs.Signed.{wrap-signed}
 use Rattle.truncations.specs.Truncation.{bit-number, one-bit}
-use Rattle.shares.specs.Gates.{value}
 use Rattle.tables.specs.Table.{rows, slope, house}
 use Rattle.curves.specs.Curve.{relu, segments, scaled, slope-after, coefficient, relu-word, word-sum, word-curve}
 use Rattle.programs.specs.Opens.{curve-value, values, order-value}
 use Rattle.runs.specs.Runs.{Setting, staged, World}
-use Rattle.runs.specs.Orders.{slot, before-order, mask-before, order-of, refresh-mask, reading, opens, Finishes}
+use Rattle.runs.specs.Orders.{order-of, refresh-mask, reading, opens, Finishes, source-value, second-value, source-mask}
 use Rattle.demands.specs.Demand3.{Y-of, Exact}
 use Rattle.demands.specs.ByHand.{curve-cases, CurveOpens, Truncates, Each, house-Y, ByHand}
 use Rattle.demands.proofs.Demand3.{demand3}
@@ -31,16 +30,16 @@ module _ (S : Setting) (q : ℕ) (v : World) (F : Finishes 32 (staged 32 S) q v)
   curve-case x h e t r = demand3 .exact S q v F e (rw r h) ∙ (λ i. (0, floor (scaled (rows (t i)) (r i)) 4096))
 
   -- the word of the source's reading
-  source-is : (x : ℤ) → reading 32 S q ≡ x → value (numbers 32) (slot (before-order (staged 32 S) q) (order-of S q .source)) ≡ wrap 32 x
+  source-is : (x : ℤ) → reading 32 S q ≡ x → source-value 32 S q ≡ wrap 32 x
   unfolding reading
   source-is x r = sym (wrap-signed 32 _ (sub-lt 32 _ _)) ∙ ap (wrap 32) r
 
   -- what the second source opens
   abbrev other : ℕ
-  other = value (numbers 32) (slot (before-order (staged 32 S) q) (order-of S q .fourth))
+  other = second-value 32 S q
 
   -- a truncation opens its kind's value of that word and the mask
-  truncation-case : (kind k : ℕ) (x : ℤ) (L : ℕ) → Truncates kind k S q → reading 32 S q ≡ x → mask-before 32 (staged 32 S) q (order-of S q .source) ≡ L
+  truncation-case : (kind k : ℕ) (x : ℤ) (L : ℕ) → Truncates kind k S q → reading 32 S q ≡ x → source-mask 32 S q ≡ L
       → opens 32 S v q ≡ (0, signed 32 (getD (values 32 (rows (S .table)) k (wrap 32 x) other L (refresh-mask 32 S q)) kind 0))
   unfolding order-value
   truncation-case kind k x L t r l =

@@ -4,12 +4,11 @@ use Prim.Native.Nat.{ℕ, _^_, _≤_, _<_}
 use borrow.Author.Tests.{ltb-false}
 use lib.Dec.{T, eqb, ltb, lit≤}
 use lib.IntN.{ℤ, pos, negℤ, _+ℤ_, _-ℤ_, _*ℤ_}
-use Rattle.words.specs.Words.{add, numbers}
+use Rattle.words.specs.Words.{add}
 use Rattle.words.specs.Signed.{floor, signed, wrap, in-range}
 use Rattle.words.proofs.Words.{add-lt, sub-lt}
 use Rattle.words.proofs.Signed.{signed-shr, wrap-signed}
 use Rattle.truncations.specs.Truncation.{one-bit, slip}
-use Rattle.shares.specs.Gates.{value, mask}
 use Rattle.tables.specs.Table.{rows}
 use Rattle.curves.specs.Curve.{relu, word-curve, word-scaled}
 use Rattle.curves.proofs.WordCurve.{in-range-reads}
@@ -19,7 +18,7 @@ use Rattle.programs.proofs.Readings.{sum-reads, difference-reads, product-reads
 use Rattle.jobs.specs.Job.{ill-fourth, ill-fourths}
 use Rattle.jobs.proofs.Accepted.{or-false}
 use Rattle.runs.specs.Runs.{Setting, staged, World}
-use Rattle.runs.specs.Orders.{slot, before-order, order-of, refresh-mask, reading, opens, Finishes}
+use Rattle.runs.specs.Orders.{order-of, refresh-mask, reading, opens, Finishes, second-value, source-mask}
 use Rattle.demands.specs.Demand3.{Y-of, Exact, OneBit}
 use Rattle.runs.specs.Readings.{reading-of}
 use Rattle.demands.specs.ByKind.{reduced, second-reading, shift, L-of, m-of, W-of, ByKind}
@@ -35,10 +34,10 @@ module _ (S : Setting) (q : ℕ) (v : World) (F : Finishes 32 (staged 32 S) q v)
   x = source-word S q v F
 
   abbrev y : ℕ
-  y = value (numbers 32) (slot (before-order (staged 32 S) q) (order-of S q .fourth))
+  y = second-value 32 S q
 
   abbrev L : ℕ
-  L = mask (numbers 32) (slot (before-order (staged 32 S) q) (order-of S q .source))
+  L = source-mask 32 S q
 
   hx : x < 2 ^ 32
   hx = sub-lt 32 _ _

@@ -4,18 +4,16 @@ use Prim.Native.Nat.{ℕ, suc, _^_, _<_}
 use lib.Dec.{T, lit<}
 use lib.IntN.{ℤ, pos, _+ℤ_}
 use lib.ListN.{getD, length}
-use Rattle.words.specs.Words.{numbers}
 use Rattle.words.specs.Signed.{floor, signed, wrap}
 use Rattle.truncations.specs.Truncation.{slip}
 use Rattle.words.proofs.Words.{add-lt, sub-lt}
-use Rattle.shares.specs.Gates.{value, mask}
 use Rattle.tables.specs.Table.{rows, keeps-rules}
 use Rattle.programs.specs.Opens.{curve-value, values, order-value}
 use Rattle.programs.proofs.Calibration.{Promised, exact-curve, one-bit-curve}
 use Rattle.jobs.specs.Job.{orders}
 use Rattle.jobs.proofs.Accepted.{curve-ruled}
 use Rattle.runs.specs.Runs.{Setting, staged, World}
-use Rattle.runs.specs.Orders.{slot, before-order, order-of, refresh-mask, reading, opens, Finishes}
+use Rattle.runs.specs.Orders.{order-of, refresh-mask, reading, opens, Finishes, source-value, second-value, source-mask}
 use Rattle.demands.specs.Demand3.{Y-of}
 use Rattle.runs.proofs.Opened.{order-leaves}
 use Rattle.runs.proofs.Opening.{finished-opens}
@@ -24,7 +22,7 @@ use Rattle.runs.proofs.InJob.{in-job, checked, good-order}
 module _ (S : Setting) (q : ℕ) (v : World) (F : Finishes 32 (staged 32 S) q v) where
   -- what the order's source opens just before it, as a word
   abbrev pub source-word : ℕ
-  source-word = value (numbers 32) (slot (before-order (staged 32 S) q) (order-of S q .source))
+  source-word = source-value 32 S q
 
   source-lt : source-word < 2 ^ 32
   source-lt = sub-lt 32 _ _
@@ -39,13 +37,13 @@ module _ (S : Setting) (q : ℕ) (v : World) (F : Finishes 32 (staged 32 S) q v)
       ≡ (
         0,
         signed 32
-            (getD (values 32 (rows (S .table)) (order-of S q .fourth) source-word (value (numbers 32) (slot (before-order (staged 32 S) q) (order-of S q .fourth))) (mask (numbers 32) (slot (before-order (staged 32 S) q) (order-of S q .source))) (refresh-mask 32 S q)) n 0),
+            (getD (values 32 (rows (S .table)) (order-of S q .fourth) source-word (second-value 32 S q) (source-mask 32 S q) (refresh-mask 32 S q)) n 0),
       )
   unfolding order-value
   of-kind n e =
       finished-opens (staged 32 S) 32 v (F .run) q (order-of S q .target) (F .finished)
       ∙ ap {B = ℕ × ℤ} (λ (x : ℕ). (0, signed 32 x)) (order-leaves 32 S (F .words) (lit< tt) (checked 32 S q v F .script) q (in-job 32 S q v F)
-      ∙ ap (λ (k : ℕ). getD (values 32 (rows (S .table)) (order-of S q .fourth) source-word (value (numbers 32) (slot (before-order (staged 32 S) q) (order-of S q .fourth))) (mask (numbers 32) (slot (before-order (staged 32 S) q) (order-of S q .source))) (refresh-mask 32 S q)) k 0) e)
+      ∙ ap (λ (k : ℕ). getD (values 32 (rows (S .table)) (order-of S q .fourth) source-word (second-value 32 S q) (source-mask 32 S q) (refresh-mask 32 S q)) k 0) e)
 
   -- a curve order opens its curve's value
   module _ (k : order-of S q .kind ≡ 10) where

@@ -14,7 +14,7 @@ use Rattle.gates.specs.declared.Gate.the-variants.{Refresh}
 use Rattle.gates.specs.Steps.{at, origin}
 use Rattle.gates.specs.Meaning.{job-steps}
 use Rattle.gates.specs.Walk.{Conf, whole, far}
-use Rattle.gates.specs.Hosts.{Triple, act}
+use Rattle.gates.specs.Hosts.{Triple, act, share}
 use Rattle.gates.specs.Costs.{Cost, plus}
 use Rattle.gates.proofs.Needs.{far-used, whole-alike}
 use Rattle.programs.specs.Programs.{sum-program, one-bit-program, curve-one-bit}
@@ -24,7 +24,7 @@ use Rattle.programs.proofs.Costs.{cost-after, end-cost}
 use Rattle.jobs.specs.Job.{orders, job-gates, steps-of, job-cost}
 use Rattle.calls.proofs.Scripts.{job-made}
 use Rattle.runs.specs.Runs.{Setting, staged}
-use Rattle.runs.specs.Orders.{Words, first, slot, before-order, order-of, used-before, refresh-mask, reading}
+use Rattle.runs.specs.Orders.{Words, first, before-order, order-of, used-before, refresh-mask, reading}
 use Rattle.demands.specs.Demand3.{OneBit, refresh-place, with-word}
 use Rattle.runs.proofs.Chain.{job-orderly, state-before, first-cost, used-within}
 use Rattle.runs.proofs.Gated.{G₀, before-is}
@@ -74,7 +74,7 @@ module _ (S : Setting) (q : ℕ) (o : OneBit S q) where
   -- so the same reading
   pub reading-same : (a : ℕ) → Words 32 (staged 32 S) → Words 32 (staged 32 (with-word S q a)) → q < length (orders (S .job)) → reading 32 (with-word S q a) q ≡ reading 32 S q
   unfolding reading with-word order-of
-  reading-same a words words′ h = ap (λ (t : Triple). signed 32 (value (numbers 32) (slot t (order-of S q .source)))) (before-same a words words′ h)
+  reading-same a words words′ h = ap (λ (t : Triple). signed 32 (value (numbers 32) (share t (order-of S q .source)))) (before-same a words words′ h)
 
   -- and the mask is that word plus the refresh's word of B
   pub mask-same : (a : ℕ) → i < length (S .A)

@@ -12,7 +12,7 @@ use Rattle.gates.specs.declared.Gate.{Gate}
 use Rattle.gates.specs.Steps.{Step, end, origin}
 use Rattle.gates.specs.Meaning.{meaning, order-steps, job-steps}
 use Rattle.gates.specs.Walk.{Conf, whole}
-use Rattle.gates.specs.Hosts.{Triple, act}
+use Rattle.gates.specs.Hosts.{Triple, act, share}
 use Rattle.gates.specs.Costs.{Cost, cost, plus}
 use Rattle.gates.proofs.Needs.{whole-append, cost-append}
 use Rattle.programs.specs.declared.Order.{Order}
@@ -23,7 +23,7 @@ use Rattle.jobs.proofs.FirstFault.{number-0}
 use Rattle.calls.specs.Scripts.{script-cost}
 use Rattle.calls.specs.Calls.{fresh}
 use Rattle.runs.specs.Runs.{Stage, Setting, staged, World, opened-after, Accepted}
-use Rattle.runs.specs.Orders.{first, trail, after-order, slot, order-of, opens, Finishes}
+use Rattle.runs.specs.Orders.{first, trail, after-order, order-of, opens, Finishes}
 use Rattle.runs.specs.Returned.{opened-now}
 use Rattle.demands.specs.Fronts.{Front, up-to, Fronts}
 use Rattle.runs.proofs.Places.{trail-grows}
@@ -65,7 +65,7 @@ module _ (S′ S : Stage) (F : Front S′ S) (q : ℕ) (h : q < length (trail S�
 same : (S′ S : Stage) → Front S′ S → (q : ℕ) (v v′ : World) → Finishes 32 S q v → Finishes 32 S′ q v′ → (i : ℕ) → opened-after 32 v q i ≡ opened-after 32 v′ q i
 same S′ S F q v v′ G G′ i =
     demand2 .shares-agree S q i v G
-    ∙ ap {B = ℕ × _} (λ (j : Triple). (0, signed 32 (value (numbers 32) (slot j i)))) (after-same S′ S F q (finished-order S′ v′ (G′ .run) q (G′ .finished)))
+    ∙ ap {B = ℕ × _} (λ (j : Triple). (0, signed 32 (value (numbers 32) (share j i)))) (after-same S′ S F q (finished-order S′ v′ (G′ .run) q (G′ .finished)))
     ∙ sym (demand2 .shares-agree S′ q i v′ G′)
 
 -- ---- a job's orders up to an index

@@ -5,9 +5,7 @@ use mathlib.Core.List.{List, [], _∷_}
 use Prim.Native.Nat.{ℕ, suc, _*_, _<_}
 use lib.Dec.{eqb}
 use lib.ListN.{length}
-use Rattle.words.specs.Words.{numbers}
 use Rattle.words.specs.Signed.{signed}
-use Rattle.shares.specs.Gates.{value}
 use Rattle.tables.specs.Table.{rows}
 use Rattle.gates.specs.Steps.{Exchange, Step, local, deal, exchange, end, Cursor, origin, past}
 use Rattle.gates.specs.Hosts.{Pair, Triple, act, joint1, joint2}
@@ -17,8 +15,8 @@ use Rattle.calls.specs.Scripts.{job-script, script-cost, orders-in, Orderly}
 use Rattle.calls.specs.Calls.{State, start, hear}
 use Rattle.runs.specs.Runs.{Stage, Setting, staged, Spoken, Among, Dealer, ready, Side, waiting, going, World}
 use Rattle.runs.specs.Runs.{world, Call, lent1, lent2, Dealt, preparation, held, Run, opened-after}
-use Rattle.runs.specs.Orders.{first, slot, after-order, before-order, value-before, mask-before, Unwritten, opens, Finishes}
-use Rattle.runs.specs.Orders.{order-of, refresh-mask}
+use Rattle.runs.specs.Orders.{first, Unwritten, opens, Finishes}
+use Rattle.runs.specs.Orders.{order-of, refresh-mask, share-before, share-after, value-after, source-value, second-value, source-mask}
 use Rattle.runs.specs.InOrder.{words-of-1, words-of-2}
 
 -- k words spoken so far, of n answers given: all of them, but for the 0 given at the end, where k is half the script's
@@ -30,8 +28,7 @@ pub record Counted (S : Stage) (k : ℕ) (s : State) (n : ℕ) : Type 0 where
 -- the word that document 01 defines for order q, from what its sources open just before it, and the masks
 abbrev pub defined-value : Setting → (q : ℕ) → ℕ
 defined-value S q =
-    order-value 32 (rows (S .table)) (order-of S q) (value-before 32 (staged 32 S) q (order-of S q .source))
-    (value-before 32 (staged 32 S) q (order-of S q .fourth)) (mask-before 32 (staged 32 S) q (order-of S q .source))
+    order-value 32 (rows (S .table)) (order-of S q) (source-value 32 S q) (second-value 32 S q) (source-mask 32 S q)
     (refresh-mask 32 S q)
 
 pub record Demand2 : Type 0 where
@@ -40,14 +37,14 @@ pub record Demand2 : Type 0 where
       → opens 32 S v q ≡ (0, signed 32 (defined-value S q))
   -- opening any register as the order leaves it never meets 10, and gives its value on the joint walk
   pub shares-agree : (S : Stage) (q i : ℕ) (v : World) → Finishes 32 S q v
-      → opened-after 32 v q i ≡ (0, signed 32 (value (numbers 32) (slot (after-order S q) i)))
+      → opened-after 32 v q i ≡ (0, signed 32 (value-after 32 S q i))
   -- "the register keeps that until an order writes it": any slot that no step of the order writes; so every register
   -- but a job's order's target
   pub slot-kept : (S : Stage) (q i : ℕ) → q < orders-in (S .script) → Unwritten i q (S .script .steps)
-      → slot (after-order S q) i ≡ slot (before-order S q) i
+      → share-after S q i ≡ share-before S q i
   pub register-kept : (S : Setting) (q i : ℕ) (v : World) → Finishes 32 (staged 32 S) q v → i < 16
       → eqb i (order-of S q .target) ≡ false
-      → slot (after-order (staged 32 S) q) i ≡ slot (before-order (staged 32 S) q) i
+      → share-after (staged 32 S) q i ≡ share-before (staged 32 S) q i
   -- "every spoken word is the one defined there": one of those defined; in order and each once, InOrder.antt
   pub host1-speaks : (S : Stage) (cs : List Call) (z : Dealer) (buf : List ℕ) (s : State) (t : List Pair)
       (said : List Spoken)

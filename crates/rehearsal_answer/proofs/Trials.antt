@@ -13,7 +13,7 @@ use Rattle.words.specs.Words.{add, sub, numbers}
 use Rattle.words.specs.Signed.{floor, signed, wrap, in-range}
 use Rattle.truncations.specs.Truncation.{slip}
 use Rattle.words.proofs.Words.{add-lt, sub-lt}
-use Rattle.shares.specs.Gates.{Share, value, mask}
+use Rattle.shares.specs.Gates.{Share, value}
 use Rattle.tables.specs.Table.{rows, keeps-rules, house}
 use Rattle.curves.specs.Curve.{scaled}
 use Rattle.tables.proofs.HouseTable.{house-keeps-rules}
@@ -32,11 +32,11 @@ use Rattle.calls.specs.Lent.{or-else, dealer-lists-fault, dealer-fault}
 use Rattle.calls.specs.Calls.{fresh}
 use Rattle.calls.proofs.Faults.{long-enough}
 use Rattle.runs.specs.Runs.{Setting, staged, opened-slot}
-use Rattle.runs.specs.Orders.{Words, slot, first, before-order, after-order, order-of, first-counts, used-before, refresh-mask}
+use Rattle.runs.specs.Orders.{Words, first, before-order, after-order, order-of, first-counts, used-before, refresh-mask, value-before, value-after}
 use Rattle.runs.proofs.Opened.{order-leaves}
 use Rattle.sample_masks.specs.Masks.{multiples}
 use Rattle.sample_masks.proofs.Multiples.{multiples-length, multiples-at, multiples-fit}
-use Rattle.gates.specs.Hosts.{Triple}
+use Rattle.gates.specs.Hosts.{Triple, share}
 use Rattle.trio.specs.Together.{Trio, left}
 use Rattle.trio.proofs.Positions.{prepare-number, lent-of, given-of, P}
 use Rattle.trio.proofs.Leaves.{left-one, register-opens, words-spoken, deals-dealt}
@@ -166,7 +166,7 @@ module _ (mode m l1 l2 : ℕ) where
     abbrev x : ℕ
     x = value (numbers 32) (record { m = m; l1 = l1; l2 = l2 })
 
-    source-is : value (numbers 32) (slot (before-order (staged 32 S) 0) (order-of S 0 .source)) ≡ x
+    source-is : value-before 32 (staged 32 S) 0 (order-of S 0 .source) ≡ x
     unfolding before-order order-of orders fresh
     source-is = refl
 
@@ -188,7 +188,7 @@ module _ (mode m l1 l2 : ℕ) where
     unfolding steps-of job-gates orders
     left-is = left-one 32 (staged 32 S) (program 32 (rows house) (record { kind = 10; target = 0; source = 0; fourth = mode-word mode })) refl
 
-    leaves : value (numbers 32) (slot (after-order (staged 32 S) 0) 0) ≡ curve-value 32 (rows house) (mode-word mode) x refresh-L
+    leaves : value-after 32 (staged 32 S) 0 0 ≡ curve-value 32 (rows house) (mode-word mode) x refresh-L
     unfolding order-of orders order-value values
     leaves =
         order-leaves 32 S fitting (lit< tt) (job-sound mode) 0 (lit< tt)
@@ -199,7 +199,7 @@ module _ (mode m l1 l2 : ℕ) where
     unfolding trial loan
     opens-curve =
         register-opens (staged 32 S) buffer accepted 32 0 (lit< tt)
-        ∙ ap {B = ℕ × ℤ} (λ (v : ℕ). (0, signed 32 v)) (ap (λ (j : Triple). value (numbers 32) (slot j 0)) left-is ∙ leaves)
+        ∙ ap {B = ℕ × ℤ} (λ (v : ℕ). (0, signed 32 v)) (ap (λ (j : Triple). value (numbers 32) (share j 0)) left-is ∙ leaves)
 
     curve-is : (n : ℕ) (z : ℤ) → signed 32 x ≡ z → T (in-range 32 z) → signed 32 (curve-value 32 (rows house) (mode-word n) x refresh-L) ≡ Spec.value n z
     unfolding Spec.value Spec.Y

@@ -15,7 +15,7 @@ use Rattle.gates.specs.declared.Gate.{Gate}
 use Rattle.gates.specs.Steps.{Step, Lane, at, end, origin, past}
 use Rattle.gates.specs.Meaning.{meaning, order-steps, job-steps}
 use Rattle.gates.specs.Walk.{whole}
-use Rattle.gates.specs.Hosts.{Triple, act}
+use Rattle.gates.specs.Hosts.{Triple, act, share}
 use Rattle.gates.specs.Costs.{plus, cost, step-cost}
 use Rattle.gates.proofs.Needs.{Further, past-used}
 use Rattle.programs.specs.declared.Order.{Order}
@@ -31,7 +31,7 @@ use Rattle.calls.specs.Scripts.{Orderly}
 use Rattle.calls.specs.Calls.{fresh}
 use Rattle.runs.proofs.Lists.{length-map}
 use Rattle.runs.specs.Runs.{Stage}
-use Rattle.runs.specs.Orders.{Words, first, trail, after-order, before-order, slot, first-counts, mask-behind, value-before, value-after, mask-before}
+use Rattle.runs.specs.Orders.{Words, first, trail, after-order, before-order, first-counts, mask-behind, value-before, value-after, mask-before}
 use Rattle.runs.proofs.Kept.{j₀-lengths}
 use Rattle.runs.proofs.Chain.{ended, points, job-trail, point-before, point-after, point-next}
 
@@ -157,7 +157,7 @@ module _ (w : ℕ) (S : Stage) (tidy : Orderly (S .script)) (words : Words w S) 
           (mask-before w S q (o .source)) (mask-behind w (S .A) (S .B) (first-counts w q gates) (sum-program w (o .source) ps))
       unfolding order-value program num l1-of l2-of curve-mask
       program-leaves =
-          ap (λ (t : Triple). value (numbers w) (slot t (o .target))) left-is
+          ap (λ (t : Triple). value (numbers w) (share t (o .target))) left-is
           ∙ kind-opens w (S .A) (S .B) (words .A) (words .B) low ps (o .target) (o .source) (o .fourth) (good .target) (good .source) (before q) (o .kind) (good .kind) sound
-          ∙ ap₂ (λ (t : Triple) (R : ℕ). order-value w ps o (value (numbers w) (slot t (o .source))) (value (numbers w) (slot t (o .fourth))) (mask (numbers w) (slot t (o .source))) R)
+          ∙ ap₂ (λ (t : Triple) (R : ℕ). order-value w ps o (value (numbers w) (share t (o .source))) (value (numbers w) (share t (o .fourth))) (mask (numbers w) (share t (o .source))) R)
           (sym (before-is q hq)) mask-is

@@ -16,12 +16,12 @@ use Rattle.shares.specs.Gates.{Share, value}
 use Rattle.shares.proofs.RoundTrip.{share-opens}
 use Rattle.gates.specs.Steps.{Lane, at, Step, local, deal, exchange, end, Cursor, origin, past}
 use Rattle.gates.specs.Walk.{Conf, conf, whole, next}
-use Rattle.gates.specs.Hosts.{Pair, Triple, of1, of2, act, joint1, joint2}
+use Rattle.gates.specs.Hosts.{Pair, Triple, of1, of2, act, joint1, joint2, share}
 use Rattle.jobs.specs.Job.{orders}
 use Rattle.calls.specs.Scripts.{orders-in, Closed}
 use Rattle.calls.specs.Calls.{State, fresh}
 use Rattle.runs.specs.Runs.{Stage, Setting, staged, Spoken, Dealer, dealer-holds, Side, World, Call, Run, registers, order1, order2, Finished, opened-slot, opened-after}
-use Rattle.runs.specs.Orders.{Words, trail, after-order, slot, Unwritten, order-of}
+use Rattle.runs.specs.Orders.{Words, trail, after-order, Unwritten, order-of}
 use Rattle.runs.specs.Orders.{Finishes, share-after, value-after}
 use Rattle.runs.specs.Returned.{side-holds, opened-now, opened-given, UnwrittenFrom, Holds, by-order, by-given, UntargetedFrom, JobHolds, of-order, of-given, Returned}
 use Rattle.runs.proofs.Places.{pos, trail-pos, trail-length, whole-pos}
@@ -38,7 +38,7 @@ module _ (A B : List ℕ) (all : List Step) (j₀ : Triple) where
   -- before the end of order q, or past it with slot i as order q left it
   data Standing (q i : ℕ) : List Step → Cursor → Triple → List Triple → Type 0 where
     ahead : {ss : List Step} {c : Cursor} {j : Triple} {t : List Triple} (k : ℕ) → suc k + c .order ≡ suc q → Spared i (suc k) ss → length t ≡ c .order → Standing q i ss c j t
-    behind : {ss : List Step} {c : Cursor} {j : Triple} {t : List Triple} → q < c .order → Spared i 0 ss → slot j i ≡ slot (getD t q j₀) i → q < length t → Standing q i ss c j t
+    behind : {ss : List Step} {c : Cursor} {j : Triple} {t : List Triple} → q < c .order → Spared i 0 ss → share j i ≡ share (getD t q j₀) i → q < length t → Standing q i ss c j t
 
   abbrev StandingAt : (q i : ℕ) → Conf Triple → Type 0
   StandingAt q i p = Standing q i (p .rest) (p .cur) (p .state) (p .trail)
@@ -53,7 +53,7 @@ module _ (A B : List ℕ) (all : List Step) (j₀ : Triple) where
       let l : q < suc (c .order) = omega arith in
       let z : length t ≡ q = omega arith in
       let y : q < length (t ++ (j ∷ [])) = omega (arith, length-append t (j ∷ [])) in
-      behind l h (ap (λ (x : Triple). slot x i) (sym (getD-at t j [] j₀ q z))) y
+      behind l h (ap (λ (x : Triple). share x i) (sym (getD-at t j [] j₀ q z))) y
   standing-next q i (end ∷ ss) c j t (ahead (suc k) e h n) =
       let l : suc k + suc (c .order) ≡ suc q = omega arith in
       let y : length (t ++ (j ∷ [])) ≡ suc (c .order) = omega (arith, length-append t (j ∷ [])) in
@@ -64,7 +64,7 @@ module _ (A B : List ℕ) (all : List Step) (j₀ : Triple) where
   standing-next q i (end ∷ ss) c j t (behind p h e n) =
       let l : q < suc (c .order) = omega arith in
       let y : q < length (t ++ (j ∷ [])) = omega (arith, length-append t (j ∷ [])) in
-      behind l (h .1) (e ∙ ap (λ (x : Triple). slot x i) (sym (List·getD-append t (j ∷ []) j₀ q n))) y
+      behind l (h .1) (e ∙ ap (λ (x : Triple). share x i) (sym (List·getD-append t (j ∷ []) j₀ q n))) y
 
   standing : (q i : ℕ) → Spared i (suc q) all → (n : ℕ) → StandingAt q i (joint A B all j₀ n)
   unfolding pos
@@ -74,23 +74,23 @@ module _ (A B : List ℕ) (all : List Step) (j₀ : Triple) where
 
   -- past order q, slot i is as order q left it
   past-is : (q i n : ℕ) → Spared i (suc q) all → q < joint A B all j₀ n .cur .order
-      → slot (joint A B all j₀ n .state) i ≡ slot (getD (whole (act A B) all origin j₀ [] .trail) q j₀) i
+      → share (joint A B all j₀ n .state) i ≡ share (getD (whole (act A B) all origin j₀ [] .trail) q j₀) i
   unfolding pos
   past-is q i n h l = go (standing q i h n)
     where
-      go : StandingAt q i (joint A B all j₀ n) → slot (joint A B all j₀ n .state) i ≡ slot (getD (whole (act A B) all origin j₀ [] .trail) q j₀) i
+      go : StandingAt q i (joint A B all j₀ n) → share (joint A B all j₀ n .state) i ≡ share (getD (whole (act A B) all origin j₀ [] .trail) q j₀) i
       go (ahead k e s t) = absurd (omega arith)
       go (behind p s e t) =
           let r = trail-pos (act A B) all j₀ n in
-          e ∙ ap (λ (x : Triple). slot x i) (sym (ap (λ (u : List Triple). getD u q j₀) (r .1) ∙ List·getD-append (joint A B all j₀ n .trail) (r .0) j₀ q t))
+          e ∙ ap (λ (x : Triple). share x i) (sym (ap (λ (u : List Triple). getD u q j₀) (r .1) ∙ List·getD-append (joint A B all j₀ n .trail) (r .0) j₀ q t))
 
   -- where no step writes it, slot i is as at the start
   never-next : (i : ℕ) (ss : List Step) (c : Cursor) (j : Triple) (t : List Triple) → Spared i 0 ss
-      → Spared i 0 (next (act A B) (conf ss c j t) .rest) × (slot (next (act A B) (conf ss c j t) .state) i ≡ slot j i)
+      → Spared i 0 (next (act A B) (conf ss c j t) .rest) × (share (next (act A B) (conf ss c j t) .state) i ≡ share j i)
   never-next i [] c j t h = (tt, refl)
   never-next i (x ∷ ss) c j t h = (h .1, act-misses A B x c j i (h .0))
 
-  never : (i : ℕ) → Spared i 0 all → (n : ℕ) → Spared i 0 (joint A B all j₀ n .rest) × (slot (joint A B all j₀ n .state) i ≡ slot j₀ i)
+  never : (i : ℕ) → Spared i 0 all → (n : ℕ) → Spared i 0 (joint A B all j₀ n .rest) × (share (joint A B all j₀ n .state) i ≡ share j₀ i)
   unfolding pos
   never i h zero = (h, refl)
   never i h (suc n) =
@@ -132,16 +132,16 @@ module _ (w : ℕ) (S : Stage) (i : ℕ) (hi : i < S .script .slots) where
 
   -- the three hosts hold slot i of x where the joint walk's positions that they stand at do
   module _ (x : Share ℕ) where
-    host0-has : (r : Pair) → slot (last S .state) i ≡ x → r ≡ (take (S .script .slots) (last S .state .1), take (S .script .slots) (last S .state .2)) → (at (r .0) i ≡ x .l1) × (at (r .1) i ≡ x .l2)
+    host0-has : (r : Pair) → share (last S .state) i ≡ x → r ≡ (take (S .script .slots) (last S .state .1), take (S .script .slots) (last S .state .2)) → (at (r .0) i ≡ x .l1) × (at (r .1) i ≡ x .l2)
     host0-has r e h = (ap (λ (p : Pair). at (p .0) i) h ∙ front (last S .state .1) ∙ ap (λ (y : Share ℕ). y .l1) e, ap (λ (p : Pair). at (p .1) i) h ∙ front (last S .state .2) ∙ ap (λ (y : Share ℕ). y .l2) e)
 
     host1-has : (s : State) (t : List Pair) (said : List Spoken) (Z : Tied (S .A) (S .B) (all S) (j₀ S) of1 (joint1 (S .A) (S .B)) s t said)
-        → slot (joint (S .A) (S .B) (all S) (j₀ S) (Z .n) .state) i ≡ x → (at (take (S .script .slots) (s .m)) i ≡ x .m) × (at (take (S .script .slots) (s .mask)) i ≡ x .l1)
+        → share (joint (S .A) (S .B) (all S) (j₀ S) (Z .n) .state) i ≡ x → (at (take (S .script .slots) (s .m)) i ≡ x .m) × (at (take (S .script .slots) (s .mask)) i ≡ x .l1)
     host1-has s t said Z e =
         (front (s .m) ∙ ap (λ (s : State). at (s .m) i) (Z .is) ∙ ap (λ (y : Share ℕ). y .m) e, front (s .mask) ∙ ap (λ (s : State). at (s .mask) i) (Z .is) ∙ ap (λ (y : Share ℕ). y .l1) e)
 
     host2-has : (s : State) (t : List Pair) (said : List Spoken) (Z : Tied (S .A) (S .B) (all S) (j₀ S) of2 (joint2 (S .A) (S .B)) s t said)
-        → slot (joint (S .A) (S .B) (all S) (j₀ S) (Z .n) .state) i ≡ x → (at (take (S .script .slots) (s .m)) i ≡ x .m) × (at (take (S .script .slots) (s .mask)) i ≡ x .l2)
+        → share (joint (S .A) (S .B) (all S) (j₀ S) (Z .n) .state) i ≡ x → (at (take (S .script .slots) (s .m)) i ≡ x .m) × (at (take (S .script .slots) (s .mask)) i ≡ x .l2)
     host2-has s t said Z e =
         (front (s .m) ∙ ap (λ (s : State). at (s .m) i) (Z .is) ∙ ap (λ (y : Share ℕ). y .m) e, front (s .mask) ∙ ap (λ (s : State). at (s .mask) i) (Z .is) ∙ ap (λ (y : Share ℕ). y .l2) e)
 
@@ -158,11 +158,11 @@ module _ (w : ℕ) (S : Stage) (i : ℕ) (hi : i < S .script .slots) where
       x : Share ℕ
       x = share-after S q i
 
-      at-end : q < length (trail S) → slot (last S .state) i ≡ share-after S q i
+      at-end : q < length (trail S) → share (last S .state) i ≡ share-after S q i
       at-end l =
           let e = last-is (S .A) (S .B) (all S) (j₀ S) in
           let k : q < length (joint (S .A) (S .B) (all S) (j₀ S) (length (all S)) .trail) = rw (← ap (λ (p : Conf Triple). p .trail) e) l in
-          ap (λ (p : Conf Triple). slot (p .state) i) e
+          ap (λ (p : Conf Triple). share (p .state) i) e
           ∙ past-is (S .A) (S .B) (all S) (j₀ S) q i (length (all S)) h (rw (trail-length (act (S .A) (S .B)) (all S) (j₀ S) (length (all S))) at k)
 
       go : (v : World) → Ok S v → q < order1 v → q < order2 v → q < length (trail S) → opened-now w (S .script .slots) v i ≡ (0, signed w (value-after w S q i))
@@ -185,7 +185,7 @@ module _ (w : ℕ) (S : Stage) (i : ℕ) (hi : i < S .script .slots) where
   abbrev pub start : Share ℕ
   start = record { m = at (S .rm) i; l1 = at (S .r1) i; l2 = at (S .r2) i }
 
-  pub start-is : slot (j₀ S) i ≡ start
+  pub start-is : share (j₀ S) i ≡ start
   start-is = rw (given-at (S .rm) (S .rm-full), given-at (S .r1) (S .r1-full), given-at (S .r2) (S .r2-full))
 
   pub now-given : {cs : List Call} (v : World) → Run S cs v → UnwrittenFrom S 0 i → opened-now w (S .script .slots) v i ≡ opened-given w S i
@@ -195,13 +195,13 @@ module _ (w : ℕ) (S : Stage) (i : ℕ) (hi : i < S .script .slots) where
       h : Spared i 0 (all S)
       h = spared-all S 0 i u
 
-      here : (n : ℕ) → slot (joint (S .A) (S .B) (all S) (j₀ S) n .state) i ≡ start
+      here : (n : ℕ) → share (joint (S .A) (S .B) (all S) (j₀ S) n .state) i ≡ start
       here n = never (S .A) (S .B) (all S) (j₀ S) i h n .1 ∙ start-is
 
       zero-has : (z : Dealer) (buf : List ℕ) → DealerOk S z buf → (at (dealer-holds z .0) i ≡ start .l1) × (at (dealer-holds z .1) i ≡ start .l2)
       zero-has _ _ (not-yet a) = (ap (λ (p : Pair). at (p .0) i) a, ap (λ (p : Pair). at (p .1) i) a)
       zero-has _ _ (dealt-all {r = r} p g a e) =
-          host0-has start r (ap (λ (p : Conf Triple). slot (p .state) i) (last-is (S .A) (S .B) (all S) (j₀ S)) ∙ here (length (all S))) a
+          host0-has start r (ap (λ (p : Conf Triple). share (p .state) i) (last-is (S .A) (S .B) (all S) (j₀ S)) ∙ here (length (all S))) a
 
       one-has : (x : Side) → OneOk S x → (at (side-holds (S .script .slots) x .0) i ≡ start .m) × (at (side-holds (S .script .slots) x .1) i ≡ start .l1)
       one-has _ (wait1 a) = (ap (λ (p : Pair). at (p .0) i) a, ap (λ (p : Pair). at (p .1) i) a)

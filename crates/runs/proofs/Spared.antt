@@ -10,10 +10,10 @@ use lib.ListN.{getD, set}
 use lib.Seq.{getD-set-other}
 use Rattle.gates.specs.Steps.{Step, local, deal, exchange, end, Cursor, origin, past}
 use Rattle.gates.specs.Walk.{whole}
-use Rattle.gates.specs.Hosts.{Triple, act}
+use Rattle.gates.specs.Hosts.{Triple, act, share}
 use Rattle.calls.specs.Scripts.{ends, orders-in}
 use Rattle.runs.specs.Runs.{Stage}
-use Rattle.runs.specs.Orders.{first, trail, after-order, before-order, slot, Unwritten, share-before, share-after}
+use Rattle.runs.specs.Orders.{first, trail, after-order, before-order, Unwritten, share-before, share-after}
 
 module _ (A B : List ℕ) where
   abbrev left : List Step → Cursor → Triple → List Triple
@@ -33,36 +33,36 @@ module _ (A B : List ℕ) where
   unfolding whole act
   ended ss c j = adds ss (past end c) j (j ∷ [])
 
-  pub other-slot : (j : Triple) (d i x y z : ℕ) → eqb i d ≡ false → slot (set (j .0) d x, set (j .1) d y, set (j .2) d z) i ≡ slot j i
+  pub other-slot : (j : Triple) (d i x y z : ℕ) → eqb i d ≡ false → share (set (j .0) d x, set (j .1) d y, set (j .2) d z) i ≡ share j i
   other-slot j d i x y z h =
       let n : i ≡ d → ⊥ = eqb-false i d h in
       rw (getD-set-other (j .0) d i x 0 n, getD-set-other (j .1) d i y 0 n, getD-set-other (j .2) d i z 0 n)
 
   -- up to the end of the order in which the walk stands
-  kept-first : (i : ℕ) (ss : List Step) (c : Cursor) (j e : Triple) → 0 < ends ss → Unwritten i 0 ss → slot (getD (left ss c j) 0 e) i ≡ slot j i
+  kept-first : (i : ℕ) (ss : List Step) (c : Cursor) (j e : Triple) → 0 < ends ss → Unwritten i 0 ss → share (getD (left ss c j) 0 e) i ≡ share j i
   unfolding whole act ends
   kept-first i [] c j e h u = absurd (omega arith)
   kept-first i (local d m l ∷ ss) c j e h u = kept-first i ss _ _ e h (u .1) ∙ other-slot j d i _ _ _ (u .0)
   kept-first i (deal d f ∷ ss) c j e h u = kept-first i ss _ _ e h (u .1) ∙ other-slot j d i _ _ _ (u .0)
   kept-first i (exchange d y ∷ ss) c j e h u = kept-first i ss _ _ e h (u .1) ∙ other-slot j d i _ _ _ (u .0)
-  kept-first i (end ∷ ss) c j e h u = ap (λ (t : List Triple). slot (getD t 0 e) i) (ended ss c j)
+  kept-first i (end ∷ ss) c j e h u = ap (λ (t : List Triple). share (getD t 0 e) i) (ended ss c j)
 
   -- from the end of an order to the end of the next
   kept-next : (i q : ℕ) (ss : List Step) (c : Cursor) (j e : Triple) → suc q < ends ss → Unwritten i (suc q) ss
-      → slot (getD (left ss c j) (suc q) e) i ≡ slot (getD (left ss c j) q e) i
+      → share (getD (left ss c j) (suc q) e) i ≡ share (getD (left ss c j) q e) i
   unfolding whole act ends
   kept-next i q [] c j e h u = absurd (omega arith)
   kept-next i q (local d m l ∷ ss) c j e h u = kept-next i q ss _ _ e h u
   kept-next i q (deal d f ∷ ss) c j e h u = kept-next i q ss _ _ e h u
   kept-next i q (exchange d y ∷ ss) c j e h u = kept-next i q ss _ _ e h u
   kept-next i zero (end ∷ ss) c j e h u =
-      ap (λ (t : List Triple). slot (getD t 1 e) i) (ended ss c j)
+      ap (λ (t : List Triple). share (getD t 1 e) i) (ended ss c j)
       ∙ kept-first i ss (past end c) j e (omega arith) u
-      ∙ ap (λ (t : List Triple). slot (getD t 0 e) i) (sym (ended ss c j))
+      ∙ ap (λ (t : List Triple). share (getD t 0 e) i) (sym (ended ss c j))
   kept-next i (suc q) (end ∷ ss) c j e h u =
-      ap (λ (t : List Triple). slot (getD t (suc (suc q)) e) i) (ended ss c j)
+      ap (λ (t : List Triple). share (getD t (suc (suc q)) e) i) (ended ss c j)
       ∙ kept-next i q ss (past end c) j e (omega arith) u
-      ∙ ap (λ (t : List Triple). slot (getD t (suc q) e) i) (sym (ended ss c j))
+      ∙ ap (λ (t : List Triple). share (getD t (suc q) e) i) (sym (ended ss c j))
 
 pub slot-kept : (S : Stage) (q i : ℕ) → q < orders-in (S .script) → Unwritten i q (S .script .steps) → share-after S q i ≡ share-before S q i
 unfolding trail after-order before-order

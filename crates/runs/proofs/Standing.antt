@@ -9,11 +9,11 @@ use lib.Seq.{getD-take, getD-at}
 use Rattle.shares.specs.Gates.{Share}
 use Rattle.gates.specs.Steps.{Lane, at, Exchange, Step, local, deal, exchange, end, Cursor, past}
 use Rattle.gates.specs.Walk.{Conf, conf, next}
-use Rattle.gates.specs.Hosts.{Pair, Triple, of1, of2, act, joint1, joint2}
+use Rattle.gates.specs.Hosts.{Pair, Triple, of1, of2, act, joint1, joint2, share}
 use Rattle.calls.specs.Scripts.{orders-in, ends, Closed}
 use Rattle.calls.specs.Calls.{State}
 use Rattle.runs.specs.Runs.{Stage, Spoken, Dealer, ready, Side, going, world, Call, Run}
-use Rattle.runs.specs.Orders.{trail, after-order, before-order, slot, Unwritten, share-before}
+use Rattle.runs.specs.Orders.{trail, after-order, before-order, Unwritten, share-before}
 use Rattle.runs.proofs.Places.{pos, ends-pos, trail-pos, trail-length}
 use Rattle.runs.proofs.Ties.{joint, Tied}
 use Rattle.runs.proofs.Kept.{all, j₀, last, Ok, ok, dealt-all, go1, go2, kept}
@@ -32,7 +32,7 @@ module _ (A B : List ℕ) (all : List Step) (j₀ : Triple) where
   -- what the order at hand has still to do, and slot i while it does not write it
   record Current (i : ℕ) (p : Conf Triple) : Type 0 where
     pub later : (k q : ℕ) → q ≡ p .cur .order + k → Unwritten i q all → Unwritten i k (p .rest)
-    pub same : Unwritten i (p .cur .order) all → slot (p .state) i ≡ slot (before (p .cur .order) (p .trail)) i
+    pub same : Unwritten i (p .cur .order) all → share (p .state) i ≡ share (before (p .cur .order) (p .trail)) i
     pub count : length (p .trail) ≡ p .cur .order
 
   here : (i : ℕ) (p : Conf Triple) → Current i p → Unwritten i (p .cur .order) all → Unwritten i 0 (p .rest)
@@ -41,13 +41,13 @@ module _ (A B : List ℕ) (all : List Step) (j₀ : Triple) where
   module _ (i : ℕ) (ss : List Step) (c : Cursor) (j : Triple) (t : List Triple) where
     -- past a step of the order at hand
     within : (x : Step) (c′ : Cursor) (j′ : Triple) → c′ .order ≡ c .order → ((k : ℕ) → Unwritten i k (x ∷ ss) → Unwritten i k ss)
-        → (Unwritten i 0 (x ∷ ss) → slot j′ i ≡ slot j i) → Current i (conf (x ∷ ss) c j t) → Current i (conf ss c′ j′ t)
+        → (Unwritten i 0 (x ∷ ss) → share j′ i ≡ share j i) → Current i (conf (x ∷ ss) c j t) → Current i (conf ss c′ j′ t)
     within x c′ j′ e f g z =
         record {
           later = λ k q h u. f k (z .later k q (omega (arith, h, e)) u);
           same = λ u.
               let v : Unwritten i (c .order) all = subst (λ (q : ℕ). Unwritten i q all) e u in
-              g (here i (conf (x ∷ ss) c j t) z v) ∙ z .same v ∙ ap (λ (q : ℕ). slot (before q t) i) (sym e);
+              g (here i (conf (x ∷ ss) c j t) z v) ∙ z .same v ∙ ap (λ (q : ℕ). share (before q t) i) (sym e);
           count = omega (arith, z .count, e);
         }
 
@@ -56,7 +56,7 @@ module _ (A B : List ℕ) (all : List Step) (j₀ : Triple) where
     behind-end z =
         record {
           later = λ k q h u. z .later (suc k) q (omega (arith, h)) u;
-          same = λ u. ap (λ (x : Triple). slot x i) (sym (getD-at t j [] j₀ (c .order) (z .count)));
+          same = λ u. ap (λ (x : Triple). share x i) (sym (getD-at t j [] j₀ (c .order) (z .count)));
           count = omega (arith, length-append t (j ∷ []), z .count);
         }
 
@@ -110,15 +110,15 @@ module _ (S : Stage) where
       sym (ap (λ (u : List Triple). getD u q (j₀ S)) (r .1) ∙ List·getD-append (point n .trail) (r .0) (j₀ S) q l)
 
   -- slot i at position n
-  stands-at : (n i : ℕ) → Unwritten i (point n .cur .order) (all S) → slot (point n .state) i ≡ share-before S (point n .cur .order) i
-  stands-at n i u = current A B (all S) (j₀ S) i n .same u ∙ ap (λ (x : Triple). slot x i) (before-is n _ refl)
+  stands-at : (n i : ℕ) → Unwritten i (point n .cur .order) (all S) → share (point n .state) i ≡ share-before S (point n .cur .order) i
+  stands-at n i u = current A B (all S) (j₀ S) i n .same u ∙ ap (λ (x : Triple). share x i) (before-is n _ refl)
 
   module _ (h : Triple → Pair) (say : Exchange → Cursor → Triple → ℕ) (s : State) (t : List Pair) (said : List Spoken)
       (Z : Tied A B (all S) (j₀ S) h say s t said) (i : ℕ) where
     order-is : s .order ≡ point (Z .n) .cur .order
     order-is = ap (λ (x : State). x .order) (Z .is)
 
-    tied-stands : Unwritten i (s .order) (all S) → slot (point (Z .n) .state) i ≡ share-before S (s .order) i
+    tied-stands : Unwritten i (s .order) (all S) → share (point (Z .n) .state) i ≡ share-before S (s .order) i
     tied-stands u =
         stands-at (Z .n) i (subst (λ (q : ℕ). Unwritten i q (all S)) order-is u) ∙ ap (λ (q : ℕ). share-before S q i) (sym order-is)
 
@@ -154,11 +154,11 @@ module _ (S : Stage) where
       go [] e l = sym (zero-add _) ∙ e
       go (x ∷ ss) e l = absurd (omega arith)
 
-  last-stands : Closed (all S) → (i : ℕ) → slot (last S .state) i ≡ share-before S (orders-in (S .script)) i
+  last-stands : Closed (all S) → (i : ℕ) → share (last S .state) i ≡ share-before S (orders-in (S .script)) i
   last-stands shut i =
       let n : ℕ = length (all S) in
       let u : Unwritten i (point n .cur .order) (all S) = closed-from i (all S) shut (point n .cur .order) (omega (arith, last-order)) in
-      ap (λ (p : Conf Triple). slot (p .state) i) (last-is A B (all S) (j₀ S)) ∙ stands-at n i u ∙ ap (λ (q : ℕ). share-before S q i) last-order
+      ap (λ (p : Conf Triple). share (p .state) i) (last-is A B (all S) (j₀ S)) ∙ stands-at n i u ∙ ap (λ (q : ℕ). share-before S q i) last-order
 
   pub stands0 : {cs : List Call} {r : Pair} {t : List Pair} {buf : List ℕ} {one two : Side} → Closed (all S) → Run S cs (world (ready r t) buf one two)
       → (i : ℕ) → i < S .script .slots

@@ -10,11 +10,11 @@ use Rattle.gates.specs.declared.Gate.{Gate}
 use Rattle.gates.specs.declared.Gate.the-variants.{Add, Sub, Xor, Mul, And, Refresh, Scale, Plus, Up, Bit, Const, Public, Deal, DealBits}
 use Rattle.gates.specs.Steps.{Step, local, deal, exchange, end, Cursor}
 use Rattle.gates.specs.Meaning.{meaning, order-steps, job-steps}
-use Rattle.gates.specs.Hosts.{Triple, act}
+use Rattle.gates.specs.Hosts.{Triple, act, share}
 use Rattle.programs.proofs.Points.{target}
 use Rattle.calls.specs.Scripts.{ends, Closed}
 use Rattle.runs.specs.Runs.{Stage}
-use Rattle.runs.specs.Orders.{slot, Unwritten}
+use Rattle.runs.specs.Orders.{Unwritten}
 use Rattle.runs.specs.Returned.{UnwrittenFrom}
 use Rattle.runs.proofs.Spared.{other-slot}
 use Rattle.runs.proofs.Kept.{all}
@@ -28,7 +28,7 @@ Misses i (deal d f) = eqb i d ≡ false
 Misses i (exchange d e) = eqb i d ≡ false
 Misses i end = Unit
 
-pub act-misses : (A B : List ℕ) (x : Step) (c : Cursor) (j : Triple) (i : ℕ) → Misses i x → slot (act A B x c j) i ≡ slot j i
+pub act-misses : (A B : List ℕ) (x : Step) (c : Cursor) (j : Triple) (i : ℕ) → Misses i x → share (act A B x c j) i ≡ share j i
 unfolding act
 act-misses A B (local d m l) c j i h = other-slot A B j d i _ _ _ h
 act-misses A B (deal d f) c j i h = other-slot A B j d i _ _ _ h

@@ -48,16 +48,12 @@ unfoldable pub before-order : Stage → ℕ → Triple
 before-order S zero = first S
 before-order S (suc q) = after-order S q
 
--- the share in slot i
-abbrev pub slot : Triple → ℕ → Share ℕ
-slot = share
-
 -- the share in slot i just before order q, and as order q leaves it
 abbrev pub share-before : Stage → (q i : ℕ) → Share ℕ
-share-before S q i = slot (before-order S q) i
+share-before S q i = share (before-order S q) i
 
 abbrev pub share-after : Stage → (q i : ℕ) → Share ℕ
-share-after S q i = slot (after-order S q) i
+share-after S q i = share (after-order S q) i
 
 -- what slot i opens just before order q, and its mask there, "L = L1 + L2"; and what it opens as order q leaves it
 abbrev pub value-before : (w : ℕ) → Stage → (q i : ℕ) → ℕ
