@@ -8,7 +8,7 @@ use Rattle.gates.specs.Hosts.{Pair, of1, of2, joint1, joint2, Supplied}
 use Rattle.gates.proofs.Seen.{Always}
 use Rattle.calls.specs.Lent.{worker1, worker2, worker-with}
 use Rattle.calls.specs.Calls.{State, Answer, fresh2, start-walk, start, found-of, hear}
-use Rattle.runs.specs.Runs.{Stage, Spoken, Among, registers, lent1, lent2}
+use Rattle.runs.specs.Runs.{Stage, Spoken, Among, registers, lent1, lent2, placed-word}
 use Rattle.runs.proofs.Ties.{shadow1, shadow2, Heard, Tied, Answered, start-answered, hear-answered}
 use Rattle.runs.proofs.Refusals.{start-none, hear-none}
 use Rattle.runs.proofs.Kept.{all, j₀}
@@ -31,7 +31,7 @@ module _ (S : Stage) where
       (start-answered A B (all S) (j₀ S) (worker1 A) of1 (joint1 A B) (joint2 A B) Always (shadow1 A B) tt (registers (S .script .slots) s) (ap {B = Pair} (λ (p : Pair). fresh2 p) e))
 
   pub hear1-answered : (D : List ℕ) (s : State) (t : List Pair) (said said2 : List Spoken) (k v : ℕ) → Tied A B (all S) (j₀ S) of1 (joint1 A B) s t said
-      → Heard A B (all S) (j₀ S) (joint2 A B) k said2 → Among (s .order, s .turn, v) said2 → hear (lent1 S D) s v .number ≡ 0 → Answered1 (hear (lent1 S D) s v) (suc (length said))
+      → Heard A B (all S) (j₀ S) (joint2 A B) k said2 → Among (placed-word s v) said2 → hear (lent1 S D) s v .number ≡ 0 → Answered1 (hear (lent1 S D) s v) (suc (length said))
   unfolding worker-with found-of
   hear1-answered D s t said said2 k v Z H m z =
       let q = hear-none (lent1 S D) s v z .1 in
@@ -51,7 +51,7 @@ module _ (S : Stage) where
         (start-answered A B (all S) (j₀ S) (worker2 B D) of2 (joint2 A B) (joint1 A B) (Supplied A B D) (shadow2 A B D) g (registers (S .script .slots) s) (ap {B = Pair} (λ (p : Pair). fresh2 p) e))
 
     pub hear2-answered : (s : State) (t : List Pair) (said said1 : List Spoken) (k v : ℕ) → Tied A B (all S) (j₀ S) of2 (joint2 A B) s t said
-        → Heard A B (all S) (j₀ S) (joint1 A B) k said1 → Among (s .order, s .turn, v) said1 → hear (lent2 S D) s v .number ≡ 0 → Answered2 (hear (lent2 S D) s v) (suc (length said))
+        → Heard A B (all S) (j₀ S) (joint1 A B) k said1 → Among (placed-word s v) said1 → hear (lent2 S D) s v .number ≡ 0 → Answered2 (hear (lent2 S D) s v) (suc (length said))
     unfolding worker-with found-of
     hear2-answered s t said said1 k v Z H m z =
         let q = hear-none (lent2 S D) s v z .1 in

@@ -13,7 +13,7 @@ use Rattle.gates.proofs.Seen.{Always}
 use Rattle.calls.specs.Scripts.{orders-in, ends, Closed}
 use Rattle.calls.specs.Lent.{Worker, worker1, worker2}
 use Rattle.calls.specs.Calls.{State, Answer, word-at}
-use Rattle.runs.specs.Runs.{Stage, Spoken, utter, Among, Dealer, Side, waiting, going, World, world, Call, Completes, prepares, starts1, starts2, hears1, hears2, given-out, Run, begin, complete, refuse}
+use Rattle.runs.specs.Runs.{Stage, Spoken, placed-word, Among, Dealer, Side, waiting, going, World, world, Call, Completes, prepares, starts1, starts2, hears1, hears2, given-out, Run, begin, complete, refuse}
 use Rattle.runs.specs.InOrder.{defined-words}
 use Rattle.runs.specs.InOrder.{Before, Rising, InOrder}
 use Rattle.runs.proofs.Places.{Halted, pos, ends-pos}
@@ -113,14 +113,14 @@ module _ (S : Stage) where
   module _ (P : Worker) (h : Triple → Pair) (own other : Exchange → Cursor → Triple → ℕ) (Good : List Step → Cursor → Triple → Type 0)
       (sh : Shadow A B P h own other Good) (good : Good (all S) origin (j₀ S)) where
     front-answered : (a : Answer) (said : List Spoken) → Answered A B (all S) (j₀ S) P h own other Good sh good a (suc (length said))
-        → Front A B (all S) (j₀ S) own said → Front A B (all S) (j₀ S) own (utter (a .state) (a .word) ∷ said)
+        → Front A B (all S) (j₀ S) own said → Front A B (all S) (j₀ S) own (placed-word (a .state) (a .word) ∷ said)
     front-answered a said N f = rw (N .is) (front-more A B (all S) (j₀ S) own said (N .n) (N .halts) (omega (arith, N .count)) f)
 
-  front1 : {a : Answer} (said : List Spoken) → Answered1 S a (suc (length said)) → Front1 said → Front1 (utter (a .state) (a .word) ∷ said)
+  front1 : {a : Answer} (said : List Spoken) → Answered1 S a (suc (length said)) → Front1 said → Front1 (placed-word (a .state) (a .word) ∷ said)
   front1 {a} said N f = front-answered (worker1 A) of1 (joint1 A B) (joint2 A B) Always (shadow1 A B) tt a said N f
 
   front2 : (D : List ℕ) (g : Supplied A B D (all S) origin (j₀ S)) {a : Answer} (said : List Spoken) → Answered2 S D g a (suc (length said)) → Front2 said
-      → Front2 (utter (a .state) (a .word) ∷ said)
+      → Front2 (placed-word (a .state) (a .word) ∷ said)
   front2 D g {a} said N f = front-answered (worker2 B D) of2 (joint2 A B) (joint1 A B) (Supplied A B D) (shadow2 A B D) g a said N f
 
   -- ---- along a run

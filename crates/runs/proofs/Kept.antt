@@ -15,16 +15,17 @@ use Rattle.jobs.specs.Job.{Fault}
 use Rattle.calls.specs.Scripts.{script-cost}
 use Rattle.calls.specs.Lent.{worker1, worker2, dealer-fault, worker-with}
 use Rattle.calls.specs.Calls.{State, fresh, fresh2, start-walk, start, found-of, hear, script-deals, prepare-walk, prepared, prepare}
-use Rattle.runs.specs.Runs.{Stage, Spoken, Among, Dealer, idle, ready, dealer-holds, Side, waiting, going, side-state, World, world, registers, Refuses, refuses0, refuses0-elsewhere, refuses1, refuses2, Call, lent1, lent2, Dealt, preparation, started, stepped, Completes, prepares, starts1, starts2, hears1, hears2, given-out, Run, begin, complete, refuse}
+use Rattle.runs.specs.Runs.{Stage, Spoken, Among, Dealer, idle, ready, dealer-holds, Side, waiting, going, side-state, World, world, registers, Refuses, refuses0, refuses0-elsewhere, refuses1, refuses2, Call, lent1, lent2, Dealt, preparation, started, stepped, Completes, prepares, starts1, starts2, hears1, hears2, given-out, Run, begin, complete, refuse, placed-word}
 use Rattle.runs.proofs.Places.{pos}
 use Rattle.runs.proofs.Ties.{shadow1, shadow2, joint, Heard, Tied, tie-start, tie-hear}
-use Rattle.runs.proofs.Refusals.{start-none, hear-none, prepare-back, masks-back, Holds, turned-back}
+use Rattle.runs.proofs.Refusals.{start-none, hear-none, prepare-back, masks-back, HasSlots, turned-back}
+use Rattle.runs.specs.Orders.{first}
 
 -- ---- the deals in front of a list
 
-starts-shift : (x k : ℕ) (D ds : List ℕ) → Starts D k ds → Starts (x ∷ D) (suc k) ds
-starts-shift x k D [] h = tt
-starts-shift x k D (d ∷ ds) h = (h .0, starts-shift x (suc k) D ds (h .1))
+starts-shift : (x dealt : ℕ) (D ds : List ℕ) → Starts D dealt ds → Starts (x ∷ D) (suc dealt) ds
+starts-shift x dealt D [] h = tt
+starts-shift x dealt D (d ∷ ds) h = (h .0, starts-shift x (suc dealt) D ds (h .1))
 
 starts-front : (ds post : List ℕ) → Starts (ds ++ post) 0 ds
 starts-front [] post = tt
@@ -77,7 +78,7 @@ module _ (S : Stage) where
   B = S .B
 
   abbrev pub j₀ : Triple
-  j₀ = (fresh (S .rm), fresh (S .r1), fresh (S .r2))
+  j₀ = first S
 
   -- the joint walk's end
   abbrev pub last : Conf Triple
@@ -161,14 +162,14 @@ module _ (S : Stage) where
       (go2 (tie-start A B all j₀ (worker2 B D) of2 (joint2 A B) (joint1 A B) (Supplied A B D) (shadow2 A B D) g (registers n s) (ap {B = Pair} (λ (p : Pair). fresh2 p) h)))
 
   hear1-ok : (D : List ℕ) (s : State) (t : List Pair) (said said2 : List Spoken) (k v : ℕ) → Tied A B all j₀ of1 (joint1 A B) s t said → Heard A B all j₀ (joint2 A B) k said2
-      → Among (s .order, s .turn, v) said2 → hear (lent1 S D) s v .number ≡ 0 → OneOk (stepped S (lent1 S D) s v t said)
+      → Among (placed-word s v) said2 → hear (lent1 S D) s v .number ≡ 0 → OneOk (stepped S (lent1 S D) s v t said)
   unfolding worker-with found-of
   hear1-ok D s t said said2 k v Z H m e =
       let q = hear-none (lent1 S D) s v e .1 in
       rw q (go1 (tie-hear A B all j₀ (worker1 A) of1 (joint1 A B) (joint2 A B) Always (shadow1 A B) tt s t said said2 k v Z H m (rw q at e)))
 
   hear2-ok : (D : List ℕ) (s : State) (t : List Pair) (said said1 : List Spoken) (k v : ℕ) → Supplied A B D all origin j₀ → Tied A B all j₀ of2 (joint2 A B) s t said
-      → Heard A B all j₀ (joint1 A B) k said1 → Among (s .order, s .turn, v) said1 → hear (lent2 S D) s v .number ≡ 0 → TwoOk (stepped S (lent2 S D) s v t said)
+      → Heard A B all j₀ (joint1 A B) k said1 → Among (placed-word s v) said1 → hear (lent2 S D) s v .number ≡ 0 → TwoOk (stepped S (lent2 S D) s v t said)
   unfolding worker-with found-of
   hear2-ok D s t said said1 k v g Z H m e =
       let q = hear-none (lent2 S D) s v e .1 in
@@ -186,23 +187,23 @@ module _ (S : Stage) where
 
   -- ---- a refused call changes nothing
 
-  holds-waiting : (s : State) (m mask : Lane) → registers n s ≡ (m, mask) → length m ≡ n → length mask ≡ n → Holds n s
+  holds-waiting : (s : State) (m mask : Lane) → registers n s ≡ (m, mask) → length m ≡ n → length mask ≡ n → HasSlots n s
   holds-waiting s m mask e h k =
       let a : length (take n (s .m)) ≡ n = ap (λ (p : Pair). length (p .0)) e ∙ h in
       let b : length (take n (s .mask)) ≡ n = ap (λ (p : Pair). length (p .1)) e ∙ k in
       record { m = omega (arith, length-take n (s .m)); mask = omega (arith, length-take n (s .mask)) }
 
   holds-tied : (h : Triple → Pair) (say : Exchange → Cursor → Triple → ℕ) (s : State) (t : List Pair) (said : List Spoken)
-      → ((j : Triple) → Lengths (n + 8) j → (length (h j .0) ≡ n + 8) × (length (h j .1) ≡ n + 8)) → Tied A B all j₀ h say s t said → Holds n s
+      → ((j : Triple) → Lengths (n + 8) j → (length (h j .0) ≡ n + 8) × (length (h j .1) ≡ n + 8)) → Tied A B all j₀ h say s t said → HasSlots n s
   holds-tied h say s t said f Z =
       let g = f (joint A B all j₀ (Z .n) .state) (pos-lengths A B all j₀ (n + 8) (Z .n) j₀-lengths) in
       rw (Z .is) (record { m = omega (arith, g .0); mask = omega (arith, g .1) })
 
-  one-holds : {x : Side} → OneOk x → Holds n (side-state x)
+  one-holds : {x : Side} → OneOk x → HasSlots n (side-state x)
   one-holds (wait1 h) = holds-waiting _ (S .rm) (S .r1) h (S .rm-full) (S .r1-full)
   one-holds (go1 Z) = holds-tied of1 (joint1 A B) _ _ _ (λ j h. (h .m, h .l1)) Z
 
-  two-holds : {x : Side} → TwoOk x → Holds n (side-state x)
+  two-holds : {x : Side} → TwoOk x → HasSlots n (side-state x)
   two-holds (wait2 h) = holds-waiting _ (S .rm) (S .r2) h (S .rm-full) (S .r2-full)
   two-holds (go2 Z) = holds-tied of2 (joint2 A B) _ _ _ (λ j h. (h .m, h .l2)) Z
 

@@ -66,7 +66,7 @@ masks-back σ A B buf (ready r t) h = ap (λ (p : Pair). ready p t) (prepare-bac
 
 -- ---- a refused starting or hearing, on a state of n slots and more
 
-pub record Holds (n : ℕ) (s : State) : Type 0 where
+pub record HasSlots (n : ℕ) (s : State) : Type 0 where
   pub m : n ≤ length (s .m)
   pub mask : n ≤ length (s .mask)
 
@@ -76,13 +76,13 @@ take-fresh n l h =
     let k : length (take n l) ≡ n = length-take n l ∙ min-eq-left h in
     ap (λ (x : List ℕ). x ++ drop n l) (take-append-le n (take n l) (replicate 8 0) (omega arith) ∙ take-all n (take n l) (omega arith)) ∙ take-append-drop n l
 
-turned-same : (n : ℕ) {s s′ : State} → Holds n s → Turned n s s′ → s′ ≡ s
+turned-same : (n : ℕ) {s s′ : State} → HasSlots n s → Turned n s s′ → s′ ≡ s
 unfolding given
 turned-same n {s} z (at-start loan h) =
     rw (start-state loan (registers n s) h, take-fresh n (s .m) (z .m), take-fresh n (s .mask) (z .mask))
 turned-same n {s} z (at-hearing loan v h) = hear-state loan s v h
 
 -- host 1 or 2 holds what it held
-pub turned-back : (n : ℕ) (x : Side) {s : State} → Holds n (side-state x) → Turned n (side-state x) s → with-state x s ≡ x
+pub turned-back : (n : ℕ) (x : Side) {s : State} → HasSlots n (side-state x) → Turned n (side-state x) s → with-state x s ≡ x
 turned-back n (waiting s) z h = ap waiting (turned-same n z h)
 turned-back n (going s t said) z h = ap (λ (p : State). going p t said) (turned-same n z h)

@@ -30,15 +30,15 @@ use Rattle.runs.proofs.Kept.{all, j₀, last, DealerOk, not-yet, dealt-
 use Rattle.runs.proofs.Opened.{untargeted}
 use Rattle.runs.proofs.InJob.{good-order}
 use Rattle.runs.proofs.Opening.{finished-order, finished-opens}
-use Rattle.runs.proofs.Unwritten.{act-misses, Spared, spared-all, closed-from}
+use Rattle.runs.proofs.Unwritten.{act-misses, SparedFrom, spared-all, closed-from}
 
 -- ---- along the joint walk
 
 module _ (A B : List ℕ) (all : List Step) (j₀ : Triple) where
   -- before the end of order q, or past it with slot i as order q left it
   data Standing (q i : ℕ) : List Step → Cursor → Triple → List Triple → Type 0 where
-    ahead : {ss : List Step} {c : Cursor} {j : Triple} {t : List Triple} (k : ℕ) → suc k + c .order ≡ suc q → Spared i (suc k) ss → length t ≡ c .order → Standing q i ss c j t
-    behind : {ss : List Step} {c : Cursor} {j : Triple} {t : List Triple} → q < c .order → Spared i 0 ss → share j i ≡ share (getD t q j₀) i → q < length t → Standing q i ss c j t
+    ahead : {ss : List Step} {c : Cursor} {j : Triple} {t : List Triple} (k : ℕ) → suc k + c .order ≡ suc q → SparedFrom i (suc k) ss → length t ≡ c .order → Standing q i ss c j t
+    behind : {ss : List Step} {c : Cursor} {j : Triple} {t : List Triple} → q < c .order → SparedFrom i 0 ss → share j i ≡ share (getD t q j₀) i → q < length t → Standing q i ss c j t
 
   abbrev StandingAt : (q i : ℕ) → Conf Triple → Type 0
   StandingAt q i p = Standing q i (p .rest) (p .cur) (p .state) (p .trail)
@@ -66,14 +66,14 @@ module _ (A B : List ℕ) (all : List Step) (j₀ : Triple) where
       let y : q < length (t ++ (j ∷ [])) = omega (arith, length-append t (j ∷ [])) in
       behind l (h .1) (e ∙ ap (λ (x : Triple). share x i) (sym (List·getD-append t (j ∷ []) j₀ q n))) y
 
-  standing : (q i : ℕ) → Spared i (suc q) all → (n : ℕ) → StandingAt q i (joint A B all j₀ n)
+  standing : (q i : ℕ) → SparedFrom i (suc q) all → (n : ℕ) → StandingAt q i (joint A B all j₀ n)
   unfolding pos
   standing q i h zero = let l : suc q + 0 ≡ suc q = omega arith in ahead q l h refl
   standing q i h (suc n) =
       let p : Conf Triple = joint A B all j₀ n in standing-next q i (p .rest) (p .cur) (p .state) (p .trail) (standing q i h n)
 
   -- past order q, slot i is as order q left it
-  past-is : (q i n : ℕ) → Spared i (suc q) all → q < joint A B all j₀ n .cur .order
+  past-is : (q i n : ℕ) → SparedFrom i (suc q) all → q < joint A B all j₀ n .cur .order
       → share (joint A B all j₀ n .state) i ≡ share (getD (whole (act A B) all origin j₀ [] .trail) q j₀) i
   unfolding pos
   past-is q i n h l = go (standing q i h n)
@@ -85,12 +85,12 @@ module _ (A B : List ℕ) (all : List Step) (j₀ : Triple) where
           e ∙ ap (λ (x : Triple). share x i) (sym (ap (λ (u : List Triple). getD u q j₀) (r .1) ∙ List·getD-append (joint A B all j₀ n .trail) (r .0) j₀ q t))
 
   -- where no step writes it, slot i is as at the start
-  never-next : (i : ℕ) (ss : List Step) (c : Cursor) (j : Triple) (t : List Triple) → Spared i 0 ss
-      → Spared i 0 (next (act A B) (conf ss c j t) .rest) × (share (next (act A B) (conf ss c j t) .state) i ≡ share j i)
+  never-next : (i : ℕ) (ss : List Step) (c : Cursor) (j : Triple) (t : List Triple) → SparedFrom i 0 ss
+      → SparedFrom i 0 (next (act A B) (conf ss c j t) .rest) × (share (next (act A B) (conf ss c j t) .state) i ≡ share j i)
   never-next i [] c j t h = (tt, refl)
   never-next i (x ∷ ss) c j t h = (h .1, act-misses A B x c j i (h .0))
 
-  never : (i : ℕ) → Spared i 0 all → (n : ℕ) → Spared i 0 (joint A B all j₀ n .rest) × (share (joint A B all j₀ n .state) i ≡ share j₀ i)
+  never : (i : ℕ) → SparedFrom i 0 all → (n : ℕ) → SparedFrom i 0 (joint A B all j₀ n .rest) × (share (joint A B all j₀ n .state) i ≡ share j₀ i)
   unfolding pos
   never i h zero = (h, refl)
   never i h (suc n) =
@@ -152,7 +152,7 @@ module _ (w : ℕ) (S : Stage) (i : ℕ) (hi : i < S .script .slots) where
   unfolding opened-now after-order trail
   now-after v r q f u = go v (kept S r) (f .one) (f .two) (finished-order S v r q f)
     where
-      h : Spared i (suc q) (all S)
+      h : SparedFrom i (suc q) (all S)
       h = spared-all S (suc q) i u
 
       x : Share ℕ
@@ -192,7 +192,7 @@ module _ (w : ℕ) (S : Stage) (i : ℕ) (hi : i < S .script .slots) where
   unfolding opened-now opened-given
   now-given v r u = go v (kept S r)
     where
-      h : Spared i 0 (all S)
+      h : SparedFrom i 0 (all S)
       h = spared-all S 0 i u
 
       here : (n : ℕ) → share (joint (S .A) (S .B) (all S) (j₀ S) n .state) i ≡ start

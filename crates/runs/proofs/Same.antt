@@ -16,7 +16,7 @@ use Rattle.calls.specs.Scripts.{script-cost}
 use Rattle.calls.specs.Places.{seek}
 use Rattle.calls.specs.Lent.{worker2, or-else, lists-fault, lent-fault, worker-with}
 use Rattle.calls.specs.Calls.{State, Answer, fresh2, word-at, spoken-at, state-of, start-walk, start, hear-walk, found-of, resume, hear}
-use Rattle.runs.specs.Runs.{Stage, Spoken, utter, Among, ready, Side, waiting, going, World, world, registers, Call, starting1, starting2, hearing1, hearing2, lent1, lent2, started, stepped, Completes, prepares, starts1, starts2, hears1, hears2, Run, begin, complete, refuse}
+use Rattle.runs.specs.Runs.{Stage, Spoken, placed-word, Among, ready, Side, waiting, going, World, world, registers, Call, starting1, starting2, hearing1, hearing2, lent1, lent2, started, stepped, Completes, prepares, starts1, starts2, hears1, hears2, Run, begin, complete, refuse}
 use Rattle.runs.specs.Strict.{Narrow, none, refuses, StrictRun, Strict}
 use Rattle.runs.proofs.Places.{Halted, one-halt}
 use Rattle.runs.proofs.Ties.{shadow2, joint, words, Heard, Tied, Went, starts, hears-on, word-right}
@@ -74,7 +74,7 @@ module _ (S : Stage) where
         let Y = starts A B (all S) (j₀ S) (worker2 B E) of2 (joint2 A B) (joint1 A B) (Supplied A B E) (shadow2 A B E) f (registers (S .script .slots) s) (ap {B = Pair} (λ (p : Pair). fresh2 p) h) in
         let z = same-went 0 [] _ _ _ _ X Y in
         let u : start (lent2 S E) (registers (S .script .slots) s) ≡ start (lent2 S D) (registers (S .script .slots) s) = y ∙ sym (z .0) ∙ sym x in
-        side-path (ap (λ (a : Answer). a .state) u) (sym (z .1)) (ap {B = List Spoken} (λ (a : Answer). utter (a .state) (a .word) ∷ []) u)
+        side-path (ap (λ (a : Answer). a .state) u) (sym (z .1)) (ap {B = List Spoken} (λ (a : Answer). placed-word (a .state) (a .word) ∷ []) u)
 
     heard-same-at : (n v : ℕ) → Exchanging (at-n n .rest) → Halted (at-n n .rest) → v ≡ words A B (all S) (j₀ S) (joint1 A B) n
         → (resume (worker2 B D) (state-of (through of2 (at-n n))) v (seek (at-n n .cur .order) (at-n n .cur .turn) (all S) origin)
@@ -93,7 +93,7 @@ module _ (S : Stage) where
     heard-same s t said v Z x e = rw (Z .is, Z .trails) (heard-same-at (Z .n) v x (Z .halts) e)
 
     stepped-same2 : (s : State) (t : List Pair) (said said1 : List Spoken) (k v : ℕ) → Tied A B (all S) (j₀ S) of2 (joint2 A B) s t said
-        → Heard A B (all S) (j₀ S) (joint1 A B) k said1 → Among (s .order, s .turn, v) said1 → hear (lent2 S D) s v .number ≡ 0 → hear (lent2 S E) s v .number ≡ 0
+        → Heard A B (all S) (j₀ S) (joint1 A B) k said1 → Among (placed-word s v) said1 → hear (lent2 S D) s v .number ≡ 0 → hear (lent2 S E) s v .number ≡ 0
         → stepped S (lent2 S E) s v t said ≡ stepped S (lent2 S D) s v t said
     unfolding worker-with found-of
     stepped-same2 s t said said1 k v Z H m e e′ =
@@ -101,7 +101,7 @@ module _ (S : Stage) where
         let q = word-right A B (all S) (j₀ S) (worker2 B D) of2 (joint2 A B) (joint1 A B) (Supplied A B D) (shadow2 A B D) g (Z .n) k v said1 (M .heard) H (rw (Z .is) at m) in
         let z = heard-same s t said v Z (M .heard) q in
         let u : hear (lent2 S E) s v ≡ hear (lent2 S D) s v = hear-none (lent2 S E) s v e′ .1 ∙ sym (z .0) ∙ sym (hear-none (lent2 S D) s v e .1) in
-        side-path (ap (λ (a : Answer). a .state) u) (sym (z .1)) (ap {B = List Spoken} (λ (a : Answer). utter (a .state) (a .word) ∷ said) u)
+        side-path (ap (λ (a : Answer). a .state) u) (sym (z .1)) (ap {B = List Spoken} (λ (a : Answer). placed-word (a .state) (a .word) ∷ said) u)
 
   -- ---- the buffer is long enough to be lent
 

@@ -15,10 +15,10 @@ use Rattle.calls.specs.Scripts.{orders-in}
 use Rattle.calls.specs.Places.{Found, nowhere, found, seek}
 use Rattle.calls.specs.Lent.{Lent, Worker, worker1, worker2, lists-fault, lent-fault, worker-with, worker-of}
 use Rattle.calls.specs.Calls.{State, Answer, fresh, state-of, report, unless, given, start-walk, start, place-fault, found-of, resume, hear}
-use Rattle.runs.specs.Runs.{Stage, Spoken, Among, Dealer, idle, ready, Side, waiting, going, World, world, registers, Call, lent1, lent2, Completes, prepares, starts1, starts2, hears1, hears2, Begins, given-out, Run, begin, complete, refuse, Finished, buffer-of, Accepted}
+use Rattle.runs.specs.Runs.{Stage, Spoken, Among, Dealer, idle, ready, Side, waiting, going, World, world, registers, Call, lent1, lent2, Completes, prepares, starts1, starts2, hears1, hears2, Begins, given-out, Run, begin, complete, refuse, Finished, buffer-of, Accepted, placed-word}
 use Rattle.runs.specs.Strict.{Narrow, heard-by-1, heard-by-2, Calls, none, completes, refuses, StrictRun, Done}
 use Rattle.runs.proofs.Places.{Halted, steps-in, seek-pos, once, shrinks}
-use Rattle.runs.proofs.Ties.{Shadow, shadow1, shadow2, joint, Heard, Tied, word-right, hears-on}
+use Rattle.runs.proofs.Ties.{Shadow, shadow1, shadow2, joint, Heard, Tied, live-at, word-right, hears-on}
 use Rattle.runs.proofs.Refusals.{start-none, hear-none}
 use Rattle.runs.proofs.Kept.{all, j₀, supplied, deals-fit, not-yet, dealt-all, go1, go2, Ok, ok, refuses-nothing, kept}
 use Rattle.runs.proofs.Progress.{unless-zero, lent2-zero, Ended, Onward, progress, stuck-ended}
@@ -34,15 +34,6 @@ resume-number P Q s v (found (local d m l ∷ ss) c) = refl
 resume-number P Q s v (found (deal d f ∷ ss) c) = refl
 resume-number P Q s v (found (exchange d e ∷ ss) c) = refl
 resume-number P Q s v (found (end ∷ ss) c) = refl
-
--- a hearing that completes is at a product or refresh
-live : (P : Worker) (ss : List Step) (c : Cursor) (s : State) (v : ℕ) → Halted ss → resume P s v (found ss c) .number ≡ 0 → Exchanging ss
-unfolding resume place-fault unless
-live P [] c s v h e = absurd (omega arith)
-live P (local d m l ∷ ss) c s v h e = absurd h
-live P (deal d f ∷ ss) c s v h e = absurd h
-live P (exchange d y ∷ ss) c s v h e = tt
-live P (end ∷ ss) c s v h e = absurd h
 
 module _ (S : Stage) where
   abbrev A : List ℕ
@@ -72,15 +63,15 @@ module _ (S : Stage) where
         → resume P (state-of (through h (at-n n))) v (seek (at-n n .cur .order) (at-n n .cur .turn) (all S) origin) .number ≡ 0
         → Moved h (resume P (state-of (through h (at-n n))) v (seek (at-n n .cur .order) (at-n n .cur .turn) (all S) origin) .state) n
     moved-at n k v said g H m e =
-        let x : Exchanging (at-n n .rest) = live P (at-n n .rest) (at-n n .cur) _ v g (rw (seek-pos (act A B) (all S) (j₀ S) n g) at e) in
+        let x : Exchanging (at-n n .rest) = live-at A B (all S) (j₀ S) P h own other Good sh good n v g e in
         let W = hears-on A B (all S) (j₀ S) P h own other Good sh good n v x g (word-right A B (all S) (j₀ S) P h own other Good sh good n k v said x H m) in
         record { to = W .to; later = W .later; heard = x; stands = record { halts = W .halts; is = ap (λ (a : Answer). a .state) (W .is) } }
 
-    moved : (s : State) (n k v : ℕ) (said : List Spoken) → Stands h s n → Heard A B (all S) (j₀ S) other k said → Among (s .order, s .turn, v) said
+    moved : (s : State) (n k v : ℕ) (said : List Spoken) → Stands h s n → Heard A B (all S) (j₀ S) other k said → Among (placed-word s v) said
         → resume P s v (seek (s .order) (s .turn) (all S) origin) .number ≡ 0 → Moved h (resume P s v (seek (s .order) (s .turn) (all S) origin) .state) n
     moved s n k v said Z H m e = rw (Z .is) (moved-at n k v said (Z .halts) H (rw (Z .is) at m) (rw (Z .is) at e))
 
-  pub moved1 : (D : List ℕ) (s : State) (n k v : ℕ) (said2 : List Spoken) → Stands of1 s n → Heard A B (all S) (j₀ S) (joint2 A B) k said2 → Among (s .order, s .turn, v) said2
+  pub moved1 : (D : List ℕ) (s : State) (n k v : ℕ) (said2 : List Spoken) → Stands of1 s n → Heard A B (all S) (j₀ S) (joint2 A B) k said2 → Among (placed-word s v) said2
       → hear (lent1 S D) s v .number ≡ 0 → Moved of1 (hear (lent1 S D) s v .state) n
   unfolding worker-with found-of
   moved1 D s n k v said2 Z H m e =
@@ -88,7 +79,7 @@ module _ (S : Stage) where
       rw q (moved (worker1 A) of1 (joint1 A B) (joint2 A B) Always (shadow1 A B) tt s n k v said2 Z H m (rw q at e))
 
   pub moved2 : (D : List ℕ) → Supplied A B D (all S) origin (j₀ S) → (s : State) (n k v : ℕ) (said1 : List Spoken) → Stands of2 s n
-      → Heard A B (all S) (j₀ S) (joint1 A B) k said1 → Among (s .order, s .turn, v) said1
+      → Heard A B (all S) (j₀ S) (joint1 A B) k said1 → Among (placed-word s v) said1
       → hear (lent2 S D) s v .number ≡ 0 → Moved of2 (hear (lent2 S D) s v .state) n
   unfolding worker-with found-of
   moved2 D g s n k v said1 Z H m e =
@@ -110,10 +101,10 @@ module _ (S : Stage) where
       → Tied A B (all S) (j₀ S) h say s t said → u ≡ [] → Spent h s u
   spent-first h say s t said u Z e = record { n = Z .n; stands = record { halts = Z .halts; is = Z .is }; before = λ p m. absurd (rw e at m) }
 
-  spent-more : (h : Triple → Pair) (s s′ : State) (u : List Spoken) (v : ℕ) (Z : Spent h s u) → Moved h s′ (Z .n) → Spent h s′ ((s .order, s .turn, v) ∷ u)
+  spent-more : (h : Triple → Pair) (s s′ : State) (u : List Spoken) (v : ℕ) (Z : Spent h s u) → Moved h s′ (Z .n) → Spent h s′ (placed-word s v ∷ u)
   spent-more h s s′ u v Z M = record { n = M .to; stands = M .stands; before = before }
     where
-      before : (p : Spoken) → Among p ((s .order, s .turn, v) ∷ u)
+      before : (p : Spoken) → Among p (placed-word s v ∷ u)
           → (i : ℕ) × (i < M .to) × Exchanging (at-n i .rest) × (at-n i .cur .order ≡ p .0) × (at-n i .cur .turn ≡ p .1)
       before p (inl e) = (
         Z .n,
@@ -125,7 +116,7 @@ module _ (S : Stage) where
       before p (inr m) = let b = Z .before p m in (b .0, omega (arith, b .1, M .later), b .2, b .3, b .4)
 
   -- so the word at its place is not among them
-  pub unheard : (h : Triple → Pair) (s s′ : State) (u : List Spoken) (v : ℕ) (Z : Spent h s u) → Moved h s′ (Z .n) → Among (s .order, s .turn, v) u → ⊥
+  pub unheard : (h : Triple → Pair) (s s′ : State) (u : List Spoken) (v : ℕ) (Z : Spent h s u) → Moved h s′ (Z .n) → Among (placed-word s v) u → ⊥
   unheard h s s′ u v Z M m =
       let b = Z .before _ m in
       once (act A B) (all S) (j₀ S) (b .0) (Z .n) (b .2) (b .1) (b .3 ∙ ap (λ (x : State). x .order) (Z .stands .is)) (b .4 ∙ ap (λ (x : State). x .turn) (Z .stands .is))
@@ -140,8 +131,8 @@ module _ (S : Stage) where
   pub wide : {E : List ℕ} {cs : List Call} {v : World} {h1 h2 : List Spoken} → StrictRun S E cs v h1 h2 → Run S cs v
   wide {cs = cs} r = rw (append-nil cs) at (wide-on (begin (r .begins)) (r .calls))
 
-  pub joined : {E : List ℕ} {v v′ v″ : World} {cs more : List Call} {h1 h2 u1 u2 w1 w2 : List Spoken} → Calls S E v h1 h2 cs v′ u1 u2
-      → Calls S E v′ u1 u2 more v″ w1 w2 → Calls S E v h1 h2 (more ++ cs) v″ w1 w2
+  pub joined : {E : List ℕ} {v v′ v″ : World} {cs more : List Call} {h1 h2 u1 u2 x1 x2 : List Spoken} → Calls S E v h1 h2 cs v′ u1 u2
+      → Calls S E v′ u1 u2 more v″ x1 x2 → Calls S E v h1 h2 (more ++ cs) v″ x1 x2
   joined r none = r
   joined r (completes c k n) = completes (joined r c) k n
   joined r (refuses c f) = refuses (joined r c) f

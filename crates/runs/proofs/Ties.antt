@@ -14,7 +14,7 @@ use Rattle.gates.proofs.Lanes.{seen1, seen2, says1, says2, hears1, hears2}
 use Rattle.calls.specs.Places.{Found, found, seek}
 use Rattle.calls.specs.Lent.{Worker, worker1, worker2}
 use Rattle.calls.specs.Calls.{State, Answer, fresh2, word-at, spoken-at, state-of, report, unless, hear-walk, place-fault, resume}
-use Rattle.runs.specs.Runs.{Spoken, utter, Among}
+use Rattle.runs.specs.Runs.{Spoken, placed-word, Among}
 use Rattle.runs.proofs.Places.{Halted, pos, walk-reaches, seek-pos, same-place}
 
 -- P sees the lanes h of the joint walk, speaks `own` and expects `other`
@@ -215,21 +215,21 @@ module _ (A B : List ℕ) (all : List Step) (j₀ : Triple) where
 
     -- after a call that went well
     pub tie : (k : ℕ) (t tr : List Pair) (said : List Spoken) (a : Answer) → Went k t a tr → Heard own k said → length said ≡ joint k .cur .b
-        → Tied h own (a .state) (t ++ tr) (utter (a .state) (a .word) ∷ said)
+        → Tied h own (a .state) (t ++ tr) (placed-word (a .state) (a .word) ∷ said)
     tie k t tr said a W H c =
         record {
           n = W .to;
           halts = W .halts;
           is = ap (λ (x : Answer). x .state) (W .is);
           trails = W .whole-trail;
-          heard = add-heard k (W .to) said (utter (a .state) (a .word)) (rw (W .is)) (W .halts) (W .quietly) H;
+          heard = add-heard k (W .to) said (placed-word (a .state) (a .word)) (rw (W .is)) (W .halts) (W .quietly) H;
           count = ap suc (c ∙ sym (b-quiet k (W .to) (W .later) (W .quietly)));
         }
 
     none-heard : Heard own 0 []
     none-heard = record { only = λ p x. absurd x; every = λ i l x. omega arith }
 
-    pub tie-start : (r : Pair) → fresh2 r ≡ h j₀ → Tied h own (report P (begun r) .state) (begun r .trail) (utter (report P (begun r) .state) (report P (begun r) .word) ∷ [])
+    pub tie-start : (r : Pair) → fresh2 r ≡ h j₀ → Tied h own (report P (begun r) .state) (begun r .trail) (placed-word (report P (begun r) .state) (report P (begun r) .word) ∷ [])
     unfolding pos
     tie-start r e = tie 0 [] (begun r .trail) [] (report P (begun r)) (starts r e) none-heard refl
 
@@ -242,13 +242,13 @@ module _ (A B : List ℕ) (all : List Step) (j₀ : Triple) where
     live (exchange d y ∷ ss) c s v e = tt
     live (end ∷ ss) c s v e = absurd (omega arith)
 
-    live-at : (n v : ℕ) → Halted (joint n .rest) → heard-by (state-of (through h (joint n))) v .number ≡ 0 → Exchanging (joint n .rest)
+    pub live-at : (n v : ℕ) → Halted (joint n .rest) → heard-by (state-of (through h (joint n))) v .number ≡ 0 → Exchanging (joint n .rest)
     live-at n v k e = live (joint n .rest) (joint n .cur) _ v (rw (seek-pos (act A B) all j₀ n k) at e)
 
     -- a word that the other host has said at this place is the joint walk's
-    pub word-right : (n k w : ℕ) (said : List Spoken) → Exchanging (joint n .rest) → Heard other k said
-        → Among (joint n .cur .order, joint n .cur .turn, w) said → w ≡ words other n
-    word-right n k w said x H m =
+    pub word-right : (n k v : ℕ) (said : List Spoken) → Exchanging (joint n .rest) → Heard other k said
+        → Among (joint n .cur .order, joint n .cur .turn, v) said → v ≡ words other n
+    word-right n k v said x H m =
         let f = H .only _ m in
         let e : joint (f .0) ≡ joint n =
         same-place (act A B) all j₀ (f .0) n (f .1) x (ap (λ (p : Spoken). p .0) (sym (f .2))) (ap (λ (p : Spoken). p .1) (sym (f .2))) in
@@ -258,14 +258,14 @@ module _ (A B : List ℕ) (all : List Step) (j₀ : Triple) where
     unfolding pos
     next-count n said x c = c ∙ sym (b-one (joint n) x)
 
-    pub tie-hear : (s : State) (t : List Pair) (said said′ : List Spoken) (k v : ℕ) → Tied h own s t said → Heard other k said′ → Among (s .order, s .turn, v) said′
-        → heard-by s v .number ≡ 0 → Tied h own (heard-by s v .state) (t ++ heard-trail s v) (utter (heard-by s v .state) (heard-by s v .word) ∷ said)
+    pub tie-hear : (s : State) (t : List Pair) (said said′ : List Spoken) (k v : ℕ) → Tied h own s t said → Heard other k said′ → Among (placed-word s v) said′
+        → heard-by s v .number ≡ 0 → Tied h own (heard-by s v .state) (t ++ heard-trail s v) (placed-word (heard-by s v .state) (heard-by s v .word) ∷ said)
     tie-hear s t said said′ k v Z H m a =
         let a′ : heard-by (state-of (through h (joint (Z .n)))) v .number ≡ 0 = rw (Z .is) at a in
         let x : Exchanging (joint (Z .n) .rest) = live-at (Z .n) v (Z .halts) a′ in
         let m′ : Among (joint (Z .n) .cur .order, joint (Z .n) .cur .turn, v) said′ = rw (Z .is) at m in
         let W = hears-on (Z .n) v x (Z .halts) (word-right (Z .n) k v said′ x H m′) in
-        subst (λ (q : State). Tied h own (heard-by q v .state) (t ++ heard-trail q v) (utter (heard-by q v .state) (heard-by q v .word) ∷ said)) (sym (Z .is))
+        subst (λ (q : State). Tied h own (heard-by q v .state) (t ++ heard-trail q v) (placed-word (heard-by q v .state) (heard-by q v .word) ∷ said)) (sym (Z .is))
         (rw (Z .trails) (tie (suc (Z .n)) (map h (joint (Z .n) .trail)) (heard-trail (state-of (through h (joint (Z .n)))) v) said _ W (Z .heard) (next-count (Z .n) said x (Z .count))))
 
     -- the answer of a call that completes, where the walk then halts, and the number of answers given so far
@@ -283,7 +283,7 @@ module _ (A B : List ℕ) (all : List Step) (j₀ : Triple) where
     unfolding pos
     start-answered r e = answered 0 [] (begun r .trail) 0 (report P (begun r)) (starts r e) refl
 
-    pub hear-answered : (s : State) (t : List Pair) (said said′ : List Spoken) (k v : ℕ) → Tied h own s t said → Heard other k said′ → Among (s .order, s .turn, v) said′
+    pub hear-answered : (s : State) (t : List Pair) (said said′ : List Spoken) (k v : ℕ) → Tied h own s t said → Heard other k said′ → Among (placed-word s v) said′
         → heard-by s v .number ≡ 0 → Answered (heard-by s v) (suc (length said))
     hear-answered s t said said′ k v Z H m a =
         let a′ : heard-by (state-of (through h (joint (Z .n)))) v .number ≡ 0 = rw (Z .is) at a in
@@ -296,9 +296,9 @@ module _ (A B : List ℕ) (all : List Step) (j₀ : Triple) where
     -- a host at a product or refresh, where the other has said its word, can hear it, and comes further
     pub record CanHear (s : State) (t : List Pair) (said said′ : List Spoken) (n : ℕ) : Type 0 where
       pub word : ℕ
-      pub among : Among (s .order, s .turn, word) said′
+      pub among : Among (placed-word s word) said′
       pub completes : heard-by s word .number ≡ 0
-      pub tied : Tied h own (heard-by s word .state) (t ++ heard-trail s word) (utter (heard-by s word .state) (heard-by s word .word) ∷ said)
+      pub tied : Tied h own (heard-by s word .state) (t ++ heard-trail s word) (placed-word (heard-by s word .state) (heard-by s word .word) ∷ said)
       pub further : n < tied .n
 
     can-hear-at : (n : ℕ) (said said′ : List Spoken) (k : ℕ) → Heard own (suc n) said → length said ≡ suc (joint n .cur .b) → Halted (joint n .rest) → Exchanging (joint n .rest)

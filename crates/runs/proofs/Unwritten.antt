@@ -37,13 +37,13 @@ act-misses A B end c j i h = refl
 
 -- ---- a list of steps in which, once k orders have ended, no step writes slot i
 
-abbrev pub Spared : (i k : ℕ) → List Step → Type 0
-Spared i k [] = Unit
-Spared i zero (x ∷ ss) = Misses i x × Spared i zero ss
-Spared i (suc k) (local d m l ∷ ss) = Spared i (suc k) ss
-Spared i (suc k) (deal d f ∷ ss) = Spared i (suc k) ss
-Spared i (suc k) (exchange d e ∷ ss) = Spared i (suc k) ss
-Spared i (suc k) (end ∷ ss) = Spared i k ss
+abbrev pub SparedFrom : (i k : ℕ) → List Step → Type 0
+SparedFrom i k [] = Unit
+SparedFrom i zero (x ∷ ss) = Misses i x × SparedFrom i zero ss
+SparedFrom i (suc k) (local d m l ∷ ss) = SparedFrom i (suc k) ss
+SparedFrom i (suc k) (deal d f ∷ ss) = SparedFrom i (suc k) ss
+SparedFrom i (suc k) (exchange d e ∷ ss) = SparedFrom i (suc k) ss
+SparedFrom i (suc k) (end ∷ ss) = SparedFrom i k ss
 
 -- behind the first step of order 0, and behind a step of an earlier order
 within : (i : ℕ) (ss ss′ : List Step) → Unwritten i 0 ss → ((p : ℕ) → 0 ≤ p → Unwritten i (suc p) ss′ → Unwritten i (suc p) ss)
@@ -56,7 +56,7 @@ before-it : (i k : ℕ) (ss ss′ : List Step) → ((p : ℕ) → Unwritten i (s
 before-it i k ss ss′ g f zero l = absurd (omega arith)
 before-it i k ss ss′ g f (suc p) l = g p (f (suc p) l)
 
-spared-from : (i k : ℕ) (ss : List Step) → ((p : ℕ) → k ≤ p → Unwritten i p ss) → Spared i k ss
+spared-from : (i k : ℕ) (ss : List Step) → ((p : ℕ) → k ≤ p → Unwritten i p ss) → SparedFrom i k ss
 spared-from i k [] f = tt
 spared-from i zero (local d m l ∷ ss) f = (f 0 (omega arith) .0, spared-from i 0 ss (within i ss (local d m l ∷ ss) (f 0 (omega arith) .1) (λ p h u. u) f))
 spared-from i zero (deal d e ∷ ss) f = (f 0 (omega arith) .0, spared-from i 0 ss (within i ss (deal d e ∷ ss) (f 0 (omega arith) .1) (λ p h u. u) f))
@@ -67,7 +67,7 @@ spared-from i (suc k) (deal d e ∷ ss) f = spared-from i (suc k) ss (before-it 
 spared-from i (suc k) (exchange d e ∷ ss) f = spared-from i (suc k) ss (before-it i k ss (exchange d e ∷ ss) (λ p u. u) f)
 spared-from i (suc k) (end ∷ ss) f = spared-from i k ss (λ p l. f (suc p) (omega arith))
 
-pub spared-all : (S : Stage) (q i : ℕ) → UnwrittenFrom S q i → Spared i q (all S)
+pub spared-all : (S : Stage) (q i : ℕ) → UnwrittenFrom S q i → SparedFrom i q (all S)
 spared-all S q i u = spared-from i q (all S) u
 
 -- where every step stands in an order, none comes behind the last

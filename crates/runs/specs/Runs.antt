@@ -72,12 +72,12 @@ staged w S =
 
 -- ---- what the hosts hold
 
--- a word spoken, with its place
+-- a word spoken, with its place; and the word v with the place of a state
 abbrev pub Spoken : Type 0
 Spoken = ℕ × ℕ × ℕ
 
-abbrev pub utter : State → ℕ → Spoken
-utter s w = (s .order, s .turn, w)
+abbrev pub placed-word : State → (v : ℕ) → Spoken
+placed-word s v = (s .order, s .turn, v)
 
 abbrev pub Among : {T : Type 0} → T → List T → Type 0
 Among p [] = ⊥
@@ -181,12 +181,12 @@ module _ (S : Stage) where
   abbrev pub started : Lent → State → Side
   started loan s =
       going (start loan (held s) .state) (start-walk loan (held s) .trail)
-      (utter (start loan (held s) .state) (start loan (held s) .word) ∷ [])
+      (placed-word (start loan (held s) .state) (start loan (held s) .word) ∷ [])
 
   abbrev pub stepped : Lent → State → (v : ℕ) → List Pair → List Spoken → Side
   stepped loan s v t said =
       going (hear loan s v .state) (t ++ hear-walk (worker-of loan) s v (found-of loan s) .trail)
-      (utter (hear loan s v .state) (hear loan s v .word) ∷ said)
+      (placed-word (hear loan s v .state) (hear loan s v .word) ∷ said)
 
   pub data Completes : Call → World → World → Type 0 where
     prepares : {r : Pair} {buf : List ℕ} {one two : Side} → preparation buf r .number ≡ 0
@@ -203,11 +203,11 @@ module _ (S : Stage) where
     -- "the word the other host spoke at that same place"
     hears1 : {z : Dealer} {buf : List ℕ} {s s2 : State} {t t2 : List Pair} {said said2 : List Spoken} (D : List ℕ)
         (v : ℕ)
-        → Among (s .order, s .turn, v) said2 → hear (lent1 D) s v .number ≡ 0
+        → Among (placed-word s v) said2 → hear (lent1 D) s v .number ≡ 0
         → Completes (hearing1 v) (world z buf (going s t said) (going s2 t2 said2))
         (world z buf (stepped (lent1 D) s v t said) (going s2 t2 said2))
     hears2 : {z : Dealer} {buf : List ℕ} {s s1 : State} {t t1 : List Pair} {said said1 : List Spoken} (D : List ℕ)
-        → Dealt buf D → (v : ℕ) → Among (s .order, s .turn, v) said1 → hear (lent2 D) s v .number ≡ 0
+        → Dealt buf D → (v : ℕ) → Among (placed-word s v) said1 → hear (lent2 D) s v .number ≡ 0
         → Completes (hearing2 v) (world z buf (going s1 t1 said1) (going s t said))
         (world z buf (going s1 t1 said1) (stepped (lent2 D) s v t said))
 

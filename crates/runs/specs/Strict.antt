@@ -5,7 +5,7 @@ use mathlib.Core.List.{List, [], _∷_, _++_}
 use Prim.Native.Nat.{ℕ, _<_}
 use Rattle.calls.specs.Scripts.{orders-in}
 use Rattle.runs.specs.Runs.{Stage, Spoken, Among, World, Refuses, Call, turned-down, Completes, prepares, starts1}
-use Rattle.runs.specs.Runs.{starts2, hears1, hears2, Begins, Run, Finished, buffer-of, Accepted}
+use Rattle.runs.specs.Runs.{starts2, hears1, hears2, Begins, Run, Finished, buffer-of, Accepted, placed-word}
 
 module _ (S : Stage) where
   -- A call that completes, of document 01: "every call is lent the same job, table and lists" (the same script and
@@ -15,15 +15,15 @@ module _ (S : Stage) where
   Narrow E h1 h2 (prepares e) = Unit
   Narrow E h1 h2 (starts1 D e) = D ≡ E
   Narrow E h1 h2 (starts2 {buf = buf} D d e) = D ≡ buf
-  Narrow E h1 h2 (hears1 {s = s} D x m e) = (D ≡ E) × (Among (s .order, s .turn, x) h1 → ⊥)
-  Narrow E h1 h2 (hears2 {buf = buf} {s = s} D d x m e) = (D ≡ buf) × (Among (s .order, s .turn, x) h2 → ⊥)
+  Narrow E h1 h2 (hears1 {s = s} D x m e) = (D ≡ E) × (Among (placed-word s x) h1 → ⊥)
+  Narrow E h1 h2 (hears2 {buf = buf} {s = s} D d x m e) = (D ≡ buf) × (Among (placed-word s x) h2 → ⊥)
 
   -- the words that hosts 1 and 2 have heard after the call, each with its place
   abbrev pub heard-by-1 : {c : Call} {v v′ : World} → Completes S c v v′ → List Spoken → List Spoken
   heard-by-1 (prepares e) h = h
   heard-by-1 (starts1 D e) h = h
   heard-by-1 (starts2 D d e) h = h
-  heard-by-1 (hears1 {s = s} D x m e) h = (s .order, s .turn, x) ∷ h
+  heard-by-1 (hears1 {s = s} D x m e) h = placed-word s x ∷ h
   heard-by-1 (hears2 D d x m e) h = h
 
   abbrev pub heard-by-2 : {c : Call} {v v′ : World} → Completes S c v v′ → List Spoken → List Spoken
@@ -31,7 +31,7 @@ module _ (S : Stage) where
   heard-by-2 (starts1 D e) h = h
   heard-by-2 (starts2 D d e) h = h
   heard-by-2 (hears1 D x m e) h = h
-  heard-by-2 (hears2 {s = s} D d x m e) h = (s .order, s .turn, x) ∷ h
+  heard-by-2 (hears2 {s = s} D d x m e) h = placed-word s x ∷ h
 
   -- calls, the last in front, that take the world v, where hosts 1 and 2 have heard h1 and h2, to the world v′
   pub data Calls (E : List ℕ) (v : World) (h1 h2 : List Spoken) : List Call → World → (heard1 heard2 : List Spoken)
