@@ -1,5 +1,5 @@
--- A stage whose steps are those of lists of gates: its trail is what they leave, one after another, and where one of them is an order's program, its target
--- opens the value that document 01 defines. Assumes nothing.
+-- A stage whose steps are those of lists of gates: its trail is what they leave, one after another, and where one of them is an order's
+-- program, its target opens the value that document 01 defines. Assumes nothing.
 use mathlib.Core.Path.{_≡_, refl, sym, ap, ap₂, _∙_}
 use mathlib.Core.Bool.{Bool, true}
 use mathlib.Core.List.{List, [], _∷_, _++_, map}
@@ -31,7 +31,8 @@ use Rattle.calls.specs.Scripts.{Orderly}
 use Rattle.calls.specs.Calls.{fresh}
 use Rattle.runs.proofs.Lists.{length-map}
 use Rattle.runs.specs.Runs.{Stage}
-use Rattle.runs.specs.Orders.{Words, first, trail, after-order, before-order, first-counts, mask-behind, value-before, value-after, mask-before}
+use Rattle.runs.specs.Orders.{Words, first, trail, after-order, before-order, first-counts, mask-behind, value-before, value-after}
+use Rattle.runs.specs.Orders.{mask-before}
 use Rattle.runs.proofs.Kept.{j₀-lengths}
 use Rattle.runs.proofs.Chain.{ended, points, job-trail, point-before, point-after, point-next}
 
@@ -76,17 +77,21 @@ module _ (w : ℕ) (S : Stage) (tidy : Orderly (S .script)) (words : Words w S) 
   afters-used [] G = omega arith
   afters-used (g ∷ gs) G =
       let p : Further (G .c) (step-cost (meaning w g)) (past (meaning w g) (G .c)) = past-used (meaning w g) (G .c) in
-      let q : Further (past (meaning w g) (G .c)) (cost (order-steps w gs [])) (run gs (after w (S .A) (S .B) (words .A) (words .B) g G) .c) = afters-used gs (after w (S .A) (S .B) (words .A) (words .B) g G) in
+      let q : Further (past (meaning w g) (G .c)) (cost (order-steps w gs []))
+      (run gs (after w (S .A) (S .B) (words .A) (words .B) g G) .c) = afters-used gs (after w (S .A) (S .B) (words .A) (words .B) g G) in
       record { a = omega arith; b = omega arith; deals = omega arith }
 
-  before-used : (os : List (List Gate)) (G : Pt) (q : ℕ) → Further (G .c) (first-counts w q os) (point-before w (S .A) (S .B) (words .A) (words .B) os G q .c)
+  before-used : (os : List (List Gate)) (G : Pt) (q : ℕ)
+      → Further (G .c) (first-counts w q os) (point-before w (S .A) (S .B) (words .A) (words .B) os G q .c)
   unfolding first-counts point-before past plus
   before-used [] G zero = omega arith
   before-used [] G (suc q) = omega arith
   before-used (o ∷ os) G zero = omega arith
   before-used (o ∷ os) G (suc q) =
       let p : Further (G .c) (program-cost w o) (run o G .c) = afters-used o G in
-      let r : Further (past end (run o G .c)) (first-counts w q os) (point-before w (S .A) (S .B) (words .A) (words .B) os (ended w (S .A) (S .B) (words .A) (words .B) (run o G)) q .c) = before-used os (ended w (S .A) (S .B) (words .A) (words .B) (run o G)) q in
+      let r : Further (past end (run o G .c)) (first-counts w q os)
+      (point-before w (S .A) (S .B) (words .A) (words .B) os (ended w (S .A) (S .B) (words .A) (words .B) (run o G)) q .c) =
+      before-used os (ended w (S .A) (S .B) (words .A) (words .B) (run o G)) q in
       record { a = omega arith; b = omega arith; deals = omega arith }
 
   points-length : (os : List (List Gate)) (G : Pt) → length (points w (S .A) (S .B) (words .A) (words .B) os G) ≡ length os
@@ -101,7 +106,8 @@ module _ (w : ℕ) (S : Stage) (tidy : Orderly (S .script)) (words : Words w S) 
     trail-is : trail S ≡ map (λ (p : Pt). p .j) (points w (S .A) (S .B) (words .A) (words .B) gates G₀)
     unfolding trail
     trail-is =
-        ap (λ (ss : List Step). whole (act (S .A) (S .B)) ss origin (first S) [] .trail) made ∙ job-trail w (S .A) (S .B) (words .A) (words .B) gates G₀ []
+        ap (λ (ss : List Step). whole (act (S .A) (S .B)) ss origin (first S) [] .trail) made
+        ∙ job-trail w (S .A) (S .B) (words .A) (words .B) gates G₀ []
 
     -- as many entries as lists of gates
     pub trail-gates : length (trail S) ≡ length gates
@@ -110,7 +116,8 @@ module _ (w : ℕ) (S : Stage) (tidy : Orderly (S .script)) (words : Words w S) 
     pub after-is : (q : ℕ) → q < length gates → after-order S q ≡ run (getD gates q []) (before q) .j
     unfolding after-order
     after-is q h =
-        ap (λ (t : List Triple). getD t q (first S)) trail-is ∙ List·getD-map (λ (p : Pt). p .j) (points w (S .A) (S .B) (words .A) (words .B) gates G₀) q G₀
+        ap (λ (t : List Triple). getD t q (first S)) trail-is
+        ∙ List·getD-map (λ (p : Pt). p .j) (points w (S .A) (S .B) (words .A) (words .B) gates G₀) q G₀
         ∙ ap (λ (p : Pt). p .j) (point-after w (S .A) (S .B) (words .A) (words .B) gates G₀ G₀ q h)
 
     pub before-is : (q : ℕ) → q < length gates → before-order S q ≡ before q .j
@@ -132,7 +139,8 @@ module _ (w : ℕ) (S : Stage) (tidy : Orderly (S .script)) (words : Words w S) 
       low : 2 ≤ w
       low = omega (arith, wide)
 
-      sound : Sound w (S .A) (S .B) (words .A) (words .B) low ps (o .target) (o .source) (o .fourth) (good .target) (good .source) (before q) (o .kind)
+      sound : Sound w (S .A) (S .B) (words .A) (words .B) low ps (o .target) (o .source) (o .fourth) (good .target) (good .source)
+          (before q) (o .kind)
       sound =
           record {
             shift = λ e. let h = exact-shift w ruled o good e in (h .0, omega (arith, h .1));
@@ -158,6 +166,8 @@ module _ (w : ℕ) (S : Stage) (tidy : Orderly (S .script)) (words : Words w S) 
       unfolding order-value program num l1-of l2-of curve-mask
       program-leaves =
           ap (λ (t : Triple). value (numbers w) (share t (o .target))) left-is
-          ∙ kind-opens w (S .A) (S .B) (words .A) (words .B) low ps (o .target) (o .source) (o .fourth) (good .target) (good .source) (before q) (o .kind) (good .kind) sound
-          ∙ ap₂ (λ (t : Triple) (R : ℕ). order-value w ps o (value (numbers w) (share t (o .source))) (value (numbers w) (share t (o .fourth))) (mask (numbers w) (share t (o .source))) R)
+          ∙ kind-opens w (S .A) (S .B) (words .A) (words .B) low ps (o .target) (o .source) (o .fourth) (good .target) (good .source)
+          (before q) (o .kind) (good .kind) sound
+          ∙ ap₂ (λ (t : Triple) (R : ℕ). order-value w ps o (value (numbers w) (share t (o .source)))
+          (value (numbers w) (share t (o .fourth))) (mask (numbers w) (share t (o .source))) R)
           (sym (before-is q hq)) mask-is

@@ -15,7 +15,10 @@ use Rattle.jobs.specs.Job.{Fault}
 use Rattle.calls.specs.Scripts.{script-cost}
 use Rattle.calls.specs.Lent.{worker1, worker2, dealer-fault, worker-with}
 use Rattle.calls.specs.Calls.{State, fresh, fresh2, start-walk, start, found-of, hear, script-deals, prepare-walk, prepared, prepare}
-use Rattle.runs.specs.Runs.{Stage, Spoken, Among, Dealer, idle, ready, dealer-holds, Side, waiting, going, side-state, World, world, registers, Refuses, refuses0, refuses0-elsewhere, refuses1, refuses2, Call, lent1, lent2, Dealt, preparation, started, stepped, Completes, prepares, starts1, starts2, hears1, hears2, given-out, Run, begin, complete, refuse, placed-word}
+use Rattle.runs.specs.Runs.{Stage, Spoken, Among, Dealer, idle, ready, dealer-holds, Side, waiting, going, side-state, World, world}
+use Rattle.runs.specs.Runs.{registers, Refuses, refuses0, refuses0-elsewhere, refuses1, refuses2, Call, lent1, lent2, Dealt}
+use Rattle.runs.specs.Runs.{preparation, started, stepped, Completes, prepares, starts1, starts2, hears1, hears2, given-out, Run}
+use Rattle.runs.specs.Runs.{begin, complete, refuse, placed-word}
 use Rattle.runs.proofs.Places.{pos}
 use Rattle.runs.proofs.Ties.{shadow1, shadow2, joint, Heard, Tied, tie-start, tie-hear}
 use Rattle.runs.proofs.Refusals.{start-none, hear-none, prepare-back, masks-back, HasSlots, turned-back}
@@ -35,7 +38,8 @@ starts-front (d ∷ ds) post = (refl, starts-shift d 0 (ds ++ post) ds (starts-f
 starts-alike : (ds post D : List ℕ) → take (length ds) D ≡ take (length ds) (ds ++ post) → Starts D 0 ds
 starts-alike ds post D e =
     let f : take (length ds) D ≡ ds = e ∙ take-append-le (length ds) ds post (omega arith) ∙ take-all (length ds) ds (omega arith) in
-    subst (λ (l : List ℕ). Starts l 0 ds) (ap (λ (x : List ℕ). x ++ drop (length ds) D) (sym f) ∙ take-append-drop (length ds) D) (starts-front ds (drop (length ds) D))
+    subst (λ (l : List ℕ). Starts l 0 ds) (ap (λ (x : List ℕ). x ++ drop (length ds) D) (sym f) ∙ take-append-drop (length ds) D)
+    (starts-front ds (drop (length ds) D))
 
 -- ---- the lanes keep their lengths
 
@@ -89,7 +93,8 @@ module _ (S : Stage) where
   fresh-length l h = length-append l (replicate 8 0) ∙ omega (arith, h)
 
   pub j₀-lengths : Lengths (n + 8) j₀
-  j₀-lengths = record { m = fresh-length (S .rm) (S .rm-full); l1 = fresh-length (S .r1) (S .r1-full); l2 = fresh-length (S .r2) (S .r2-full) }
+  j₀-lengths =
+      record { m = fresh-length (S .rm) (S .rm-full); l1 = fresh-length (S .r1) (S .r1-full); l2 = fresh-length (S .r2) (S .r2-full) }
 
   -- ---- what is true of each host
 
@@ -124,10 +129,12 @@ module _ (S : Stage) where
 
   -- such a buffer has room for every deal
   pub deals-fit : (buf post : List ℕ) → buf ≡ deals A B all origin (of0 j₀) ++ post → script-cost (S .script) .deals ≤ length buf
-  deals-fit buf post e = omega (arith, ap length e, length-append (deals A B all origin (of0 j₀)) post, deals-length A B all origin (of0 j₀))
+  deals-fit buf post e =
+      omega (arith, ap length e, length-append (deals A B all origin (of0 j₀)) post, deals-length A B all origin (of0 j₀))
 
   pub prepared-none : (k : ℕ) (f : Fault) (buf : List ℕ) (r : Pair) → f .0 ≡ k → prepared k f (S .script) A B buf r .number ≡ 0
-      → (prepared k f (S .script) A B buf r .masks ≡ (take n (prepare-walk (S .script) A B r .state .0), take n (prepare-walk (S .script) A B r .state .1)))
+      → (prepared k f (S .script) A B buf r .masks
+      ≡ (take n (prepare-walk (S .script) A B r .state .0), take n (prepare-walk (S .script) A B r .state .1)))
       × (prepared k f (S .script) A B buf r .buffer
       ≡ script-deals (S .script) A B r ++ drop (length (script-deals (S .script) A B r)) buf)
       × (prepared k f (S .script) A B buf r .deals ≡ length (script-deals (S .script) A B r))
@@ -142,38 +149,48 @@ module _ (S : Stage) where
       let f = dealer-fault (S .script) A B buf in
       let q = prepared-none (f .0) f buf r refl e in
       let v : whole (act0 A B) all origin (fresh2 r) [] ≡ through of0 last =
-      ap {B = Conf Pair} (λ (p : Pair). whole (act0 A B) all origin (fresh2 p) []) h ∙ see-whole (act A B) (act0 A B) of0 Always (seen0 A B) all origin j₀ [] tt in
+      ap {B = Conf Pair} (λ (p : Pair). whole (act0 A B) all origin (fresh2 p) []) h
+      ∙ see-whole (act A B) (act0 A B) of0 Always (seen0 A B) all origin j₀ [] tt in
       dealt-all (drop (length (deals A B all origin (fresh2 r))) buf)
       (q .1 ∙ ap (λ (p : Pair). deals A B all origin (fresh2 p) ++ drop (length (deals A B all origin (fresh2 r))) buf) h)
       (q .0 ∙ ap {B = Pair} (λ (c : Conf Pair). (take n (c .state .0), take n (c .state .1))) v)
       (ap (λ (c : Conf Pair). c .trail) v)
 
-  start1-ok : (D : List ℕ) (s : State) → registers n s ≡ (S .rm, S .r1) → start (lent1 S D) (registers n s) .number ≡ 0 → OneOk (started S (lent1 S D) s)
+  start1-ok : (D : List ℕ) (s : State) → registers n s ≡ (S .rm, S .r1) → start (lent1 S D) (registers n s) .number ≡ 0
+      → OneOk (started S (lent1 S D) s)
   unfolding worker-with start-walk
   start1-ok D s h e =
       rw (start-none (lent1 S D) (registers n s) e .1)
-      (go1 (tie-start A B all j₀ (worker1 A) of1 (joint1 A B) (joint2 A B) Always (shadow1 A B) tt (registers n s) (ap {B = Pair} (λ (p : Pair). fresh2 p) h)))
+      (go1 (tie-start A B all j₀ (worker1 A) of1 (joint1 A B) (joint2 A B) Always (shadow1 A B) tt (registers n s)
+      (ap {B = Pair} (λ (p : Pair). fresh2 p) h)))
 
-  start2-ok : (D : List ℕ) (s : State) → Supplied A B D all origin j₀ → registers n s ≡ (S .rm, S .r2) → start (lent2 S D) (registers n s) .number ≡ 0
+  start2-ok : (D : List ℕ) (s : State) → Supplied A B D all origin j₀ → registers n s ≡ (S .rm, S .r2)
+      → start (lent2 S D) (registers n s) .number ≡ 0
       → TwoOk (started S (lent2 S D) s)
   unfolding worker-with start-walk
   start2-ok D s g h e =
       rw (start-none (lent2 S D) (registers n s) e .1)
-      (go2 (tie-start A B all j₀ (worker2 B D) of2 (joint2 A B) (joint1 A B) (Supplied A B D) (shadow2 A B D) g (registers n s) (ap {B = Pair} (λ (p : Pair). fresh2 p) h)))
+      (go2 (tie-start A B all j₀ (worker2 B D) of2 (joint2 A B) (joint1 A B) (Supplied A B D) (shadow2 A B D) g (registers n s)
+      (ap {B = Pair} (λ (p : Pair). fresh2 p) h)))
 
-  hear1-ok : (D : List ℕ) (s : State) (t : List Pair) (said said2 : List Spoken) (k v : ℕ) → Tied A B all j₀ of1 (joint1 A B) s t said → Heard A B all j₀ (joint2 A B) k said2
+  hear1-ok : (D : List ℕ) (s : State) (t : List Pair) (said said2 : List Spoken) (k v : ℕ) → Tied A B all j₀ of1 (joint1 A B) s t said
+      → Heard A B all j₀ (joint2 A B) k said2
       → Among (placed-word s v) said2 → hear (lent1 S D) s v .number ≡ 0 → OneOk (stepped S (lent1 S D) s v t said)
   unfolding worker-with found-of
   hear1-ok D s t said said2 k v Z H m e =
       let q = hear-none (lent1 S D) s v e .1 in
-      rw q (go1 (tie-hear A B all j₀ (worker1 A) of1 (joint1 A B) (joint2 A B) Always (shadow1 A B) tt s t said said2 k v Z H m (rw q at e)))
+      rw q (go1 (tie-hear A B all j₀ (worker1 A) of1 (joint1 A B) (joint2 A B) Always (shadow1 A B) tt s t said said2 k v Z H m
+      (rw q at e)))
 
-  hear2-ok : (D : List ℕ) (s : State) (t : List Pair) (said said1 : List Spoken) (k v : ℕ) → Supplied A B D all origin j₀ → Tied A B all j₀ of2 (joint2 A B) s t said
-      → Heard A B all j₀ (joint1 A B) k said1 → Among (placed-word s v) said1 → hear (lent2 S D) s v .number ≡ 0 → TwoOk (stepped S (lent2 S D) s v t said)
+  hear2-ok : (D : List ℕ) (s : State) (t : List Pair) (said said1 : List Spoken) (k v : ℕ) → Supplied A B D all origin j₀
+      → Tied A B all j₀ of2 (joint2 A B) s t said
+      → Heard A B all j₀ (joint1 A B) k said1 → Among (placed-word s v) said1 → hear (lent2 S D) s v .number ≡ 0
+      → TwoOk (stepped S (lent2 S D) s v t said)
   unfolding worker-with found-of
   hear2-ok D s t said said1 k v g Z H m e =
       let q = hear-none (lent2 S D) s v e .1 in
-      rw q (go2 (tie-hear A B all j₀ (worker2 B D) of2 (joint2 A B) (joint1 A B) (Supplied A B D) (shadow2 A B D) g s t said said1 k v Z H m (rw q at e)))
+      rw q (go2 (tie-hear A B all j₀ (worker2 B D) of2 (joint2 A B) (joint1 A B) (Supplied A B D) (shadow2 A B D) g s t said said1 k v Z H m
+      (rw q at e)))
 
   completes-ok : {c : Call} {v v′ : World} → Completes S c v v′ → Ok v → Ok v′
   completes-ok (prepares {r = r} {buf = buf} e) (ok (not-yet h) one two a) = ok (prepares-ok r buf h e) one two tt
@@ -194,7 +211,8 @@ module _ (S : Stage) where
       record { m = omega (arith, length-take n (s .m)); mask = omega (arith, length-take n (s .mask)) }
 
   holds-tied : (h : Triple → Pair) (say : Exchange → Cursor → Triple → ℕ) (s : State) (t : List Pair) (said : List Spoken)
-      → ((j : Triple) → Lengths (n + 8) j → (length (h j .0) ≡ n + 8) × (length (h j .1) ≡ n + 8)) → Tied A B all j₀ h say s t said → HasSlots n s
+      → ((j : Triple) → Lengths (n + 8) j → (length (h j .0) ≡ n + 8) × (length (h j .1) ≡ n + 8)) → Tied A B all j₀ h say s t said
+      → HasSlots n s
   holds-tied h say s t said f Z =
       let g = f (joint A B all j₀ (Z .n) .state) (pos-lengths A B all j₀ (n + 8) (Z .n) j₀-lengths) in
       rw (Z .is) (record { m = omega (arith, g .0); mask = omega (arith, g .1) })

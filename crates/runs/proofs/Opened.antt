@@ -1,5 +1,5 @@
--- What every order of an accepted job leaves on the joint walk: its target opens the value that document 01 defines, other registers keep their shares.
--- Assumes nothing.
+-- What every order of an accepted job leaves on the joint walk: its target opens the value that document 01 defines, other registers keep
+-- their shares. Assumes nothing.
 use mathlib.Core.Path.{_≡_, sym, _∙_, subst}
 use mathlib.Core.Bool.{true, false}
 use mathlib.Core.List.{List, []}
@@ -19,7 +19,8 @@ use Rattle.jobs.proofs.Accepted.{Good, accepted-orders}
 use Rattle.calls.proofs.Scripts.{job-made}
 use Rattle.runs.proofs.Lists.{getD-map}
 use Rattle.runs.specs.Runs.{Setting, staged}
-use Rattle.runs.specs.Orders.{Words, trail, order-of, used-before, refresh-mask, share-before, share-after, value-after, source-value, second-value, source-mask, Unwritten}
+use Rattle.runs.specs.Orders.{Words, trail, order-of, used-before, refresh-mask, share-before, share-after, value-after, source-value}
+use Rattle.runs.specs.Orders.{second-value, source-mask, Unwritten}
 use Rattle.runs.proofs.Chain.{job-orderly, gates-length, job-orders}
 use Rattle.runs.proofs.Gated.{trail-gates, program-leaves}
 use Rattle.runs.proofs.Spared.{slot-kept}
@@ -77,5 +78,6 @@ module _ (w : ℕ) (S : Setting) where
       ≡ order-value w (rows (S .table)) (order-of S q) (source-value w S q) (second-value w S q) (source-mask w S q) (refresh-mask w S q)
   unfolding refresh-mask used-before
   order-leaves words wide accepted q hq =
-      program-leaves w (staged w S) (job-orderly w (S .job) (S .table)) words gates made wide q (in-gates q hq) (rows (S .table)) (order-of S q)
+      program-leaves w (staged w S) (job-orderly w (S .job) (S .table)) words gates made wide q (in-gates q hq) (rows (S .table))
+      (order-of S q)
       (gates-is q hq) (keeps-rules (S .table)) (order-good accepted q hq) some-row

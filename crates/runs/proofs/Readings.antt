@@ -20,7 +20,8 @@ use Rattle.runs.specs.Runs.{Stage, Setting, staged, World, Call, Run, tr
 use Rattle.runs.specs.Orders.{first, trail, after-order, before-order, order-of}
 use Rattle.runs.specs.Orders.{reading, opens, Finishes, share-before, mask-before}
 use Rattle.runs.specs.Returned.{opened-given}
-use Rattle.runs.specs.Readings.{reading-of, mask-after, mask-given, UnwrittenBetween, UntargetedBetween, Origin, of-order, of-given, Readings}
+use Rattle.runs.specs.Readings.{reading-of, mask-after, mask-given, UnwrittenBetween, UntargetedBetween, Origin, of-order, of-given}
+use Rattle.runs.specs.Readings.{Readings}
 use Rattle.runs.proofs.Lists.{getD-map}
 use Rattle.runs.proofs.Places.{ends-pos}
 use Rattle.runs.proofs.Ties.{joint}
@@ -101,7 +102,8 @@ unwritten w S p q i hi u n a b = untargeted w S n i hi (λ h. u n a b)
 
 module _ (w : ℕ) (S : Setting) (q : ℕ) (v : World) (F : Finishes w (staged w S) q v) where
   -- register i, that order p wrote
-  written-by : (p i : ℕ) → p < q → i < 16 → order-of S p .target ≡ i → UntargetedBetween S (suc p) q i → opens w S v p ≡ (0, reading-of w (staged w S) q i)
+  written-by : (p i : ℕ) → p < q → i < 16 → order-of S p .target ≡ i → UntargetedBetween S (suc p) q i
+      → opens w S v p ≡ (0, reading-of w (staged w S) q i)
   written-by p i l hi e u = ap (opened-after w v p) e ∙ written (staged w S) w q v F p i l (unwritten w S (suc p) q i hi u)
 
   given-to : (i : ℕ) → i < 16 → UntargetedBetween S 0 q i → opened-given w (staged w S) i ≡ (0, reading-of w (staged w S) q i)
@@ -121,7 +123,8 @@ module _ (w : ℕ) (S : Setting) (q : ℕ) (v : World) (F : Finishes w (staged w
   source-low : order-of S q .source < 16
   source-low = good-order w S q v F .source
 
-  source-written : (p : ℕ) → p < q → order-of S p .target ≡ order-of S q .source → UntargetedBetween S (suc p) q (order-of S q .source) → opens w S v p ≡ (0, reading w S q)
+  source-written : (p : ℕ) → p < q → order-of S p .target ≡ order-of S q .source → UntargetedBetween S (suc p) q (order-of S q .source)
+      → opens w S v p ≡ (0, reading w S q)
   unfolding reading reading-of
   source-written p l e u = written-by p (order-of S q .source) l source-low e u
 
@@ -141,7 +144,8 @@ readings w =
       mask-written = λ S q v F. mask-written S w q v F;
       mask-kept = λ S q v F. mask-kept S w q v F;
       untargeted = unwritten w;
-      register-written = λ S q v F p l u. written-by w S q v F p (order-of S p .target) l (good-order w S p v (finishes w S q v F p l) .target) refl u;
+      register-written = λ S q v F p l u. written-by w S q v F p (order-of S p .target) l
+          (good-order w S p v (finishes w S q v F p l) .target) refl u;
       register-given = λ S q v F i hi u. given-to w S q v F i hi u;
       every-register = λ S q v F i hi. every w S q v F i hi;
       source-written = λ S q v F p l e u. source-written w S q v F p l e u;

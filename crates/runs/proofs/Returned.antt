@@ -14,16 +14,18 @@ use Rattle.words.specs.Words.{numbers}
 use Rattle.words.specs.Signed.{signed}
 use Rattle.shares.specs.Gates.{Share, value}
 use Rattle.shares.proofs.RoundTrip.{share-opens}
-use Rattle.gates.specs.Steps.{Lane, at, Step, local, deal, exchange, end, Cursor, origin, past}
+use Rattle.gates.specs.Steps.{Lane, at, Step, local, deal, exchange, end, Cursor, origin, past, Exchange}
 use Rattle.gates.specs.Walk.{Conf, conf, whole, next}
 use Rattle.gates.specs.Hosts.{Pair, Triple, of1, of2, act, joint1, joint2, share}
 use Rattle.jobs.specs.Job.{orders}
 use Rattle.calls.specs.Scripts.{orders-in, Closed}
 use Rattle.calls.specs.Calls.{State, fresh}
-use Rattle.runs.specs.Runs.{Stage, Setting, staged, Spoken, Dealer, dealer-holds, Side, World, Call, Run, registers, order1, order2, Finished, opened-slot, opened-after}
+use Rattle.runs.specs.Runs.{Stage, Setting, staged, Spoken, Dealer, dealer-holds, Side, World, Call, Run, registers, order1, order2}
+use Rattle.runs.specs.Runs.{Finished, opened-slot, opened-after}
 use Rattle.runs.specs.Orders.{Words, trail, after-order, Unwritten, order-of}
 use Rattle.runs.specs.Orders.{Finishes, share-after, value-after}
-use Rattle.runs.specs.Returned.{side-holds, opened-now, opened-given, UnwrittenFrom, Holds, by-order, by-given, UntargetedFrom, JobHolds, of-order, of-given, Returned}
+use Rattle.runs.specs.Returned.{side-holds, opened-now, opened-given, UnwrittenFrom, Holds, by-order, by-given, UntargetedFrom}
+use Rattle.runs.specs.Returned.{JobHolds, of-order, of-given, Returned}
 use Rattle.runs.proofs.Places.{pos, trail-pos, trail-length, whole-pos}
 use Rattle.runs.proofs.Ties.{joint, Tied}
 use Rattle.runs.proofs.Kept.{all, j₀, last, DealerOk, not-yet, dealt-all, OneOk, wait1, go1, TwoOk, wait2, go2, Ok, ok, kept}
@@ -37,13 +39,16 @@ use Rattle.runs.proofs.Unwritten.{act-misses, SparedFrom, spared-all, c
 module _ (A B : List ℕ) (all : List Step) (j₀ : Triple) where
   -- before the end of order q, or past it with slot i as order q left it
   data Standing (q i : ℕ) : List Step → Cursor → Triple → List Triple → Type 0 where
-    ahead : {ss : List Step} {c : Cursor} {j : Triple} {t : List Triple} (k : ℕ) → suc k + c .order ≡ suc q → SparedFrom i (suc k) ss → length t ≡ c .order → Standing q i ss c j t
-    behind : {ss : List Step} {c : Cursor} {j : Triple} {t : List Triple} → q < c .order → SparedFrom i 0 ss → share j i ≡ share (getD t q j₀) i → q < length t → Standing q i ss c j t
+    ahead : {ss : List Step} {c : Cursor} {j : Triple} {t : List Triple} (k : ℕ) → suc k + c .order ≡ suc q → SparedFrom i (suc k) ss
+        → length t ≡ c .order → Standing q i ss c j t
+    behind : {ss : List Step} {c : Cursor} {j : Triple} {t : List Triple} → q < c .order → SparedFrom i 0 ss
+        → share j i ≡ share (getD t q j₀) i → q < length t → Standing q i ss c j t
 
   abbrev StandingAt : (q i : ℕ) → Conf Triple → Type 0
   StandingAt q i p = Standing q i (p .rest) (p .cur) (p .state) (p .trail)
 
-  standing-next : (q i : ℕ) (ss : List Step) (c : Cursor) (j : Triple) (t : List Triple) → Standing q i ss c j t → StandingAt q i (next (act A B) (conf ss c j t))
+  standing-next : (q i : ℕ) (ss : List Step) (c : Cursor) (j : Triple) (t : List Triple) → Standing q i ss c j t
+      → StandingAt q i (next (act A B) (conf ss c j t))
   unfolding past act
   standing-next q i [] c j t s = s
   standing-next q i (local d m l ∷ ss) c j t (ahead k e h n) = ahead k e h n
@@ -78,11 +83,13 @@ module _ (A B : List ℕ) (all : List Step) (j₀ : Triple) where
   unfolding pos
   past-is q i n h l = go (standing q i h n)
     where
-      go : StandingAt q i (joint A B all j₀ n) → share (joint A B all j₀ n .state) i ≡ share (getD (whole (act A B) all origin j₀ [] .trail) q j₀) i
+      go : StandingAt q i (joint A B all j₀ n)
+          → share (joint A B all j₀ n .state) i ≡ share (getD (whole (act A B) all origin j₀ [] .trail) q j₀) i
       go (ahead k e s t) = absurd (omega arith)
       go (behind p s e t) =
           let r = trail-pos (act A B) all j₀ n in
-          e ∙ ap (λ (x : Triple). share x i) (sym (ap (λ (u : List Triple). getD u q j₀) (r .1) ∙ List·getD-append (joint A B all j₀ n .trail) (r .0) j₀ q t))
+          e ∙ ap (λ (x : Triple). share x i)
+          (sym (ap (λ (u : List Triple). getD u q j₀) (r .1) ∙ List·getD-append (joint A B all j₀ n .trail) (r .0) j₀ q t))
 
   -- where no step writes it, slot i is as at the start
   never-next : (i : ℕ) (ss : List Step) (c : Cursor) (j : Triple) (t : List Triple) → SparedFrom i 0 ss
@@ -90,7 +97,8 @@ module _ (A B : List ℕ) (all : List Step) (j₀ : Triple) where
   never-next i [] c j t h = (tt, refl)
   never-next i (x ∷ ss) c j t h = (h .1, act-misses A B x c j i (h .0))
 
-  never : (i : ℕ) → SparedFrom i 0 all → (n : ℕ) → SparedFrom i 0 (joint A B all j₀ n .rest) × (share (joint A B all j₀ n .state) i ≡ share j₀ i)
+  never : (i : ℕ) → SparedFrom i 0 all → (n : ℕ)
+      → SparedFrom i 0 (joint A B all j₀ n .rest) × (share (joint A B all j₀ n .state) i ≡ share j₀ i)
   unfolding pos
   never i h zero = (h, refl)
   never i h (suc n) =
@@ -107,7 +115,8 @@ module _ (A B : List ℕ) (all : List Step) (j₀ : Triple) where
   pub rest-length : (n : ℕ) → length (joint A B all j₀ n .rest) ≡ length all - n
   unfolding pos
   rest-length zero = omega arith
-  rest-length (suc n) = let p : Conf Triple = joint A B all j₀ n in omega (arith, shorter (p .rest) (p .cur) (p .state) (p .trail), rest-length n)
+  rest-length (suc n) =
+      let p : Conf Triple = joint A B all j₀ n in omega (arith, shorter (p .rest) (p .cur) (p .state) (p .trail), rest-length n)
 
   whole-here : (ss : List Step) (c : Cursor) (j : Triple) (t : List Triple) → length ss ≡ 0 → whole (act A B) ss c j t ≡ conf ss c j t
   unfolding whole
@@ -118,11 +127,13 @@ module _ (A B : List ℕ) (all : List Step) (j₀ : Triple) where
   unfolding pos
   last-is =
       let p : Conf Triple = joint A B all j₀ (length all) in
-      whole-pos (act A B) all j₀ (length all) ∙ whole-here (p .rest) (p .cur) (p .state) (p .trail) (omega (arith, rest-length (length all)))
+      whole-pos (act A B) all j₀ (length all)
+      ∙ whole-here (p .rest) (p .cur) (p .state) (p .trail) (omega (arith, rest-length (length all)))
 
 -- ---- the three hosts' words of slot i, where they are those of one share
 
-same-share : (w : ℕ) (p0 p1 p2 : Pair) (i : ℕ) (x : Share ℕ) → at (p0 .0) i ≡ x .l1 → at (p0 .1) i ≡ x .l2 → at (p1 .0) i ≡ x .m → at (p1 .1) i ≡ x .l1
+same-share : (w : ℕ) (p0 p1 p2 : Pair) (i : ℕ) (x : Share ℕ) → at (p0 .0) i ≡ x .l1 → at (p0 .1) i ≡ x .l2 → at (p1 .0) i ≡ x .m
+    → at (p1 .1) i ≡ x .l1
     → at (p2 .0) i ≡ x .m → at (p2 .1) i ≡ x .l2 → opened-slot w p0 p1 p2 i ≡ (0, signed w (value (numbers w) x))
 same-share w p0 p1 p2 i x a b c d e f = rw (a, b, c, d, e, f) (share-opens w x)
 
@@ -130,20 +141,38 @@ module _ (w : ℕ) (S : Stage) (i : ℕ) (hi : i < S .script .slots) where
   front : (l : Lane) → at (take (S .script .slots) l) i ≡ at l i
   front l = getD-take (S .script .slots) l i 0 hi
 
+  -- what host 1 or 2 holds in slot i is its part of the joint walk's position that it stands at
+  module _ (h : Triple → Pair) (say : Exchange → Cursor → Triple → ℕ) (s : State) (t : List Pair) (said : List Spoken)
+      (Z : Tied (S .A) (S .B) (all S) (j₀ S) h say s t said) where
+    m-has : at (take (S .script .slots) (s .m)) i ≡ at (h (joint (S .A) (S .B) (all S) (j₀ S) (Z .n) .state) .0) i
+    m-has = front (s .m) ∙ ap (λ (s : State). at (s .m) i) (Z .is)
+
+    mask-has : at (take (S .script .slots) (s .mask)) i ≡ at (h (joint (S .A) (S .B) (all S) (j₀ S) (Z .n) .state) .1) i
+    mask-has = front (s .mask) ∙ ap (λ (s : State). at (s .mask) i) (Z .is)
+
   -- the three hosts hold slot i of x where the joint walk's positions that they stand at do
   module _ (x : Share ℕ) where
-    host0-has : (r : Pair) → share (last S .state) i ≡ x → r ≡ (take (S .script .slots) (last S .state .1), take (S .script .slots) (last S .state .2)) → (at (r .0) i ≡ x .l1) × (at (r .1) i ≡ x .l2)
-    host0-has r e h = (ap (λ (p : Pair). at (p .0) i) h ∙ front (last S .state .1) ∙ ap (λ (y : Share ℕ). y .l1) e, ap (λ (p : Pair). at (p .1) i) h ∙ front (last S .state .2) ∙ ap (λ (y : Share ℕ). y .l2) e)
+    host0-has : (r : Pair) → share (last S .state) i ≡ x
+        → r ≡ (take (S .script .slots) (last S .state .1), take (S .script .slots) (last S .state .2))
+        → (at (r .0) i ≡ x .l1) × (at (r .1) i ≡ x .l2)
+    host0-has r e h = (
+      ap (λ (p : Pair). at (p .0) i) h ∙ front (last S .state .1) ∙ ap (λ (y : Share ℕ). y .l1) e,
+      ap (λ (p : Pair). at (p .1) i) h ∙ front (last S .state .2) ∙ ap (λ (y : Share ℕ). y .l2) e,
+    )
 
-    host1-has : (s : State) (t : List Pair) (said : List Spoken) (Z : Tied (S .A) (S .B) (all S) (j₀ S) of1 (joint1 (S .A) (S .B)) s t said)
-        → share (joint (S .A) (S .B) (all S) (j₀ S) (Z .n) .state) i ≡ x → (at (take (S .script .slots) (s .m)) i ≡ x .m) × (at (take (S .script .slots) (s .mask)) i ≡ x .l1)
+    host1-has : (s : State) (t : List Pair) (said : List Spoken)
+        (Z : Tied (S .A) (S .B) (all S) (j₀ S) of1 (joint1 (S .A) (S .B)) s t said)
+        → share (joint (S .A) (S .B) (all S) (j₀ S) (Z .n) .state) i ≡ x
+        → (at (take (S .script .slots) (s .m)) i ≡ x .m) × (at (take (S .script .slots) (s .mask)) i ≡ x .l1)
     host1-has s t said Z e =
-        (front (s .m) ∙ ap (λ (s : State). at (s .m) i) (Z .is) ∙ ap (λ (y : Share ℕ). y .m) e, front (s .mask) ∙ ap (λ (s : State). at (s .mask) i) (Z .is) ∙ ap (λ (y : Share ℕ). y .l1) e)
+        (m-has of1 _ s t said Z ∙ ap (λ (y : Share ℕ). y .m) e, mask-has of1 _ s t said Z ∙ ap (λ (y : Share ℕ). y .l1) e)
 
-    host2-has : (s : State) (t : List Pair) (said : List Spoken) (Z : Tied (S .A) (S .B) (all S) (j₀ S) of2 (joint2 (S .A) (S .B)) s t said)
-        → share (joint (S .A) (S .B) (all S) (j₀ S) (Z .n) .state) i ≡ x → (at (take (S .script .slots) (s .m)) i ≡ x .m) × (at (take (S .script .slots) (s .mask)) i ≡ x .l2)
+    host2-has : (s : State) (t : List Pair) (said : List Spoken)
+        (Z : Tied (S .A) (S .B) (all S) (j₀ S) of2 (joint2 (S .A) (S .B)) s t said)
+        → share (joint (S .A) (S .B) (all S) (j₀ S) (Z .n) .state) i ≡ x
+        → (at (take (S .script .slots) (s .m)) i ≡ x .m) × (at (take (S .script .slots) (s .mask)) i ≡ x .l2)
     host2-has s t said Z e =
-        (front (s .m) ∙ ap (λ (s : State). at (s .m) i) (Z .is) ∙ ap (λ (y : Share ℕ). y .m) e, front (s .mask) ∙ ap (λ (s : State). at (s .mask) i) (Z .is) ∙ ap (λ (y : Share ℕ). y .l2) e)
+        (m-has of2 _ s t said Z ∙ ap (λ (y : Share ℕ). y .m) e, mask-has of2 _ s t said Z ∙ ap (λ (y : Share ℕ). y .l2) e)
 
   -- ---- an order q that is finished, where no later order writes register i
 
@@ -163,9 +192,11 @@ module _ (w : ℕ) (S : Stage) (i : ℕ) (hi : i < S .script .slots) where
           let e = last-is (S .A) (S .B) (all S) (j₀ S) in
           let k : q < length (joint (S .A) (S .B) (all S) (j₀ S) (length (all S)) .trail) = rw (← ap (λ (p : Conf Triple). p .trail) e) l in
           ap (λ (p : Conf Triple). share (p .state) i) e
-          ∙ past-is (S .A) (S .B) (all S) (j₀ S) q i (length (all S)) h (rw (trail-length (act (S .A) (S .B)) (all S) (j₀ S) (length (all S))) at k)
+          ∙ past-is (S .A) (S .B) (all S) (j₀ S) q i (length (all S)) h
+          (rw (trail-length (act (S .A) (S .B)) (all S) (j₀ S) (length (all S))) at k)
 
-      go : (v : World) → Ok S v → q < order1 v → q < order2 v → q < length (trail S) → opened-now w (S .script .slots) v i ≡ (0, signed w (value-after w S q i))
+      go : (v : World) → Ok S v → q < order1 v → q < order2 v → q < length (trail S)
+          → opened-now w (S .script .slots) v i ≡ (0, signed w (value-after w S q i))
       go _ (ok z (wait1 a) two b) l k m = absurd (not-suc-le-zero l)
       go _ (ok z (go1 X) (wait2 a) b) l k m = absurd (not-suc-le-zero k)
       go _ (ok (not-yet a) (go1 X) (go2 Y) b) l k m = absurd b
@@ -173,7 +204,8 @@ module _ (w : ℕ) (S : Stage) (i : ℕ) (hi : i < S .script .slots) where
           let p0 = host0-has (share-after S q i) r (at-end m) a in
           let p1 = host1-has (share-after S q i) _ _ _ X (past-is (S .A) (S .B) (all S) (j₀ S) q i (X .n) h (rw (X .is) at l)) in
           let p2 = host2-has (share-after S q i) _ _ _ Y (past-is (S .A) (S .B) (all S) (j₀ S) q i (Y .n) h (rw (Y .is) at k)) in
-          same-share w r (registers (S .script .slots) s1) (registers (S .script .slots) s2) i (share-after S q i) (p0 .0) (p0 .1) (p1 .0) (p1 .1) (p2 .0) (p2 .1)
+          same-share w r (registers (S .script .slots) s1) (registers (S .script .slots) s2) i (share-after S q i) (p0 .0) (p0 .1) (p1 .0)
+          (p1 .1) (p2 .0) (p2 .1)
 
   -- ---- a register that no order writes
 
@@ -198,16 +230,19 @@ module _ (w : ℕ) (S : Stage) (i : ℕ) (hi : i < S .script .slots) where
       here : (n : ℕ) → share (joint (S .A) (S .B) (all S) (j₀ S) n .state) i ≡ start
       here n = never (S .A) (S .B) (all S) (j₀ S) i h n .1 ∙ start-is
 
-      zero-has : (z : Dealer) (buf : List ℕ) → DealerOk S z buf → (at (dealer-holds z .0) i ≡ start .l1) × (at (dealer-holds z .1) i ≡ start .l2)
+      zero-has : (z : Dealer) (buf : List ℕ) → DealerOk S z buf
+          → (at (dealer-holds z .0) i ≡ start .l1) × (at (dealer-holds z .1) i ≡ start .l2)
       zero-has _ _ (not-yet a) = (ap (λ (p : Pair). at (p .0) i) a, ap (λ (p : Pair). at (p .1) i) a)
       zero-has _ _ (dealt-all {r = r} p g a e) =
           host0-has start r (ap (λ (p : Conf Triple). share (p .state) i) (last-is (S .A) (S .B) (all S) (j₀ S)) ∙ here (length (all S))) a
 
-      one-has : (x : Side) → OneOk S x → (at (side-holds (S .script .slots) x .0) i ≡ start .m) × (at (side-holds (S .script .slots) x .1) i ≡ start .l1)
+      one-has : (x : Side) → OneOk S x
+          → (at (side-holds (S .script .slots) x .0) i ≡ start .m) × (at (side-holds (S .script .slots) x .1) i ≡ start .l1)
       one-has _ (wait1 a) = (ap (λ (p : Pair). at (p .0) i) a, ap (λ (p : Pair). at (p .1) i) a)
       one-has _ (go1 X) = host1-has start _ _ _ X (here (X .n))
 
-      two-has : (x : Side) → TwoOk S x → (at (side-holds (S .script .slots) x .0) i ≡ start .m) × (at (side-holds (S .script .slots) x .1) i ≡ start .l2)
+      two-has : (x : Side) → TwoOk S x
+          → (at (side-holds (S .script .slots) x .0) i ≡ start .m) × (at (side-holds (S .script .slots) x .1) i ≡ start .l2)
       two-has _ (wait2 a) = (ap (λ (p : Pair). at (p .0) i) a, ap (λ (p : Pair). at (p .1) i) a)
       two-has _ (go2 Y) = host2-has start _ _ _ Y (here (Y .n))
 
@@ -216,7 +251,8 @@ module _ (w : ℕ) (S : Stage) (i : ℕ) (hi : i < S .script .slots) where
           let p0 = zero-has z buf a in
           let p1 = one-has one b in
           let p2 = two-has two c in
-          same-share w (dealer-holds z) (side-holds (S .script .slots) one) (side-holds (S .script .slots) two) i start (p0 .0) (p0 .1) (p1 .0) (p1 .1) (p2 .0) (p2 .1)
+          same-share w (dealer-holds z) (side-holds (S .script .slots) one) (side-holds (S .script .slots) two) i start (p0 .0) (p0 .1)
+          (p1 .0) (p1 .1) (p2 .0) (p2 .1)
           ∙ sym (same-share w (S .r1, S .r2) (S .rm, S .r1) (S .rm, S .r2) i start refl refl refl refl refl refl)
 
 written : (w : ℕ) (S : Stage) (q : ℕ) (v : World) → Finishes w S q v → (i : ℕ) → i < S .script .slots → UnwrittenFrom S (suc q) i
@@ -269,16 +305,19 @@ last-of K dec (suc n) = go (dec n) (last-of K dec n)
     go (yes e) (nobody f) = nobody (λ p h. upto 0 e (λ x l y. f x y) p (omega arith) h)
 
 -- up to the last order, and so for every one behind
-from-all : (S : Stage) (q i : ℕ) → Closed (S .script .steps) → ((p : ℕ) → q ≤ p → p < orders-in (S .script) → Unwritten i p (S .script .steps)) → UnwrittenFrom S q i
+from-all : (S : Stage) (q i : ℕ) → Closed (S .script .steps)
+    → ((p : ℕ) → q ≤ p → p < orders-in (S .script) → Unwritten i p (S .script .steps)) → UnwrittenFrom S q i
 from-all S q i shut f p l = go (decLe (suc p) (orders-in (S .script)))
   where
     go : Dec (suc p ≤ orders-in (S .script)) → Unwritten i p (S .script .steps)
     go (yes h) = f p l h
     go (no h) = closed-from i (S .script .steps) shut p (omega arith)
 
-every : (w : ℕ) (S : Stage) → Closed (S .script .steps) → (cs : List Call) (v : World) → Words w S → Run S cs v → ((q : ℕ) → q < orders-in (S .script) → Finished v q)
+every : (w : ℕ) (S : Stage) → Closed (S .script .steps) → (cs : List Call) (v : World) → Words w S → Run S cs v
+    → ((q : ℕ) → q < orders-in (S .script) → Finished v q)
     → (i : ℕ) → i < S .script .slots → Holds w S v i
-every w S shut cs v W r f i hi = go (last-of (λ p. Unwritten i p (S .script .steps)) (λ p. writes i p (S .script .steps)) (orders-in (S .script)))
+every w S shut cs v W r f i hi =
+    go (last-of (λ p. Unwritten i p (S .script .steps)) (λ p. writes i p (S .script .steps)) (orders-in (S .script)))
   where
     go : Last (λ p. Unwritten i p (S .script .steps)) (orders-in (S .script)) → Holds w S v i
     go (writer q h t u) =
@@ -291,7 +330,8 @@ every w S shut cs v W r f i hi = go (last-of (λ p. Unwritten i p (S .script .st
 unwritten : (w : ℕ) (S : Setting) (q i : ℕ) → i < 16 → UntargetedFrom S q i → UnwrittenFrom (staged w S) q i
 unwritten w S q i hi u p l = untargeted w S p i hi (u p l)
 
-job-written : (w : ℕ) (S : Setting) (q : ℕ) (v : World) → Finishes w (staged w S) q v → (i : ℕ) → i < 16 → UntargetedFrom S (suc q) i → opened-now w 16 v i ≡ opened-after w v q i
+job-written : (w : ℕ) (S : Setting) (q : ℕ) (v : World) → Finishes w (staged w S) q v → (i : ℕ) → i < 16 → UntargetedFrom S (suc q) i
+    → opened-now w 16 v i ≡ opened-after w v q i
 job-written w S q v F i hi u = written w (staged w S) q v F i hi (unwritten w S (suc q) i hi u)
 
 pub target-is : (i t : ℕ) → (eqb i t ≡ false → ⊥) → t ≡ i
@@ -303,12 +343,14 @@ target-is i t n = go (eqb i t) refl
 
 job-every : (w : ℕ) (S : Setting) (cs : List Call) (v : World) → Words w (staged w S) → Run (staged w S) cs v
     → ((q : ℕ) → q < length (orders (S .job)) → Finished v q) → (i : ℕ) → i < 16 → JobHolds w S v i
-job-every w S cs v W r f i hi = go (last-of (λ p. eqb i (order-of S p .target) ≡ false) (λ p. unequal (eqb i (order-of S p .target))) (length (orders (S .job))))
+job-every w S cs v W r f i hi =
+    go (last-of (λ p. eqb i (order-of S p .target) ≡ false) (λ p. unequal (eqb i (order-of S p .target))) (length (orders (S .job))))
   where
     go : Last (λ p. eqb i (order-of S p .target) ≡ false) (length (orders (S .job))) → JobHolds w S v i
     go (writer q h t u) =
         let e : order-of S q .target ≡ i = target-is i (order-of S q .target) t in
-        of-order q h e u (job-written w S q v (record { words = W; calls = cs; run = r; finished = f q h }) i hi u ∙ ap (opened-after w v q) (sym e))
+        of-order q h e u (job-written w S q v (record { words = W; calls = cs; run = r; finished = f q h }) i hi u
+        ∙ ap (opened-after w v q) (sym e))
     go (nobody u) = of-given (λ p l h. u p h) (now-given w (staged w S) i hi v r (unwritten w S 0 i hi (λ p l h. u p h)))
 
 pub returned : (w : ℕ) → Returned w

@@ -26,7 +26,8 @@ module _ (A B : List ℕ) where
   adds (local d m l ∷ ss) c j t = adds ss _ _ t
   adds (deal d f ∷ ss) c j t = adds ss _ _ t
   adds (exchange d e ∷ ss) c j t = adds ss _ _ t
-  adds (end ∷ ss) c j t = adds ss _ _ (t ++ (j ∷ [])) ∙ append-assoc t (j ∷ []) _ ∙ ap (λ (u : List Triple). t ++ u) (sym (adds ss _ _ (j ∷ [])))
+  adds (end ∷ ss) c j t =
+      adds ss _ _ (t ++ (j ∷ [])) ∙ append-assoc t (j ∷ []) _ ∙ ap (λ (u : List Triple). t ++ u) (sym (adds ss _ _ (j ∷ [])))
 
   -- behind the end of an order
   ended : (ss : List Step) (c : Cursor) (j : Triple) → left (end ∷ ss) c j ≡ j ∷ left ss (past end c) j
@@ -39,7 +40,8 @@ module _ (A B : List ℕ) where
       rw (getD-set-other (j .0) d i x 0 n, getD-set-other (j .1) d i y 0 n, getD-set-other (j .2) d i z 0 n)
 
   -- up to the end of the order in which the walk stands
-  kept-first : (i : ℕ) (ss : List Step) (c : Cursor) (j e : Triple) → 0 < ends ss → Unwritten i 0 ss → share (getD (left ss c j) 0 e) i ≡ share j i
+  kept-first : (i : ℕ) (ss : List Step) (c : Cursor) (j e : Triple) → 0 < ends ss → Unwritten i 0 ss
+      → share (getD (left ss c j) 0 e) i ≡ share j i
   unfolding whole act ends
   kept-first i [] c j e h u = absurd (omega arith)
   kept-first i (local d m l ∷ ss) c j e h u = kept-first i ss _ _ e h (u .1) ∙ other-slot j d i _ _ _ (u .0)
@@ -64,7 +66,8 @@ module _ (A B : List ℕ) where
       ∙ kept-next i q ss (past end c) j e (omega arith) u
       ∙ ap (λ (t : List Triple). share (getD t (suc q) e) i) (sym (ended ss c j))
 
-pub slot-kept : (S : Stage) (q i : ℕ) → q < orders-in (S .script) → Unwritten i q (S .script .steps) → share-after S q i ≡ share-before S q i
+pub slot-kept : (S : Stage) (q i : ℕ) → q < orders-in (S .script) → Unwritten i q (S .script .steps)
+    → share-after S q i ≡ share-before S q i
 unfolding trail after-order before-order
 slot-kept S zero i h u = kept-first (S .A) (S .B) i (S .script .steps) origin (first S) (first S) h u
 slot-kept S (suc q) i h u = kept-next (S .A) (S .B) i q (S .script .steps) origin (first S) (first S) h u

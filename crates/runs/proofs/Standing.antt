@@ -75,7 +75,8 @@ module _ (A B : List ℕ) (all : List Step) (j₀ : Triple) where
   passes-exchange i d e ss zero u = u .1
   passes-exchange i d e ss (suc k) u = u
 
-  current-next : (i : ℕ) (ss : List Step) (c : Cursor) (j : Triple) (t : List Triple) → Current i (conf ss c j t) → Current i (next (act A B) (conf ss c j t))
+  current-next : (i : ℕ) (ss : List Step) (c : Cursor) (j : Triple) (t : List Triple) → Current i (conf ss c j t)
+      → Current i (next (act A B) (conf ss c j t))
   unfolding past
   current-next i [] c j t z = z
   current-next i (local d m l ∷ ss) c j t z =
@@ -88,7 +89,12 @@ module _ (A B : List ℕ) (all : List Step) (j₀ : Triple) where
 
   current : (i n : ℕ) → Current i (at-n n)
   unfolding pos before
-  current i zero = record { later = λ k q h u. let e : q ≡ k = omega (arith, h) in subst (λ (x : ℕ). Unwritten i x all) e u; same = λ u. refl; count = refl }
+  current i zero =
+      record {
+        later = λ k q h u. let e : q ≡ k = omega (arith, h) in subst (λ (x : ℕ). Unwritten i x all) e u;
+        same = λ u. refl;
+        count = refl;
+      }
   current i (suc n) = current-next i (at-n n .rest) (at-n n .cur) (at-n n .state) (at-n n .trail) (current i n)
 
 module _ (S : Stage) where
@@ -124,30 +130,40 @@ module _ (S : Stage) where
 
   -- ---- host by host
 
-  pub stands1 : {cs : List Call} {z : Dealer} {buf : List ℕ} {s : State} {t : List Pair} {said : List Spoken} {two : Side} → Run S cs (world z buf (going s t said) two)
-      → (i : ℕ) → Unwritten i (s .order) (all S) → (at (s .m) i ≡ share-before S (s .order) i .m) × (at (s .mask) i ≡ share-before S (s .order) i .l1)
+  pub stands1 : {cs : List Call} {z : Dealer} {buf : List ℕ} {s : State} {t : List Pair} {said : List Spoken} {two : Side}
+      → Run S cs (world z buf (going s t said) two)
+      → (i : ℕ) → Unwritten i (s .order) (all S)
+      → (at (s .m) i ≡ share-before S (s .order) i .m) × (at (s .mask) i ≡ share-before S (s .order) i .l1)
   stands1 {s = s} {t = t} {said = said} r i u = go (kept S r)
     where
       go : {z : Dealer} {buf : List ℕ} {two : Side} → Ok S (world z buf (going s t said) two)
           → (at (s .m) i ≡ share-before S (s .order) i .m) × (at (s .mask) i ≡ share-before S (s .order) i .l1)
       go (ok z (go1 X) two a) =
-          let e = tied-stands of1 (joint1 A B) s t said X i u in
-          (ap (λ (x : State). at (x .m) i) (X .is) ∙ ap (λ (x : Share ℕ). x .m) e, ap (λ (x : State). at (x .mask) i) (X .is) ∙ ap (λ (x : Share ℕ). x .l1) e)
+          let e = tied-stands of1 (joint1 A B) s t said X i u in (
+            ap (λ (x : State). at (x .m) i) (X .is) ∙ ap (λ (x : Share ℕ). x .m) e,
+            ap (λ (x : State). at (x .mask) i) (X .is) ∙ ap (λ (x : Share ℕ). x .l1) e,
+          )
 
-  pub stands2 : {cs : List Call} {z : Dealer} {buf : List ℕ} {one : Side} {s : State} {t : List Pair} {said : List Spoken} → Run S cs (world z buf one (going s t said))
-      → (i : ℕ) → Unwritten i (s .order) (all S) → (at (s .m) i ≡ share-before S (s .order) i .m) × (at (s .mask) i ≡ share-before S (s .order) i .l2)
+  pub stands2 : {cs : List Call} {z : Dealer} {buf : List ℕ} {one : Side} {s : State} {t : List Pair} {said : List Spoken}
+      → Run S cs (world z buf one (going s t said))
+      → (i : ℕ) → Unwritten i (s .order) (all S)
+      → (at (s .m) i ≡ share-before S (s .order) i .m) × (at (s .mask) i ≡ share-before S (s .order) i .l2)
   stands2 {s = s} {t = t} {said = said} r i u = go (kept S r)
     where
       go : {z : Dealer} {buf : List ℕ} {one : Side} → Ok S (world z buf one (going s t said))
           → (at (s .m) i ≡ share-before S (s .order) i .m) × (at (s .mask) i ≡ share-before S (s .order) i .l2)
       go (ok z one (go2 Y) a) =
-          let e = tied-stands of2 (joint2 A B) s t said Y i u in
-          (ap (λ (x : State). at (x .m) i) (Y .is) ∙ ap (λ (x : Share ℕ). x .m) e, ap (λ (x : State). at (x .mask) i) (Y .is) ∙ ap (λ (x : Share ℕ). x .l2) e)
+          let e = tied-stands of2 (joint2 A B) s t said Y i u in (
+            ap (λ (x : State). at (x .m) i) (Y .is) ∙ ap (λ (x : Share ℕ). x .m) e,
+            ap (λ (x : State). at (x .mask) i) (Y .is) ∙ ap (λ (x : Share ℕ). x .l2) e,
+          )
 
   -- the end of the joint walk, past every order
   last-order : point (length (all S)) .cur .order ≡ orders-in (S .script)
   unfolding ends
-  last-order = go (point (length (all S)) .rest) (ends-pos (act A B) (all S) (j₀ S) (length (all S))) (rest-length A B (all S) (j₀ S) (length (all S)))
+  last-order =
+      go (point (length (all S)) .rest) (ends-pos (act A B) (all S) (j₀ S) (length (all S)))
+      (rest-length A B (all S) (j₀ S) (length (all S)))
     where
       go : (ss : List Step) → ends ss + point (length (all S)) .cur .order ≡ ends (all S) → length ss ≡ length (all S) - length (all S)
           → point (length (all S)) .cur .order ≡ ends (all S)
@@ -158,9 +174,11 @@ module _ (S : Stage) where
   last-stands shut i =
       let n : ℕ = length (all S) in
       let u : Unwritten i (point n .cur .order) (all S) = closed-from i (all S) shut (point n .cur .order) (omega (arith, last-order)) in
-      ap (λ (p : Conf Triple). share (p .state) i) (last-is A B (all S) (j₀ S)) ∙ stands-at n i u ∙ ap (λ (q : ℕ). share-before S q i) last-order
+      ap (λ (p : Conf Triple). share (p .state) i) (last-is A B (all S) (j₀ S)) ∙ stands-at n i u
+      ∙ ap (λ (q : ℕ). share-before S q i) last-order
 
-  pub stands0 : {cs : List Call} {r : Pair} {t : List Pair} {buf : List ℕ} {one two : Side} → Closed (all S) → Run S cs (world (ready r t) buf one two)
+  pub stands0 : {cs : List Call} {r : Pair} {t : List Pair} {buf : List ℕ} {one two : Side} → Closed (all S)
+      → Run S cs (world (ready r t) buf one two)
       → (i : ℕ) → i < S .script .slots
       → (at (r .0) i ≡ share-before S (orders-in (S .script)) i .l1) × (at (r .1) i ≡ share-before S (orders-in (S .script)) i .l2)
   stands0 {r = r} {t = t} shut R i h = go (kept S R)

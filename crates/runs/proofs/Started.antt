@@ -11,7 +11,8 @@ use lib.ListN.{length}
 use Rattle.jobs.specs.Job.{Fault, short-a}
 use Rattle.calls.specs.Scripts.{script-cost}
 use Rattle.calls.specs.Lent.{or-else, lists-fault, lent-fault}
-use Rattle.runs.specs.Runs.{Stage, waiting, going, World, world, Call, registers, lent1, Completes, prepares, starts1, starts2, hears1, hears2, given-out, Run, begin, complete, refuse, order1}
+use Rattle.runs.specs.Runs.{Stage, waiting, going, World, world, Call, registers, lent1, Completes, prepares, starts1, starts2}
+use Rattle.runs.specs.Runs.{hears1, hears2, given-out, Run, begin, complete, refuse, order1}
 use Rattle.runs.proofs.Refusals.{start-none}
 use Rattle.runs.proofs.Kept.{refuses-nothing, kept}
 
@@ -38,7 +39,8 @@ checked-of S D e =
     let p = or-else-none (S .script .fault) _ e in
     record { script = p .0; a = go (ltb (length (S .A)) (script-cost (S .script) .a)) refl (p .1) }
   where
-    go : (b : Bool) → ltb (length (S .A)) (script-cost (S .script) .a) ≡ b → _≡_ {A = ℕ} (cond b 6 0) 0 → script-cost (S .script) .a ≤ length (S .A)
+    go : (b : Bool) → ltb (length (S .A)) (script-cost (S .script) .a) ≡ b → _≡_ {A = ℕ} (cond b 6 0) 0
+        → script-cost (S .script) .a ≤ length (S .A)
     go true t h = absurd (omega arith)
     go false t h = ltb-false (length (S .A)) (script-cost (S .script) .a) t
 

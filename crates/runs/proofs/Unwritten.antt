@@ -58,9 +58,12 @@ before-it i k ss ss′ g f (suc p) l = g p (f (suc p) l)
 
 spared-from : (i k : ℕ) (ss : List Step) → ((p : ℕ) → k ≤ p → Unwritten i p ss) → SparedFrom i k ss
 spared-from i k [] f = tt
-spared-from i zero (local d m l ∷ ss) f = (f 0 (omega arith) .0, spared-from i 0 ss (within i ss (local d m l ∷ ss) (f 0 (omega arith) .1) (λ p h u. u) f))
-spared-from i zero (deal d e ∷ ss) f = (f 0 (omega arith) .0, spared-from i 0 ss (within i ss (deal d e ∷ ss) (f 0 (omega arith) .1) (λ p h u. u) f))
-spared-from i zero (exchange d e ∷ ss) f = (f 0 (omega arith) .0, spared-from i 0 ss (within i ss (exchange d e ∷ ss) (f 0 (omega arith) .1) (λ p h u. u) f))
+spared-from i zero (local d m l ∷ ss) f =
+    (f 0 (omega arith) .0, spared-from i 0 ss (within i ss (local d m l ∷ ss) (f 0 (omega arith) .1) (λ p h u. u) f))
+spared-from i zero (deal d e ∷ ss) f =
+    (f 0 (omega arith) .0, spared-from i 0 ss (within i ss (deal d e ∷ ss) (f 0 (omega arith) .1) (λ p h u. u) f))
+spared-from i zero (exchange d e ∷ ss) f =
+    (f 0 (omega arith) .0, spared-from i 0 ss (within i ss (exchange d e ∷ ss) (f 0 (omega arith) .1) (λ p h u. u) f))
 spared-from i zero (end ∷ ss) f = (tt, spared-from i 0 ss (λ p l. f (suc p) (omega arith)))
 spared-from i (suc k) (local d m l ∷ ss) f = spared-from i (suc k) ss (before-it i k ss (local d m l ∷ ss) (λ p u. u) f)
 spared-from i (suc k) (deal d e ∷ ss) f = spared-from i (suc k) ss (before-it i k ss (deal d e ∷ ss) (λ p u. u) f)

@@ -21,8 +21,9 @@ Spared S q i = q < length (orders (S .job)) → eqb i (order-of S q .target) ≡
 pub record Holdings : Type 0 where
   -- "the register keeps that until an order writes it", "host 1 holds m, L1; host 2 holds m, L2": the state that the
   -- last call returned, at whatever place
-  pub host1 : (S : Stage) (cs : List Call) (z : Dealer) (buf : List ℕ) (s : State) (t : List Pair) (said : List Spoken)
-      (two : Side) → Run S cs (world z buf (going s t said) two) → (i : ℕ) → Unwritten i (s .order) (S .script .steps)
+  pub host1 : (S : Stage) (cs : List Call) (z : Dealer) (buf : List ℕ) (s : State) (t : List Pair)
+      (said : List Spoken) (two : Side) → Run S cs (world z buf (going s t said) two) → (i : ℕ)
+      → Unwritten i (s .order) (S .script .steps)
       → (at (s .m) i ≡ share-before S (s .order) i .m) × (at (s .mask) i ≡ share-before S (s .order) i .l1)
   pub host2 : (S : Stage) (cs : List Call) (z : Dealer) (buf : List ℕ) (one : Side) (s : State) (t : List Pair)
       (said : List Spoken) → Run S cs (world z buf one (going s t said)) → (i : ℕ)
@@ -35,12 +36,12 @@ pub record Holdings : Type 0 where
       × (at (r .1) i ≡ share-before S (orders-in (S .script)) i .l2)
   -- a job: a register that is not the target of the order at hand
   pub job-host1 : (w : ℕ) (S : Setting) (cs : List Call) (z : Dealer) (buf : List ℕ) (s : State) (t : List Pair)
-      (said : List Spoken) (two : Side) → Run (staged w S) cs (world z buf (going s t said) two) → (i : ℕ) → i < 16
-      → Spared S (s .order) i
+      (said : List Spoken) (two : Side) → Run (staged w S) cs (world z buf (going s t said) two)
+      → (i : ℕ) → i < 16 → Spared S (s .order) i
       → (at (s .m) i ≡ share-before (staged w S) (s .order) i .m)
       × (at (s .mask) i ≡ share-before (staged w S) (s .order) i .l1)
-  pub job-host2 : (w : ℕ) (S : Setting) (cs : List Call) (z : Dealer) (buf : List ℕ) (one : Side) (s : State) (t : List Pair)
-      (said : List Spoken) → Run (staged w S) cs (world z buf one (going s t said)) → (i : ℕ) → i < 16
-      → Spared S (s .order) i
+  pub job-host2 : (w : ℕ) (S : Setting) (cs : List Call) (z : Dealer) (buf : List ℕ) (one : Side) (s : State)
+      (t : List Pair) (said : List Spoken) → Run (staged w S) cs (world z buf one (going s t said))
+      → (i : ℕ) → i < 16 → Spared S (s .order) i
       → (at (s .m) i ≡ share-before (staged w S) (s .order) i .m)
       × (at (s .mask) i ≡ share-before (staged w S) (s .order) i .l2)

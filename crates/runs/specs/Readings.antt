@@ -1,5 +1,5 @@
--- What a register reads just before an order is what opening gives: on the shares that the last order to write it left,
--- or, where none did, on the registers given; and its mask is the sum of host 0's words there. Assumes nothing.
+-- What a register reads just before an order is what opening gives: on the shares that the last order to write it
+-- left, or, where none did, on the registers given; and its mask is the sum of host 0's words there. Assumes nothing.
 use mathlib.Core.Path.{_≡_}
 use mathlib.Core.Bool.{true, false}
 use mathlib.Core.List.{[]}
@@ -38,7 +38,8 @@ UntargetedBetween S p q i = (n : ℕ) → p ≤ n → n < q → eqb i (order-of 
 -- where register i has its reading and mask before order q from: the last order that wrote it, or what was given
 pub data Origin (w : ℕ) (S : Setting) (q : ℕ) (v : World) (i : ℕ) : Type 0 where
   of-order : (p : ℕ) → p < q → order-of S p .target ≡ i → UntargetedBetween S (suc p) q i
-      → opens w S v p ≡ (0, reading-of w (staged w S) q i) → mask-after w v p i ≡ mask-before w (staged w S) q i → Origin w S q v i
+      → opens w S v p ≡ (0, reading-of w (staged w S) q i)
+      → mask-after w v p i ≡ mask-before w (staged w S) q i → Origin w S q v i
   of-given : UntargetedBetween S 0 q i
       → opened-given w (staged w S) i ≡ (0, reading-of w (staged w S) q i)
       → mask-given w (staged w S) i ≡ mask-before w (staged w S) q i → Origin w S q v i
@@ -46,7 +47,8 @@ pub data Origin (w : ℕ) (S : Setting) (q : ℕ) (v : World) (i : ℕ) : Type 0
 -- at every width of w bits
 pub record Readings (w : ℕ) : Type 0 where
   -- "the register keeps that until an order writes it": what opening gave on slot i as order p left it
-  pub written : (S : Stage) (q : ℕ) (v : World) → Finishes w S q v → (p i : ℕ) → p < q → UnwrittenBetween S (suc p) q i
+  pub written : (S : Stage) (q : ℕ) (v : World) → Finishes w S q v → (p i : ℕ) → p < q
+      → UnwrittenBetween S (suc p) q i
       → opened-after w v p i ≡ (0, reading-of w S q i)
   -- "where the registers given to them open": what opening gives on them
   pub given : (S : Stage) (q : ℕ) (v : World) → Finishes w S q v → (i : ℕ) → i < S .script .slots
@@ -57,7 +59,8 @@ pub record Readings (w : ℕ) : Type 0 where
   pub mask-kept : (S : Stage) (q : ℕ) (v : World) → Finishes w S q v → (i : ℕ) → i < S .script .slots
       → UnwrittenBetween S 0 q i → mask-given w S i ≡ mask-before w S q i
   -- where an order of a job has another target, no step of it writes the register
-  pub untargeted : (S : Setting) (p q i : ℕ) → i < 16 → UntargetedBetween S p q i → UnwrittenBetween (staged w S) p q i
+  pub untargeted : (S : Setting) (p q i : ℕ) → i < 16 → UntargetedBetween S p q i
+      → UnwrittenBetween (staged w S) p q i
   -- the register that order p of a job wrote last
   pub register-written : (S : Setting) (q : ℕ) (v : World) → Finishes w (staged w S) q v → (p : ℕ) → p < q
       → UntargetedBetween S (suc p) q (order-of S p .target)
@@ -75,7 +78,8 @@ pub record Readings (w : ℕ) : Type 0 where
   pub source-given : (S : Setting) (q : ℕ) (v : World) → Finishes w (staged w S) q v
       → UntargetedBetween S 0 q (order-of S q .source)
       → opened-given w (staged w S) (order-of S q .source) ≡ (0, reading w S q)
-  pub source : (S : Setting) (q : ℕ) (v : World) → Finishes w (staged w S) q v → Origin w S q v (order-of S q .source)
+  pub source : (S : Setting) (q : ℕ) (v : World) → Finishes w (staged w S) q v
+      → Origin w S q v (order-of S q .source)
   -- "The fourth word is the second source, a register, for kinds 0, 1, 4"
   pub second-source : (S : Setting) (q : ℕ) (v : World) → Finishes w (staged w S) q v
       → two-sources (order-of S q .kind) ≡ true → Origin w S q v (order-of S q .fourth)

@@ -1,5 +1,5 @@
--- What the three hosts hold after a run: the masks that the preparation returned, and the registers in the states that
--- starting and hearing returned. What opening gives on them. Assumes nothing.
+-- What the three hosts hold after a run: the masks that the preparation returned, and the registers in the states
+-- that starting and hearing returned. What opening gives on them. Assumes nothing.
 use mathlib.Core.Path.{_≡_}
 use mathlib.Core.Bool.{false}
 use mathlib.Core.List.{List}
@@ -35,7 +35,8 @@ UnwrittenFrom S q i = (p : ℕ) → q ≤ p → Unwritten i p (S .script .steps)
 -- what slot i opens after the whole script: what the last order that writes it opened, or where none does what was
 -- given
 pub data Holds (w : ℕ) (S : Stage) (v : World) (i : ℕ) : Type 0 where
-  by-order : (q : ℕ) → q < orders-in (S .script) → (Unwritten i q (S .script .steps) → ⊥) → UnwrittenFrom S (suc q) i
+  by-order : (q : ℕ) → q < orders-in (S .script) → (Unwritten i q (S .script .steps) → ⊥)
+      → UnwrittenFrom S (suc q) i
       → opened-now w (S .script .slots) v i ≡ opened-after w v q i → Holds w S v i
   by-given : UnwrittenFrom S 0 i → opened-now w (S .script .slots) v i ≡ opened-given w S i → Holds w S v i
 
@@ -43,7 +44,8 @@ pub data Holds (w : ℕ) (S : Stage) (v : World) (i : ℕ) : Type 0 where
 
 -- no order of the job from order q on writes register i
 abbrev pub UntargetedFrom : Setting → (q i : ℕ) → Type 0
-UntargetedFrom S q i = (p : ℕ) → q ≤ p → p < length (orders (S .job)) → eqb i (order-of S p .target) ≡ false
+UntargetedFrom S q i =
+    (p : ℕ) → q ≤ p → p < length (orders (S .job)) → eqb i (order-of S p .target) ≡ false
 
 -- what register i opens after the whole job: what the last order that writes it opened, or where none does what was
 -- given
@@ -69,7 +71,8 @@ pub record Returned (w : ℕ) : Type 0 where
       → (i : ℕ) → i < S .script .slots → opened-now w (S .script .slots) v i ≡ opened-after w v q i
   -- a run that has finished every order: each slot that was given, by its last writer
   pub every-slot : (S : Stage) → Orderly (S .script) → (cs : List Call) (v : World) → Words w S → Run S cs v
-      → ((q : ℕ) → q < orders-in (S .script) → Finished v q) → (i : ℕ) → i < S .script .slots → Holds w S v i
+      → ((q : ℕ) → q < orders-in (S .script) → Finished v q) → (i : ℕ) → i < S .script .slots
+      → Holds w S v i
   -- ---- of a job
   -- a register that no order behind order q has as its target now opens what order q opened in it
   pub job-written : (S : Setting) (q : ℕ) (v : World) → Finishes w (staged w S) q v → (i : ℕ) → i < 16
@@ -79,7 +82,8 @@ pub record Returned (w : ℕ) : Type 0 where
       → UntargetedFrom S 0 i → opened-now w 16 v i ≡ opened-given w (staged w S) i
   -- an order that is the last to write its target: its target now opens what the order opened
   pub last-writer : (S : Setting) (q : ℕ) (v : World) → Finishes w (staged w S) q v
-      → UntargetedFrom S (suc q) (order-of S q .target) → opened-now w 16 v (order-of S q .target) ≡ opens w S v q
+      → UntargetedFrom S (suc q) (order-of S q .target)
+      → opened-now w 16 v (order-of S q .target) ≡ opens w S v q
   -- a run that has finished every order: each of the sixteen registers, by its last writer
   pub every-register : (S : Setting) (cs : List Call) (v : World) → Words w (staged w S) → Run (staged w S) cs v
       → ((q : ℕ) → q < length (orders (S .job)) → Finished v q) → (i : ℕ) → i < 16 → JobHolds w S v i

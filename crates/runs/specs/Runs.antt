@@ -103,7 +103,8 @@ abbrev pub with-masks : Dealer → Pair → Dealer
 with-masks (idle r) r′ = idle r′
 with-masks (ready r t) r′ = ready r′ t
 
--- the state that host 1 or 2 holds; and the host with another, its trail and the words that it has spoken as they were
+-- the state that host 1 or 2 holds; and the host with another, its trail and the words that it has spoken as they
+-- were
 abbrev pub side-state : Side → State
 side-state (waiting s) = s
 side-state (going s t said) = s
@@ -130,10 +131,11 @@ with-registers n s r =
 pub data Turned (n : ℕ) : State → State → Type 0 where
   at-start : {s : State} (loan : Lent) → start loan (registers n s) .number ≢ 0
       → Turned n s (with-registers n s (registers n (start loan (registers n s) .state)))
-  at-hearing : {s : State} (loan : Lent) (v : ℕ) → hear loan s v .number ≢ 0 → Turned n s (hear loan s v .state)
+  at-hearing : {s : State} (loan : Lent) (v : ℕ) → hear loan s v .number ≢ 0
+      → Turned n s (hear loan s v .state)
 
--- whatever the host holds: a refused call of host 0 leaves its trail, one of host 1 or 2 its trail and the words that it
--- has spoken
+-- whatever the host holds: a refused call of host 0 leaves its trail, one of host 1 or 2 its trail and the words that
+-- it has spoken
 pub data Refuses (n : ℕ) : World → World → Type 0 where
   -- a preparation, lent the run's buffer
   refuses0 : {z : Dealer} {buf : List ℕ} {one two : Side} (σ : Script) (A B : List ℕ)
@@ -193,7 +195,8 @@ module _ (S : Stage) where
         → Completes preparing (world (idle r) buf one two)
         (world (ready (preparation buf r .masks) (prepare-walk (S .script) (S .A) (S .B) r .trail))
         (preparation buf r .buffer) one two)
-    starts1 : {z : Dealer} {buf : List ℕ} {s : State} {two : Side} (D : List ℕ) → start (lent1 D) (held s) .number ≡ 0
+    starts1 : {z : Dealer} {buf : List ℕ} {s : State} {two : Side} (D : List ℕ)
+        → start (lent1 D) (held s) .number ≡ 0
         → Completes starting1 (world z buf (waiting s) two) (world z buf (started (lent1 D) s) two)
     -- "starting host 2 after the preparation"
     starts2 : {r : Pair} {t₀ : List Pair} {buf : List ℕ} {s : State} {one : Side} (D : List ℕ) → Dealt buf D
@@ -220,8 +223,10 @@ module _ (S : Stage) where
   -- a run and its calls, the last in front
   pub data Run : List Call → World → Type 0 where
     begin : {v : World} → Begins v → Run [] v
-    complete : {cs : List Call} {c : Call} {v v′ : World} → Run cs v → Completes c v v′ → Run (c ∷ cs) v′
-    refuse : {cs : List Call} {v v′ : World} → Run cs v → Refuses (S .script .slots) v v′ → Run (turned-down ∷ cs) v′
+    complete : {cs : List Call} {c : Call} {v v′ : World} → Run cs v → Completes c v v′
+        → Run (c ∷ cs) v′
+    refuse : {cs : List Call} {v v′ : World} → Run cs v → Refuses (S .script .slots) v v′
+        → Run (turned-down ∷ cs) v′
 
 -- ---- what a world shows
 
@@ -271,8 +276,8 @@ six p0 p1 p2 i =
 abbrev pub opened-slot : (w : ℕ) (p0 p1 p2 : Pair) → ℕ → ℕ × ℤ
 opened-slot w p0 p1 p2 i = reconstruction w (six p0 p1 p2 i)
 
--- "What it opens is what opening gives on the three hosts' shares of its target as the order leaves them": slot i after
--- order q
+-- "What it opens is what opening gives on the three hosts' shares of its target as the order leaves them": slot i
+-- after order q
 unfoldable pub opened-after : (w : ℕ) → World → (q i : ℕ) → ℕ × ℤ
 opened-after w v q i =
     opened-slot w (getD (trail0 v) q ([], [])) (getD (trail1 v) q ([], [])) (getD (trail2 v) q ([], [])) i
