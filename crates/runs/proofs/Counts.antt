@@ -53,7 +53,7 @@ module _ (A B : List ℕ) (all : List Step) (j₀ : Triple) (shut : Closed all) 
   far-at (suc n) = far-next (at-n n .rest) (at-n n .cur) (at-n n .state) (at-n n .trail) ∙ far-at n
 
   -- where a walk halts: at a product or refresh some order is left; at the end none
-  pub record Stands (n : ℕ) : Type 0 where
+  pub record CountsAt (n : ℕ) : Type 0 where
     pub before-end : at-n n .cur .order < ends all → spoken-at (at-n n .rest) (at-n n .cur) ≡ suc (at-n n .cur .b)
     pub at-end : at-n n .cur .order ≡ ends all
         → (spoken-at (at-n n .rest) (at-n n .cur) ≡ at-n n .cur .b) × (at-n n .cur .b * 2 ≡ cost all .words)
@@ -68,7 +68,7 @@ module _ (A B : List ℕ) (all : List Step) (j₀ : Triple) (shut : Closed all) 
   stands-at (exchange d y ∷ ss) c k h e f = (λ l. refl, λ l. absurd (omega (arith, h .0)))
   stands-at (end ∷ ss) c k h e f = absurd k
 
-  pub stands : (n : ℕ) → Halted (at-n n .rest) → Stands n
+  pub stands : (n : ℕ) → Halted (at-n n .rest) → CountsAt n
   stands n k =
       let p = stands-at (at-n n .rest) (at-n n .cur) k (closed-at n) (ends-pos (act A B) all j₀ n) (far-at n) in
       record { before-end = p .0; at-end = p .1 }

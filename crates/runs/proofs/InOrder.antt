@@ -21,7 +21,8 @@ use Rattle.runs.proofs.Places.{Halted, pos, ends-pos}
 use Rattle.runs.proofs.Ties.{Shadow, shadow1, shadow2, joint, spoken, Tied, Answered}
 use Rattle.runs.proofs.Counts.{closed-at}
 use Rattle.runs.proofs.Answers.{Answered1, start1-answered, hear1-answered, Answered2, start2-answered, hear2-answered}
-use Rattle.runs.proofs.Kept.{all, j₀, supplied, not-yet, dealt-all, wait1, go1, wait2, go2, Ok, ok, refuses-nothing, kept}
+use Rattle.runs.proofs.Kept.{all, j₀, supplied, not-yet, dealt-all, wait1, go1, wait2, go2, Ok, ok, refuses-nothing, kept, position}
+use Rattle.runs.proofs.Kept.{Tied1, Tied2, HasDeals}
 
 reverse-onto : {T : Type 0} (l r : List T) → reverseAux l r ≡ reverse l ++ r
 reverse-onto [] r = refl
@@ -129,7 +130,7 @@ module _ (S : Stage) where
       → Front1 (placed-word (a .state) (a .word) ∷ said)
   front1 {a} said N f = front-answered (worker1 A) of1 (joint1 A B) (joint2 A B) Always (shadow1 A B) tt a said N f
 
-  front2 : (D : List ℕ) (g : Supplied A B D (all S) origin (j₀ S)) {a : Answer} (said : List Spoken) → Answered2 S D g a (suc (length said))
+  front2 : (D : List ℕ) (g : HasDeals S D) {a : Answer} (said : List Spoken) → Answered2 S D g a (suc (length said))
       → Front2 said
       → Front2 (placed-word (a .state) (a .word) ∷ said)
   front2 D g {a} said N f = front-answered (worker2 B D) of2 (joint2 A B) (joint1 A B) (Supplied A B D) (shadow2 A B D) g a said N f
@@ -169,14 +170,14 @@ module _ (S : Stage) where
 
   -- ---- a host past every order
 
-  nothing-left : (n : ℕ) → Closed (all S) → Halted (joint A B (all S) (j₀ S) n .rest)
-      → joint A B (all S) (j₀ S) n .cur .order ≡ orders-in (S .script)
-      → joint A B (all S) (j₀ S) n .rest ≡ []
+  nothing-left : (n : ℕ) → Closed (all S) → Halted (position S n .rest)
+      → position S n .cur .order ≡ orders-in (S .script)
+      → position S n .rest ≡ []
   unfolding ends
   nothing-left n shut h e =
-      go (joint A B (all S) (j₀ S) n .rest) h (closed-at A B (all S) (j₀ S) shut n) (ends-pos (act A B) (all S) (j₀ S) n)
+      go (position S n .rest) h (closed-at A B (all S) (j₀ S) shut n) (ends-pos (act A B) (all S) (j₀ S) n)
     where
-      go : (ss : List Step) → Halted ss → Closed ss → ends ss + joint A B (all S) (j₀ S) n .cur .order ≡ ends (all S) → ss ≡ []
+      go : (ss : List Step) → Halted ss → Closed ss → ends ss + position S n .cur .order ≡ ends (all S) → ss ≡ []
       go [] h c k = refl
       go (local d m l ∷ ss) h c k = absurd h
       go (deal d f ∷ ss) h c k = absurd h
@@ -196,7 +197,7 @@ module _ (S : Stage) where
   one-all {s = s} {t = t} {said = said} shut r e = all-said of1 (joint1 A B) s t said shut (tied1 (kept S r)) e (one-front (fronts r))
     where
       tied1 : {z : Dealer} {buf : List ℕ} {two : Side} → Ok S (world z buf (going s t said) two)
-          → Tied A B (all S) (j₀ S) of1 (joint1 A B) s t said
+          → Tied1 S s t said
       tied1 (ok z (go1 X) two a) = X
 
   two-all : {cs : List Call} {z : Dealer} {buf : List ℕ} {one : Side} {s : State} {t : List Pair} {said : List Spoken} → Closed (all S)
@@ -205,7 +206,7 @@ module _ (S : Stage) where
   two-all {s = s} {t = t} {said = said} shut r e = all-said of2 (joint2 A B) s t said shut (tied2 (kept S r)) e (two-front (fronts r))
     where
       tied2 : {z : Dealer} {buf : List ℕ} {one : Side} → Ok S (world z buf one (going s t said))
-          → Tied A B (all S) (j₀ S) of2 (joint2 A B) s t said
+          → Tied2 S s t said
       tied2 (ok z one (go2 Y) a) = Y
 
 -- ---- no place comes twice

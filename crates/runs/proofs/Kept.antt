@@ -96,6 +96,26 @@ module _ (S : Stage) where
   j₀-lengths =
       record { m = fresh-length (S .rm) (S .rm-full); l1 = fresh-length (S .r1) (S .r1-full); l2 = fresh-length (S .r2) (S .r2-full) }
 
+  -- position k of the joint walk; host 1 or 2 tied to it, and the words that they have spoken before position k
+  abbrev pub position : (k : ℕ) → Conf Triple
+  position k = joint A B all j₀ k
+
+  abbrev pub Tied1 : State → List Pair → List Spoken → Type 0
+  Tied1 s t said = Tied A B all j₀ of1 (joint1 A B) s t said
+
+  abbrev pub Tied2 : State → List Pair → List Spoken → Type 0
+  Tied2 s t said = Tied A B all j₀ of2 (joint2 A B) s t said
+
+  abbrev pub Heard1 : (k : ℕ) → List Spoken → Type 0
+  Heard1 k said = Heard A B all j₀ (joint1 A B) k said
+
+  abbrev pub Heard2 : (k : ℕ) → List Spoken → Type 0
+  Heard2 k said = Heard A B all j₀ (joint2 A B) k said
+
+  -- D begins with the deals of the joint walk
+  abbrev pub HasDeals : (D : List ℕ) → Type 0
+  HasDeals D = Supplied A B D all origin j₀
+
   -- ---- what is true of each host
 
   pub data DealerOk : Dealer → List ℕ → Type 0 where
@@ -105,11 +125,11 @@ module _ (S : Stage) where
 
   pub data OneOk : Side → Type 0 where
     wait1 : {s : State} → registers n s ≡ (S .rm, S .r1) → OneOk (waiting s)
-    go1 : {s : State} {t : List Pair} {said : List Spoken} → Tied A B all j₀ of1 (joint1 A B) s t said → OneOk (going s t said)
+    go1 : {s : State} {t : List Pair} {said : List Spoken} → Tied1 s t said → OneOk (going s t said)
 
   pub data TwoOk : Side → Type 0 where
     wait2 : {s : State} → registers n s ≡ (S .rm, S .r2) → TwoOk (waiting s)
-    go2 : {s : State} {t : List Pair} {said : List Spoken} → Tied A B all j₀ of2 (joint2 A B) s t said → TwoOk (going s t said)
+    go2 : {s : State} {t : List Pair} {said : List Spoken} → Tied2 s t said → TwoOk (going s t said)
 
   -- host 2 goes on only after the preparation
   abbrev pub After : Dealer → Side → Type 0
@@ -122,7 +142,7 @@ module _ (S : Stage) where
 
   -- ---- calls that complete keep it
 
-  pub supplied : (buf post D : List ℕ) → buf ≡ deals A B all origin (of0 j₀) ++ post → Dealt S buf D → Supplied A B D all origin j₀
+  pub supplied : (buf post D : List ℕ) → buf ≡ deals A B all origin (of0 j₀) ++ post → Dealt S buf D → HasDeals D
   supplied buf post D e h =
       let k : length (deals A B all origin (of0 j₀)) ≡ script-cost (S .script) .deals = deals-length A B all origin (of0 j₀) in
       starts-alike (deals A B all origin (of0 j₀)) post D (rw k (rw e at h))
@@ -164,7 +184,7 @@ module _ (S : Stage) where
       (go1 (tie-start A B all j₀ (worker1 A) of1 (joint1 A B) (joint2 A B) Always (shadow1 A B) tt (registers n s)
       (ap {B = Pair} (λ (p : Pair). fresh2 p) h)))
 
-  start2-ok : (D : List ℕ) (s : State) → Supplied A B D all origin j₀ → registers n s ≡ (S .rm, S .r2)
+  start2-ok : (D : List ℕ) (s : State) → HasDeals D → registers n s ≡ (S .rm, S .r2)
       → start (lent2 S D) (registers n s) .number ≡ 0
       → TwoOk (started S (lent2 S D) s)
   unfolding worker-with start-walk
@@ -173,8 +193,8 @@ module _ (S : Stage) where
       (go2 (tie-start A B all j₀ (worker2 B D) of2 (joint2 A B) (joint1 A B) (Supplied A B D) (shadow2 A B D) g (registers n s)
       (ap {B = Pair} (λ (p : Pair). fresh2 p) h)))
 
-  hear1-ok : (D : List ℕ) (s : State) (t : List Pair) (said said2 : List Spoken) (k v : ℕ) → Tied A B all j₀ of1 (joint1 A B) s t said
-      → Heard A B all j₀ (joint2 A B) k said2
+  hear1-ok : (D : List ℕ) (s : State) (t : List Pair) (said said2 : List Spoken) (k v : ℕ) → Tied1 s t said
+      → Heard2 k said2
       → Among (placed-word s v) said2 → hear (lent1 S D) s v .number ≡ 0 → OneOk (stepped S (lent1 S D) s v t said)
   unfolding worker-with found-of
   hear1-ok D s t said said2 k v Z H m e =
@@ -182,9 +202,9 @@ module _ (S : Stage) where
       rw q (go1 (tie-hear A B all j₀ (worker1 A) of1 (joint1 A B) (joint2 A B) Always (shadow1 A B) tt s t said said2 k v Z H m
       (rw q at e)))
 
-  hear2-ok : (D : List ℕ) (s : State) (t : List Pair) (said said1 : List Spoken) (k v : ℕ) → Supplied A B D all origin j₀
-      → Tied A B all j₀ of2 (joint2 A B) s t said
-      → Heard A B all j₀ (joint1 A B) k said1 → Among (placed-word s v) said1 → hear (lent2 S D) s v .number ≡ 0
+  hear2-ok : (D : List ℕ) (s : State) (t : List Pair) (said said1 : List Spoken) (k v : ℕ) → HasDeals D
+      → Tied2 s t said
+      → Heard1 k said1 → Among (placed-word s v) said1 → hear (lent2 S D) s v .number ≡ 0
       → TwoOk (stepped S (lent2 S D) s v t said)
   unfolding worker-with found-of
   hear2-ok D s t said said1 k v g Z H m e =
@@ -214,7 +234,7 @@ module _ (S : Stage) where
       → ((j : Triple) → Lengths (n + 8) j → (length (h j .0) ≡ n + 8) × (length (h j .1) ≡ n + 8)) → Tied A B all j₀ h say s t said
       → HasSlots n s
   holds-tied h say s t said f Z =
-      let g = f (joint A B all j₀ (Z .n) .state) (pos-lengths A B all j₀ (n + 8) (Z .n) j₀-lengths) in
+      let g = f (position (Z .n) .state) (pos-lengths A B all j₀ (n + 8) (Z .n) j₀-lengths) in
       rw (Z .is) (record { m = omega (arith, g .0); mask = omega (arith, g .1) })
 
   one-holds : {x : Side} → OneOk x → HasSlots n (side-state x)

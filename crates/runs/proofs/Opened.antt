@@ -20,7 +20,7 @@ use Rattle.calls.proofs.Scripts.{job-made}
 use Rattle.runs.proofs.Lists.{getD-map}
 use Rattle.runs.specs.Runs.{Setting, staged}
 use Rattle.runs.specs.Orders.{Words, trail, order-of, used-before, refresh-mask, share-before, share-after, value-after, source-value}
-use Rattle.runs.specs.Orders.{second-value, source-mask, Unwritten}
+use Rattle.runs.specs.Orders.{second-value, source-mask, Unwritten, Untargeted}
 use Rattle.runs.proofs.Chain.{job-orderly, gates-length, job-orders}
 use Rattle.runs.proofs.Gated.{trail-gates, program-leaves}
 use Rattle.runs.proofs.Spared.{slot-kept}
@@ -49,8 +49,7 @@ module _ (w : ℕ) (S : Setting) where
   -- ---- whatever the order: "the register keeps that until an order writes it"
 
   -- no step of order q writes a register that is not its target
-  pub untargeted : (q i : ℕ) → i < 16 → (q < length (orders (S .job)) → eqb i (order-of S q .target) ≡ false)
-      → Unwritten i q (staged w S .script .steps)
+  pub untargeted : (q i : ℕ) → i < 16 → Untargeted S q i → Unwritten i q (staged w S .script .steps)
   untargeted q i hi f =
       subst (λ (ss : List Step). Unwritten i q ss) (sym made)
       (unwritten-gates w i q gates

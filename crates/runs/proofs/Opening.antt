@@ -15,8 +15,8 @@ use Rattle.runs.proofs.Lists.{getD-map}
 use Rattle.runs.specs.Runs.{Stage, Spoken, World, Call, Run, order1, order2, Finished, opened-after}
 use Rattle.runs.specs.Orders.{first, trail, after-order, share-after, value-after}
 use Rattle.runs.proofs.Places.{trail-pos, trail-length}
-use Rattle.runs.proofs.Ties.{joint, Tied}
-use Rattle.runs.proofs.Kept.{all, j₀, last, not-yet, dealt-all, wait1, go1, wait2, go2, Ok, ok, kept}
+use Rattle.runs.proofs.Ties.{Tied}
+use Rattle.runs.proofs.Kept.{all, j₀, last, not-yet, dealt-all, wait1, go1, wait2, go2, Ok, ok, kept, position}
 
 module _ (S : Stage) where
   -- a host's trail has the joint walk's lanes as order q left them
@@ -25,7 +25,7 @@ module _ (S : Stage) where
   unfolding trail after-order
   entry h say s t said q Z l =
       let n : ℕ = Z .n in
-      let J : List Triple = joint (S .A) (S .B) (all S) (j₀ S) n .trail in
+      let J : List Triple = position S n .trail in
       let r = trail-pos (act (S .A) (S .B)) (all S) (j₀ S) n in
       let k : q < length J = rw (trail-length (act (S .A) (S .B)) (all S) (j₀ S) n) (rw (Z .is) at l) in (
         rw (r .1) (longer J (r .0) q k),

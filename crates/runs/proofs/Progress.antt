@@ -18,11 +18,12 @@ use Rattle.calls.specs.Scripts.{Script, script-cost, orders-in, ends}
 use Rattle.calls.specs.Lent.{Lent, worker1, worker2, or-else, lists-fault, lent-fault, dealer-lists-fault, dealer-fault, worker-with}
 use Rattle.calls.specs.Lent.{worker-of}
 use Rattle.calls.specs.Calls.{State, Answer, report, unless, given, start-walk, start, found-of, resume, hear, prepared, prepare}
-use Rattle.runs.specs.Runs.{Stage, Spoken, Dealer, going, World, world, registers, Call, lent1, lent2, Completes, prepares, starts1}
-use Rattle.runs.specs.Runs.{starts2, hears1, hears2, Run, order1, order2, buffer-of, Accepted}
+use Rattle.runs.specs.Runs.{Stage, Spoken, Dealer, going, World, world, Call, lent1, lent2, Completes, prepares, starts1}
+use Rattle.runs.specs.Runs.{starts2, hears1, hears2, Run, order1, order2, buffer-of, Accepted, held}
 use Rattle.runs.proofs.Places.{ends-pos, rest-later, exchange-or-end}
-use Rattle.runs.proofs.Ties.{shadow1, shadow2, joint, Tied, can-hear}
-use Rattle.runs.proofs.Kept.{all, j₀, supplied, not-yet, dealt-all, wait1, go1, wait2, go2, Ok, ok, kept}
+use Rattle.runs.proofs.Ties.{shadow1, shadow2, can-hear}
+use Rattle.runs.proofs.Kept.{all, j₀, supplied, not-yet, dealt-all, wait1, go1, wait2, go2, Ok, ok, kept, position, Tied1, Tied2}
+use Rattle.runs.proofs.Kept.{HasDeals}
 
 -- ---- no fault, no refusal
 
@@ -84,11 +85,11 @@ module _ (S : Stage) where
   Onward v = (c : Call) × (v′ : World) × Completes S c v v′
 
   module _ (z : Dealer) (buf : List ℕ) (s s2 : State) (t t2 : List Pair) (said said2 : List Spoken)
-      (X : Tied (S .A) (S .B) (all S) (j₀ S) of1 (joint1 (S .A) (S .B)) s t said)
-      (Y : Tied (S .A) (S .B) (all S) (j₀ S) of2 (joint2 (S .A) (S .B)) s2 t2 said2)
+      (X : Tied1 S s t said)
+      (Y : Tied2 S s2 t2 said2)
       (post : List ℕ) (g : buf ≡ deals (S .A) (S .B) (all S) origin (of0 (j₀ S)) ++ post) (acc : Accepted S buf) where
     abbrev at-n : ℕ → Conf Triple
-    at-n n = joint (S .A) (S .B) (all S) (j₀ S) n
+    at-n n = position S n
 
     ended : (n : ℕ) → at-n n .rest ≡ [] → at-n n .cur .order ≡ orders-in (S .script)
     unfolding ends
@@ -117,7 +118,7 @@ module _ (S : Stage) where
             inl (_, _, hears1 [] (c .word) (c .among) (hear-zero (lent1 S []) s (c .word) (lent1-zero buf acc []) (c .completes)))
         go (yes l) (inr e) y = inr (both-ended (rest-later (act (S .A) (S .B)) (all S) (j₀ S) (X .n) (Y .n) l e) e)
         go (no l) x (inl y) =
-            let h : Supplied (S .A) (S .B) buf (all S) origin (j₀ S) = supplied S buf post buf g refl in
+            let h : HasDeals S buf = supplied S buf post buf g refl in
             let c =
             can-hear (S .A) (S .B) (all S) (j₀ S) (worker2 (S .B) buf) of2 (joint2 (S .A) (S .B)) (joint1 (S .A) (S .B))
             (Supplied (S .A) (S .B) buf) (shadow2 (S .A) (S .B) buf) h s2 t2 said2 said (suc (X .n)) Y y (X .heard) (omega arith) in
@@ -138,9 +139,9 @@ module _ (S : Stage) where
       go : (v : World) → Ok S v → Accepted S (buffer-of v) → Onward v ⊎ Ended v
       go _ (ok {buf = buf} (not-yet {r = r} h) one two a) acc = inl (_, _, prepares (prepare-zero buf acc r))
       go _ (ok {buf = buf} (dealt-all p g h e) (wait1 {s = s} q) two a) acc =
-          inl (_, _, starts1 [] (start-zero (lent1 S []) (registers (S .script .slots) s) (lent1-zero buf acc [])))
+          inl (_, _, starts1 [] (start-zero (lent1 S []) (held S s) (lent1-zero buf acc [])))
       go _ (ok {buf = buf} (dealt-all p g h e) (go1 X) (wait2 {s = s} q) a) acc =
-          inl (_, _, starts2 buf refl (start-zero (lent2 S buf) (registers (S .script .slots) s) (lent2-zero buf acc buf (acc .deals))))
+          inl (_, _, starts2 buf refl (start-zero (lent2 S buf) (held S s) (lent2-zero buf acc buf (acc .deals))))
       go _ (ok {buf = buf} (dealt-all p g h e) (go1 X) (go2 Y) a) acc = move _ buf _ _ _ _ _ _ X Y p g acc
 
   -- "A run of a job accepted with its lists, after which only refused calls can stand, has finished every order."

@@ -24,13 +24,12 @@ use Rattle.runs.specs.Readings.{reading-of, mask-after, mask-given, Unwr
 use Rattle.runs.specs.Readings.{Readings}
 use Rattle.runs.proofs.Lists.{getD-map}
 use Rattle.runs.proofs.Places.{ends-pos}
-use Rattle.runs.proofs.Ties.{joint}
-use Rattle.runs.proofs.Kept.{all, j₀, last, not-yet, dealt-all, wait1, go1, wait2, go2, Ok, ok, kept}
+use Rattle.runs.proofs.Kept.{all, j₀, last, not-yet, dealt-all, wait1, go1, wait2, go2, Ok, ok, kept, position}
 use Rattle.runs.proofs.Spared.{slot-kept}
 use Rattle.runs.proofs.Opened.{untargeted}
 use Rattle.runs.proofs.Opening.{finished-order, finished-opens}
 use Rattle.runs.proofs.InJob.{good-order}
-use Rattle.runs.proofs.Returned.{start, start-is, Last, writer, nobody, last-of, unequal, target-is}
+use Rattle.runs.proofs.Returned.{given-share, given-share-is, Last, writer, nobody, last-of, unequal, target-is}
 
 -- ---- over any stage
 
@@ -42,7 +41,7 @@ module _ (S : Stage) where
       go : (v : World) → Ok S v → q < order1 v → q < orders-in (S .script)
       go _ (ok z (wait1 h) two a) l = absurd (not-suc-le-zero l)
       go _ (ok z (go1 X) two a) l =
-          let k : q < joint (S .A) (S .B) (all S) (j₀ S) (X .n) .cur .order = rw (X .is) at l in
+          let k : q < position S (X .n) .cur .order = rw (X .is) at l in
           omega (arith, ends-pos (act (S .A) (S .B)) (all S) (j₀ S) (X .n))
 
   -- "the register keeps that until an order writes it": from just before order p to just before order q
@@ -83,7 +82,7 @@ module _ (S : Stage) where
     given : (i : ℕ) → i < S .script .slots → UnwrittenBetween S 0 q i → opened-given w S i ≡ (0, reading-of w S q i)
     unfolding reading-of opened-given before-order
     given i hi u =
-        share-opens w (start w S i hi) ∙ sym (ap read (kept-to 0 i q (omega arith) before u ∙ start-is w S i hi))
+        share-opens w (given-share w S i hi) ∙ sym (ap read (kept-to 0 i q (omega arith) before u ∙ given-share-is w S i hi))
 
     mask-written : (p i : ℕ) → p < q → UnwrittenBetween S (suc p) q i → mask-after w v p i ≡ mask-before w S q i
     unfolding mask-after before-order
@@ -93,7 +92,7 @@ module _ (S : Stage) where
 
     mask-kept : (i : ℕ) → i < S .script .slots → UnwrittenBetween S 0 q i → mask-given w S i ≡ mask-before w S q i
     unfolding mask-given before-order
-    mask-kept i hi u = sym (ap (mask (numbers w)) (kept-to 0 i q (omega arith) before u ∙ start-is w S i hi))
+    mask-kept i hi u = sym (ap (mask (numbers w)) (kept-to 0 i q (omega arith) before u ∙ given-share-is w S i hi))
 
 -- ---- of a job
 

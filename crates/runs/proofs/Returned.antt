@@ -16,12 +16,12 @@ use Rattle.shares.specs.Gates.{Share, value}
 use Rattle.shares.proofs.RoundTrip.{share-opens}
 use Rattle.gates.specs.Steps.{Lane, at, Step, local, deal, exchange, end, Cursor, origin, past, Exchange}
 use Rattle.gates.specs.Walk.{Conf, conf, whole, next}
-use Rattle.gates.specs.Hosts.{Pair, Triple, of1, of2, act, joint1, joint2, share}
+use Rattle.gates.specs.Hosts.{Pair, Triple, of1, of2, act, share}
 use Rattle.jobs.specs.Job.{orders}
 use Rattle.calls.specs.Scripts.{orders-in, Closed}
 use Rattle.calls.specs.Calls.{State, fresh}
-use Rattle.runs.specs.Runs.{Stage, Setting, staged, Spoken, Dealer, dealer-holds, Side, World, Call, Run, registers, order1, order2}
-use Rattle.runs.specs.Runs.{Finished, opened-slot, opened-after}
+use Rattle.runs.specs.Runs.{Stage, Setting, staged, Spoken, Dealer, dealer-holds, Side, World, Call, Run, order1, order2}
+use Rattle.runs.specs.Runs.{Finished, opened-slot, opened-after, held}
 use Rattle.runs.specs.Orders.{Words, trail, after-order, Unwritten, order-of}
 use Rattle.runs.specs.Orders.{Finishes, share-after, value-after}
 use Rattle.runs.specs.Returned.{side-holds, opened-now, opened-given, UnwrittenFrom, Holds, by-order, by-given, UntargetedFrom}
@@ -29,6 +29,7 @@ use Rattle.runs.specs.Returned.{JobHolds, of-order, of-given, Returned}
 use Rattle.runs.proofs.Places.{pos, trail-pos, trail-length, whole-pos}
 use Rattle.runs.proofs.Ties.{joint, Tied}
 use Rattle.runs.proofs.Kept.{all, j₀, last, DealerOk, not-yet, dealt-all, OneOk, wait1, go1, TwoOk, wait2, go2, Ok, ok, kept}
+use Rattle.runs.proofs.Kept.{position, Tied1, Tied2}
 use Rattle.runs.proofs.Opened.{untargeted}
 use Rattle.runs.proofs.InJob.{good-order}
 use Rattle.runs.proofs.Opening.{finished-order, finished-opens}
@@ -144,10 +145,10 @@ module _ (w : ℕ) (S : Stage) (i : ℕ) (hi : i < S .script .slots) where
   -- what host 1 or 2 holds in slot i is its part of the joint walk's position that it stands at
   module _ (h : Triple → Pair) (say : Exchange → Cursor → Triple → ℕ) (s : State) (t : List Pair) (said : List Spoken)
       (Z : Tied (S .A) (S .B) (all S) (j₀ S) h say s t said) where
-    m-has : at (take (S .script .slots) (s .m)) i ≡ at (h (joint (S .A) (S .B) (all S) (j₀ S) (Z .n) .state) .0) i
+    m-has : at (take (S .script .slots) (s .m)) i ≡ at (h (position S (Z .n) .state) .0) i
     m-has = front (s .m) ∙ ap (λ (s : State). at (s .m) i) (Z .is)
 
-    mask-has : at (take (S .script .slots) (s .mask)) i ≡ at (h (joint (S .A) (S .B) (all S) (j₀ S) (Z .n) .state) .1) i
+    mask-has : at (take (S .script .slots) (s .mask)) i ≡ at (h (position S (Z .n) .state) .1) i
     mask-has = front (s .mask) ∙ ap (λ (s : State). at (s .mask) i) (Z .is)
 
   -- the three hosts hold slot i of x where the joint walk's positions that they stand at do
@@ -161,15 +162,15 @@ module _ (w : ℕ) (S : Stage) (i : ℕ) (hi : i < S .script .slots) where
     )
 
     host1-has : (s : State) (t : List Pair) (said : List Spoken)
-        (Z : Tied (S .A) (S .B) (all S) (j₀ S) of1 (joint1 (S .A) (S .B)) s t said)
-        → share (joint (S .A) (S .B) (all S) (j₀ S) (Z .n) .state) i ≡ x
+        (Z : Tied1 S s t said)
+        → share (position S (Z .n) .state) i ≡ x
         → (at (take (S .script .slots) (s .m)) i ≡ x .m) × (at (take (S .script .slots) (s .mask)) i ≡ x .l1)
     host1-has s t said Z e =
         (m-has of1 _ s t said Z ∙ ap (λ (y : Share ℕ). y .m) e, mask-has of1 _ s t said Z ∙ ap (λ (y : Share ℕ). y .l1) e)
 
     host2-has : (s : State) (t : List Pair) (said : List Spoken)
-        (Z : Tied (S .A) (S .B) (all S) (j₀ S) of2 (joint2 (S .A) (S .B)) s t said)
-        → share (joint (S .A) (S .B) (all S) (j₀ S) (Z .n) .state) i ≡ x
+        (Z : Tied2 S s t said)
+        → share (position S (Z .n) .state) i ≡ x
         → (at (take (S .script .slots) (s .m)) i ≡ x .m) × (at (take (S .script .slots) (s .mask)) i ≡ x .l2)
     host2-has s t said Z e =
         (m-has of2 _ s t said Z ∙ ap (λ (y : Share ℕ). y .m) e, mask-has of2 _ s t said Z ∙ ap (λ (y : Share ℕ). y .l2) e)
@@ -190,7 +191,7 @@ module _ (w : ℕ) (S : Stage) (i : ℕ) (hi : i < S .script .slots) where
       at-end : q < length (trail S) → share (last S .state) i ≡ share-after S q i
       at-end l =
           let e = last-is (S .A) (S .B) (all S) (j₀ S) in
-          let k : q < length (joint (S .A) (S .B) (all S) (j₀ S) (length (all S)) .trail) = rw (← ap (λ (p : Conf Triple). p .trail) e) l in
+          let k : q < length (position S (length (all S)) .trail) = rw (← ap (λ (p : Conf Triple). p .trail) e) l in
           ap (λ (p : Conf Triple). share (p .state) i) e
           ∙ past-is (S .A) (S .B) (all S) (j₀ S) q i (length (all S)) h
           (rw (trail-length (act (S .A) (S .B)) (all S) (j₀ S) (length (all S))) at k)
@@ -204,7 +205,7 @@ module _ (w : ℕ) (S : Stage) (i : ℕ) (hi : i < S .script .slots) where
           let p0 = host0-has (share-after S q i) r (at-end m) a in
           let p1 = host1-has (share-after S q i) _ _ _ X (past-is (S .A) (S .B) (all S) (j₀ S) q i (X .n) h (rw (X .is) at l)) in
           let p2 = host2-has (share-after S q i) _ _ _ Y (past-is (S .A) (S .B) (all S) (j₀ S) q i (Y .n) h (rw (Y .is) at k)) in
-          same-share w r (registers (S .script .slots) s1) (registers (S .script .slots) s2) i (share-after S q i) (p0 .0) (p0 .1) (p1 .0)
+          same-share w r (held S s1) (held S s2) i (share-after S q i) (p0 .0) (p0 .1) (p1 .0)
           (p1 .1) (p2 .0) (p2 .1)
 
   -- ---- a register that no order writes
@@ -214,11 +215,11 @@ module _ (w : ℕ) (S : Stage) (i : ℕ) (hi : i < S .script .slots) where
   given-at l n = List·getD-append l (replicate 8 0) 0 i (omega arith)
 
   -- what was given, as a share
-  abbrev pub start : Share ℕ
-  start = record { m = at (S .rm) i; l1 = at (S .r1) i; l2 = at (S .r2) i }
+  abbrev pub given-share : Share ℕ
+  given-share = record { m = at (S .rm) i; l1 = at (S .r1) i; l2 = at (S .r2) i }
 
-  pub start-is : share (j₀ S) i ≡ start
-  start-is = rw (given-at (S .rm) (S .rm-full), given-at (S .r1) (S .r1-full), given-at (S .r2) (S .r2-full))
+  pub given-share-is : share (j₀ S) i ≡ given-share
+  given-share-is = rw (given-at (S .rm) (S .rm-full), given-at (S .r1) (S .r1-full), given-at (S .r2) (S .r2-full))
 
   pub now-given : {cs : List Call} (v : World) → Run S cs v → UnwrittenFrom S 0 i → opened-now w (S .script .slots) v i ≡ opened-given w S i
   unfolding opened-now opened-given
@@ -227,33 +228,35 @@ module _ (w : ℕ) (S : Stage) (i : ℕ) (hi : i < S .script .slots) where
       h : SparedFrom i 0 (all S)
       h = spared-all S 0 i u
 
-      here : (n : ℕ) → share (joint (S .A) (S .B) (all S) (j₀ S) n .state) i ≡ start
-      here n = never (S .A) (S .B) (all S) (j₀ S) i h n .1 ∙ start-is
+      here : (n : ℕ) → share (position S n .state) i ≡ given-share
+      here n = never (S .A) (S .B) (all S) (j₀ S) i h n .1 ∙ given-share-is
 
       zero-has : (z : Dealer) (buf : List ℕ) → DealerOk S z buf
-          → (at (dealer-holds z .0) i ≡ start .l1) × (at (dealer-holds z .1) i ≡ start .l2)
+          → (at (dealer-holds z .0) i ≡ given-share .l1) × (at (dealer-holds z .1) i ≡ given-share .l2)
       zero-has _ _ (not-yet a) = (ap (λ (p : Pair). at (p .0) i) a, ap (λ (p : Pair). at (p .1) i) a)
       zero-has _ _ (dealt-all {r = r} p g a e) =
-          host0-has start r (ap (λ (p : Conf Triple). share (p .state) i) (last-is (S .A) (S .B) (all S) (j₀ S)) ∙ here (length (all S))) a
+          host0-has given-share r
+          (ap (λ (p : Conf Triple). share (p .state) i) (last-is (S .A) (S .B) (all S) (j₀ S)) ∙ here (length (all S))) a
 
       one-has : (x : Side) → OneOk S x
-          → (at (side-holds (S .script .slots) x .0) i ≡ start .m) × (at (side-holds (S .script .slots) x .1) i ≡ start .l1)
+          → (at (side-holds (S .script .slots) x .0) i ≡ given-share .m) × (at (side-holds (S .script .slots) x .1) i ≡ given-share .l1)
       one-has _ (wait1 a) = (ap (λ (p : Pair). at (p .0) i) a, ap (λ (p : Pair). at (p .1) i) a)
-      one-has _ (go1 X) = host1-has start _ _ _ X (here (X .n))
+      one-has _ (go1 X) = host1-has given-share _ _ _ X (here (X .n))
 
       two-has : (x : Side) → TwoOk S x
-          → (at (side-holds (S .script .slots) x .0) i ≡ start .m) × (at (side-holds (S .script .slots) x .1) i ≡ start .l2)
+          → (at (side-holds (S .script .slots) x .0) i ≡ given-share .m) × (at (side-holds (S .script .slots) x .1) i ≡ given-share .l2)
       two-has _ (wait2 a) = (ap (λ (p : Pair). at (p .0) i) a, ap (λ (p : Pair). at (p .1) i) a)
-      two-has _ (go2 Y) = host2-has start _ _ _ Y (here (Y .n))
+      two-has _ (go2 Y) = host2-has given-share _ _ _ Y (here (Y .n))
 
       go : (v : World) → Ok S v → opened-now w (S .script .slots) v i ≡ opened-given w S i
       go _ (ok {z = z} {buf = buf} {one = one} {two = two} a b c d) =
           let p0 = zero-has z buf a in
           let p1 = one-has one b in
           let p2 = two-has two c in
-          same-share w (dealer-holds z) (side-holds (S .script .slots) one) (side-holds (S .script .slots) two) i start (p0 .0) (p0 .1)
+          same-share w (dealer-holds z) (side-holds (S .script .slots) one) (side-holds (S .script .slots) two) i given-share (p0 .0)
+          (p0 .1)
           (p1 .0) (p1 .1) (p2 .0) (p2 .1)
-          ∙ sym (same-share w (S .r1, S .r2) (S .rm, S .r1) (S .rm, S .r2) i start refl refl refl refl refl refl)
+          ∙ sym (same-share w (S .r1, S .r2) (S .rm, S .r1) (S .rm, S .r2) i given-share refl refl refl refl refl refl)
 
 written : (w : ℕ) (S : Stage) (q : ℕ) (v : World) → Finishes w S q v → (i : ℕ) → i < S .script .slots → UnwrittenFrom S (suc q) i
     → opened-now w (S .script .slots) v i ≡ opened-after w v q i

@@ -16,15 +16,16 @@ use Rattle.calls.specs.Scripts.{script-cost}
 use Rattle.calls.specs.Places.{seek}
 use Rattle.calls.specs.Lent.{worker2, or-else, lists-fault, lent-fault, worker-with}
 use Rattle.calls.specs.Calls.{State, Answer, fresh2, word-at, spoken-at, state-of, start-walk, start, hear-walk, found-of, resume, hear}
-use Rattle.runs.specs.Runs.{Stage, Spoken, placed-word, Among, ready, Side, waiting, going, World, world, registers, Call, starting1}
+use Rattle.runs.specs.Runs.{Stage, Spoken, placed-word, Among, ready, Side, waiting, going, World, world, Call, starting1}
 use Rattle.runs.specs.Runs.{starting2, hearing1, hearing2, lent1, lent2, started, stepped, Completes, prepares, starts1, starts2}
-use Rattle.runs.specs.Runs.{hears1, hears2, Run, begin, complete, refuse}
+use Rattle.runs.specs.Runs.{hears1, hears2, Run, begin, complete, refuse, held}
 use Rattle.runs.specs.Strict.{Narrow, none, refuses, StrictRun, Strict}
 use Rattle.runs.proofs.Places.{Halted, one-halt}
-use Rattle.runs.proofs.Ties.{shadow2, joint, words, Heard, Tied, Went, starts, hears-on, word-right}
+use Rattle.runs.proofs.Ties.{shadow2, words, Went, starts, hears-on, word-right}
 use Rattle.runs.proofs.Refusals.{start-none, hear-none}
 use Rattle.runs.proofs.Started.{or-else-none}
-use Rattle.runs.proofs.Kept.{all, j₀, supplied, deals-fit, not-yet, dealt-all, go1, wait2, go2, Ok, ok, kept}
+use Rattle.runs.proofs.Kept.{all, j₀, supplied, deals-fit, not-yet, dealt-all, go1, wait2, go2, Ok, ok, kept, position, Tied2}
+use Rattle.runs.proofs.Kept.{Heard1, HasDeals}
 use Rattle.runs.proofs.Progress.{start-zero, hear-zero}
 use Rattle.runs.proofs.Strict.{BothSpent, both, spent, wide, start-other, hear-other1, resume-number, unheard, moved1, moved2}
 use Rattle.runs.proofs.Strict.{finished-all, strictly-ended, longer, next-run, carried, begun}
@@ -37,7 +38,7 @@ module _ (S : Stage) where
   B = S .B
 
   abbrev at-n : ℕ → Conf Triple
-  at-n n = joint A B (all S) (j₀ S) n
+  at-n n = position S n
 
   -- ---- host 1 takes no notice of the deals
 
@@ -52,8 +53,8 @@ module _ (S : Stage) where
 
   -- ---- host 2, on two lists that both begin with the deals
 
-  module _ (D E : List ℕ) (g : Supplied A B D (all S) origin (j₀ S)) (f : Supplied A B E (all S) origin (j₀ S)) where
-    abbrev Went2 : (F : List ℕ) → Supplied A B F (all S) origin (j₀ S) → ℕ → List Pair → Answer → List Pair → Type 0
+  module _ (D E : List ℕ) (g : HasDeals S D) (f : HasDeals S E) where
+    abbrev Went2 : (F : List ℕ) → HasDeals S F → ℕ → List Pair → Answer → List Pair → Type 0
     Went2 F x = Went A B (all S) (j₀ S) (worker2 B F) of2 (joint2 A B) (joint1 A B) (Supplied A B F) (shadow2 A B F) x
 
     answer-of : Conf Triple → Answer
@@ -76,21 +77,21 @@ module _ (S : Stage) where
     side-path : {s s′ : State} {t t′ : List Pair} {u u′ : List Spoken} → s ≡ s′ → t ≡ t′ → u ≡ u′ → going s t u ≡ going s′ t′ u′
     side-path p q r = rw (p, q, r)
 
-    started-same2 : (s : State) → registers (S .script .slots) s ≡ (S .rm, S .r2)
-        → start (lent2 S D) (registers (S .script .slots) s) .number ≡ 0 → start (lent2 S E) (registers (S .script .slots) s) .number ≡ 0
+    started-same2 : (s : State) → held S s ≡ (S .rm, S .r2)
+        → start (lent2 S D) (held S s) .number ≡ 0 → start (lent2 S E) (held S s) .number ≡ 0
         → started S (lent2 S E) s ≡ started S (lent2 S D) s
     unfolding worker-with start-walk
     started-same2 s h e e′ =
-        let x = start-none (lent2 S D) (registers (S .script .slots) s) e .1 in
-        let y = start-none (lent2 S E) (registers (S .script .slots) s) e′ .1 in
+        let x = start-none (lent2 S D) (held S s) e .1 in
+        let y = start-none (lent2 S E) (held S s) e′ .1 in
         let X =
         starts A B (all S) (j₀ S) (worker2 B D) of2 (joint2 A B) (joint1 A B) (Supplied A B D) (shadow2 A B D) g
-        (registers (S .script .slots) s) (ap {B = Pair} (λ (p : Pair). fresh2 p) h) in
+        (held S s) (ap {B = Pair} (λ (p : Pair). fresh2 p) h) in
         let Y =
         starts A B (all S) (j₀ S) (worker2 B E) of2 (joint2 A B) (joint1 A B) (Supplied A B E) (shadow2 A B E) f
-        (registers (S .script .slots) s) (ap {B = Pair} (λ (p : Pair). fresh2 p) h) in
+        (held S s) (ap {B = Pair} (λ (p : Pair). fresh2 p) h) in
         let z = same-went 0 [] _ _ _ _ X Y in
-        let u : start (lent2 S E) (registers (S .script .slots) s) ≡ start (lent2 S D) (registers (S .script .slots) s) =
+        let u : start (lent2 S E) (held S s) ≡ start (lent2 S D) (held S s) =
         y ∙ sym (z .0) ∙ sym x in
         side-path (ap (λ (a : Answer). a .state) u) (sym (z .1))
         (ap {B = List Spoken} (λ (a : Answer). placed-word (a .state) (a .word) ∷ []) u)
@@ -107,7 +108,7 @@ module _ (S : Stage) where
         (hears-on A B (all S) (j₀ S) (worker2 B D) of2 (joint2 A B) (joint1 A B) (Supplied A B D) (shadow2 A B D) g n v x h e)
         (hears-on A B (all S) (j₀ S) (worker2 B E) of2 (joint2 A B) (joint1 A B) (Supplied A B E) (shadow2 A B E) f n v x h e)
 
-    heard-same : (s : State) (t : List Pair) (said : List Spoken) (v : ℕ) (Z : Tied A B (all S) (j₀ S) of2 (joint2 A B) s t said)
+    heard-same : (s : State) (t : List Pair) (said : List Spoken) (v : ℕ) (Z : Tied2 S s t said)
         → Exchanging (at-n (Z .n) .rest)
         → v ≡ words A B (all S) (j₀ S) (joint1 A B) (Z .n)
         → (resume (worker2 B D) s v (seek (s .order) (s .turn) (all S) origin)
@@ -116,8 +117,8 @@ module _ (S : Stage) where
         ≡ t ++ hear-walk (worker2 B E) s v (seek (s .order) (s .turn) (all S) origin) .trail)
     heard-same s t said v Z x e = rw (Z .is, Z .trails) (heard-same-at (Z .n) v x (Z .halts) e)
 
-    stepped-same2 : (s : State) (t : List Pair) (said said1 : List Spoken) (k v : ℕ) → Tied A B (all S) (j₀ S) of2 (joint2 A B) s t said
-        → Heard A B (all S) (j₀ S) (joint1 A B) k said1 → Among (placed-word s v) said1 → hear (lent2 S D) s v .number ≡ 0
+    stepped-same2 : (s : State) (t : List Pair) (said said1 : List Spoken) (k v : ℕ) → Tied2 S s t said
+        → Heard1 S k said1 → Among (placed-word s v) said1 → hear (lent2 S D) s v .number ≡ 0
         → hear (lent2 S E) s v .number ≡ 0
         → stepped S (lent2 S E) s v t said ≡ stepped S (lent2 S D) s v t said
     unfolding worker-with found-of
@@ -170,12 +171,12 @@ module _ (S : Stage) where
     exactly (prepares e) o b = (prepares e, tt)
     exactly {h1 = h1} {h2 = h2} (starts1 {z = z} {buf = buf} {s = s} {two = two} D e) o b =
         subst (λ (x : Side). Exactly starting1 (world z buf (waiting s) two) h1 h2 (world z buf x two)) (started-same1 D E s)
-        (starts1 E (start-other S E D (registers (S .script .slots) s) e), refl)
+        (starts1 E (start-other S E D (held S s) e), refl)
     exactly {h1 = h1} {h2 = h2} (starts2 {r = r} {t₀ = t₀} {buf = buf} {s = s} {one = one} D d e) (ok (dealt-all p g h k) x (wait2 q) a) b =
         let l = deals-fit S buf p g in
         let e′ =
-        start-zero (lent2 S buf) (registers (S .script .slots) s)
-        (buffer-passes D buf (start-none (lent2 S D) (registers (S .script .slots) s) e .0) l) in
+        start-zero (lent2 S buf) (held S s)
+        (buffer-passes D buf (start-none (lent2 S D) (held S s) e .0) l) in
         subst (λ (x : Side). Exactly starting2 (world (ready r t₀) buf one (waiting s)) h1 h2 (world (ready r t₀) buf one x))
         (started-same2 D buf (supplied S buf p D g d) (supplied S buf p buf g refl) s q e e′) (starts2 buf refl e′, refl)
     exactly {h1 = h1} {h2 = h2} (hears1 {z = z} {buf = buf} {s = s} {s2 = s2} {t = t} {t2 = t2} {said = said} {said2 = said2} D v m e)

@@ -16,7 +16,7 @@ use Rattle.runs.specs.Runs.{Stage, Spoken, Dealer, ready, Side, going, w
 use Rattle.runs.specs.Orders.{trail, after-order, before-order, Unwritten, share-before}
 use Rattle.runs.proofs.Places.{pos, ends-pos, trail-pos, trail-length}
 use Rattle.runs.proofs.Ties.{joint, Tied}
-use Rattle.runs.proofs.Kept.{all, j₀, last, Ok, ok, dealt-all, go1, go2, kept}
+use Rattle.runs.proofs.Kept.{all, j₀, last, Ok, ok, dealt-all, go1, go2, kept, position}
 use Rattle.runs.proofs.Unwritten.{act-misses, closed-from}
 use Rattle.runs.proofs.Returned.{rest-length, last-is}
 
@@ -105,7 +105,7 @@ module _ (S : Stage) where
   B = S .B
 
   abbrev point : ℕ → Conf Triple
-  point n = joint A B (all S) (j₀ S) n
+  point n = position S n
 
   before-is : (n q : ℕ) → point n .cur .order ≡ q → before A B (all S) (j₀ S) q (point n .trail) ≡ before-order S q
   unfolding before before-order after-order trail

@@ -11,8 +11,8 @@ use lib.ListN.{length}
 use Rattle.jobs.specs.Job.{Fault, short-a}
 use Rattle.calls.specs.Scripts.{script-cost}
 use Rattle.calls.specs.Lent.{or-else, lists-fault, lent-fault}
-use Rattle.runs.specs.Runs.{Stage, waiting, going, World, world, Call, registers, lent1, Completes, prepares, starts1, starts2}
-use Rattle.runs.specs.Runs.{hears1, hears2, given-out, Run, begin, complete, refuse, order1}
+use Rattle.runs.specs.Runs.{Stage, waiting, going, World, world, Call, lent1, Completes, prepares, starts1, starts2}
+use Rattle.runs.specs.Runs.{hears1, hears2, given-out, Run, begin, complete, refuse, order1, held}
 use Rattle.runs.proofs.Refusals.{start-none}
 use Rattle.runs.proofs.Kept.{refuses-nothing, kept}
 
@@ -48,7 +48,7 @@ module _ (S : Stage) where
   completed : {c : Call} {v v′ : World} → Completes S c v v′ → (Gone v → Checked S) → Gone v′ → Checked S
   completed (prepares {one = waiting s} e) h g = absurd g
   completed (prepares {one = going s t said} e) h g = h tt
-  completed (starts1 {s = s} D e) h g = checked-of S D (start-none (lent1 S D) (registers (S .script .slots) s) e .0)
+  completed (starts1 {s = s} D e) h g = checked-of S D (start-none (lent1 S D) (held S s) e .0)
   completed (starts2 {one = waiting s} D d e) h g = absurd g
   completed (starts2 {one = going s t said} D d e) h g = h tt
   completed (hears1 D v m e) h g = h tt

@@ -17,12 +17,13 @@ use Rattle.calls.specs.Lent.{Worker, worker1, worker2, lists-fault, lent-fault,
 use Rattle.calls.specs.Calls.{State, Answer, fresh, state-of, unless, given, start, place-fault, found-of, resume, hear}
 use Rattle.runs.specs.Runs.{Stage, Spoken, Among, Dealer, idle, ready, Side, waiting, going, World, world, registers, Call, lent1}
 use Rattle.runs.specs.Runs.{lent2, Completes, prepares, starts1, starts2, hears1, hears2, Begins, given-out, Run, begin, complete}
-use Rattle.runs.specs.Runs.{refuse, Finished, buffer-of, Accepted, placed-word}
+use Rattle.runs.specs.Runs.{refuse, Finished, buffer-of, Accepted, placed-word, held}
 use Rattle.runs.specs.Strict.{Narrow, heard-by-1, heard-by-2, Calls, none, completes, refuses, StrictRun, Done}
 use Rattle.runs.proofs.Places.{Halted, steps-in, seek-pos, once, shrinks}
-use Rattle.runs.proofs.Ties.{Shadow, shadow1, shadow2, joint, Heard, Tied, live-at, word-right, hears-on}
+use Rattle.runs.proofs.Ties.{Shadow, shadow1, shadow2, Heard, Tied, live-at, word-right, hears-on}
 use Rattle.runs.proofs.Refusals.{start-none, hear-none}
-use Rattle.runs.proofs.Kept.{all, j₀, supplied, deals-fit, not-yet, dealt-all, go1, go2, Ok, ok, refuses-nothing, kept}
+use Rattle.runs.proofs.Kept.{all, j₀, supplied, deals-fit, not-yet, dealt-all, go1, go2, Ok, ok, refuses-nothing, kept, position}
+use Rattle.runs.proofs.Kept.{Heard1, Heard2, HasDeals}
 use Rattle.runs.proofs.Progress.{start-zero, hear-zero, lent2-zero, Ended, Onward, progress, stuck-ended}
 use Rattle.runs.proofs.Returned.{rest-length}
 
@@ -45,7 +46,7 @@ module _ (S : Stage) where
   B = S .B
 
   abbrev pub at-n : ℕ → Conf Triple
-  at-n n = joint A B (all S) (j₀ S) n
+  at-n n = position S n
 
   -- a host that stands at position n
   pub record Stands (h : Triple → Pair) (s : State) (n : ℕ) : Type 0 where
@@ -78,7 +79,7 @@ module _ (S : Stage) where
         → Moved h (resume P s v (seek (s .order) (s .turn) (all S) origin) .state) n
     moved s n k v said Z H m e = rw (Z .is) (moved-at n k v said (Z .halts) H (rw (Z .is) at m) (rw (Z .is) at e))
 
-  pub moved1 : (D : List ℕ) (s : State) (n k v : ℕ) (said2 : List Spoken) → Stands of1 s n → Heard A B (all S) (j₀ S) (joint2 A B) k said2
+  pub moved1 : (D : List ℕ) (s : State) (n k v : ℕ) (said2 : List Spoken) → Stands of1 s n → Heard2 S k said2
       → Among (placed-word s v) said2
       → hear (lent1 S D) s v .number ≡ 0 → Moved of1 (hear (lent1 S D) s v .state) n
   unfolding worker-with found-of
@@ -86,8 +87,8 @@ module _ (S : Stage) where
       let q = hear-none (lent1 S D) s v e .1 in
       rw q (moved (worker1 A) of1 (joint1 A B) (joint2 A B) Always (shadow1 A B) tt s n k v said2 Z H m (rw q at e))
 
-  pub moved2 : (D : List ℕ) → Supplied A B D (all S) origin (j₀ S) → (s : State) (n k v : ℕ) (said1 : List Spoken) → Stands of2 s n
-      → Heard A B (all S) (j₀ S) (joint1 A B) k said1 → Among (placed-word s v) said1
+  pub moved2 : (D : List ℕ) → HasDeals S D → (s : State) (n k v : ℕ) (said1 : List Spoken) → Stands of2 s n
+      → Heard1 S k said1 → Among (placed-word s v) said1
       → hear (lent2 S D) s v .number ≡ 0 → Moved of2 (hear (lent2 S D) s v .state) n
   unfolding worker-with found-of
   moved2 D g s n k v said1 Z H m e =
@@ -216,11 +217,11 @@ module _ (S : Stage) where
         → Tight c v h1 h2
     tight (prepares e) o b acc = record { next = _; call = prepares e; narrow = tt }
     tight (starts1 {s = s} D e) o b acc =
-        record { next = _; call = starts1 E (start-other D (registers (S .script .slots) s) e); narrow = refl }
+        record { next = _; call = starts1 E (start-other D (held S s) e); narrow = refl }
     tight (starts2 {buf = buf} {s = s} D d e) o b acc =
         record {
           next = _;
-          call = starts2 buf refl (start-zero (lent2 S buf) (registers (S .script .slots) s) (lent2-zero S buf acc buf (acc .deals)));
+          call = starts2 buf refl (start-zero (lent2 S buf) (held S s) (lent2-zero S buf acc buf (acc .deals)));
           narrow = refl;
         }
     tight (hears1 {s = s} D v m e) (ok z (go1 X) (go2 Y) x) (both a b) acc =

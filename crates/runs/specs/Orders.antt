@@ -6,7 +6,7 @@ use mathlib.Core.List.{List, [], _∷_}
 use Prim.Native.Nat.{ℕ, zero, suc, _+_, _^_, _<_}
 use lib.Dec.{eqb}
 use lib.IntN.{ℤ}
-use lib.ListN.{getD}
+use lib.ListN.{getD, length}
 use Rattle.words.specs.Words.{add, numbers}
 use Rattle.words.specs.Signed.{signed}
 use Rattle.shares.specs.Gates.{Share, value, mask}
@@ -86,6 +86,10 @@ mask-behind w A B k gs = add w (at A (k .a + program-cost w gs .a)) (at B (k .b 
 -- order q
 unfoldable pub order-of : Setting → ℕ → Order
 order-of S q = order (orders (S .job)) q
+
+-- register i is not the target of order q, if there is such an order
+abbrev pub Untargeted : Setting → (q i : ℕ) → Type 0
+Untargeted S q i = q < length (orders (S .job)) → eqb i (order-of S q .target) ≡ false
 
 -- the counts of the first q of a list of programs
 unfoldable pub first-counts : (w q : ℕ) → List (List Gate) → Cost

@@ -1,10 +1,8 @@
 -- What the three hosts hold after a run: the masks that the preparation returned, and the registers in the states
 -- that starting and hearing returned. What opening gives on them. Assumes nothing.
 use mathlib.Core.Path.{_≡_}
-use mathlib.Core.Bool.{false}
 use mathlib.Core.List.{List}
 use Prim.Native.Nat.{ℕ, suc, _≤_, _<_}
-use lib.Dec.{eqb}
 use lib.IntN.{ℤ}
 use lib.ListN.{length}
 use Rattle.gates.specs.Hosts.{Pair}
@@ -13,7 +11,7 @@ use Rattle.calls.specs.Scripts.{orders-in, Orderly}
 use Rattle.runs.specs.Runs.{Stage, Setting, staged, Side, dealer-holds, side-state, World, world}
 use Rattle.runs.specs.Runs.{registers, Call, Run, Finished, opened-slot, opened-after}
 use Rattle.runs.specs.Orders.{Words, Unwritten, order-of}
-use Rattle.runs.specs.Orders.{opens, Finishes}
+use Rattle.runs.specs.Orders.{opens, Finishes, Untargeted}
 
 -- the first n slots, for a job sixteen registers, in the state that host 1 or 2 holds
 abbrev pub side-holds : (n : ℕ) → Side → Pair
@@ -44,8 +42,7 @@ pub data Holds (w : ℕ) (S : Stage) (v : World) (i : ℕ) : Type 0 where
 
 -- no order of the job from order q on writes register i
 abbrev pub UntargetedFrom : Setting → (q i : ℕ) → Type 0
-UntargetedFrom S q i =
-    (p : ℕ) → q ≤ p → p < length (orders (S .job)) → eqb i (order-of S p .target) ≡ false
+UntargetedFrom S q i = (p : ℕ) → q ≤ p → Untargeted S p i
 
 -- what register i opens after the whole job: what the last order that writes it opened, or where none does what was
 -- given
