@@ -7,7 +7,7 @@ use Rattle.gates.specs.Hosts.{Pair, of1, of2, joint1, joint2, Supplied}
 use Rattle.gates.proofs.Seen.{Always}
 use Rattle.calls.specs.Lent.{worker1, worker2, worker-with}
 use Rattle.calls.specs.Calls.{State, Answer, fresh2, start-walk, start, found-of, hear}
-use Rattle.runs.specs.Runs.{Stage, Spoken, Among, lent1, lent2, placed-word, held}
+use Rattle.runs.specs.Runs.{Stage, Spoken, placed-word, Among, lent1, lent2, held}
 use Rattle.runs.proofs.Ties.{shadow1, shadow2, Answered, start-answered, hear-answered}
 use Rattle.runs.proofs.Refusals.{start-none, hear-none}
 use Rattle.runs.proofs.Kept.{all, j₀, Tied1, Tied2, Heard1, Heard2, HasDeals}

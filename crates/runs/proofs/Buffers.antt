@@ -4,7 +4,7 @@ use mathlib.Core.List.{List, [], _∷_, _++_}
 use Prim.Native.Nat.{ℕ}
 use lib.ListN.{length, drop}
 use Rattle.gates.specs.Steps.{Step, Cursor, origin, past}
-use Rattle.gates.specs.Hosts.{Pair, Triple, of0, act, dealt, deals}
+use Rattle.gates.specs.Hosts.{Pair, Triple, of0, dealt, deals, act}
 use Rattle.gates.proofs.Lanes.{of0-act}
 use Rattle.jobs.specs.Job.{Fault}
 use Rattle.calls.specs.Lent.{dealer-fault}
@@ -13,7 +13,7 @@ use Rattle.runs.specs.Runs.{Stage, Spoken, idle, ready, Side, World, wor
 use Rattle.runs.specs.Runs.{hears1, hears2, Begins, given-out, Run, begin, buffer-of}
 use Rattle.runs.specs.Strict.{Calls, none, completes, refuses}
 use Rattle.runs.specs.Buffers.{defined-deals, deals-of, with-deals, Buffers}
-use Rattle.runs.proofs.Kept.{Ok, ok, not-yet, prepared-none, refuses-nothing, kept}
+use Rattle.runs.proofs.Kept.{not-yet, Ok, ok, prepared-none, refuses-nothing, kept}
 use Rattle.runs.proofs.Strict.{wide-on}
 
 deals-defined : (A B : List ℕ) (ss : List Step) (c : Cursor) (j : Triple) → deals A B ss c (of0 j) ≡ defined-deals A B ss c j

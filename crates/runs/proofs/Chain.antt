@@ -10,7 +10,7 @@ use Rattle.gates.specs.Steps.{Step, end, past}
 use Rattle.gates.specs.Meaning.{meaning, order-steps, job-steps}
 use Rattle.gates.specs.Walk.{Conf, mark, whole}
 use Rattle.gates.specs.Hosts.{Triple, act}
-use Rattle.gates.specs.Costs.{Cost, plus, cost, step-cost}
+use Rattle.gates.specs.Costs.{Cost, plus, step-cost, cost}
 use Rattle.gates.proofs.Needs.{cost-path}
 use Rattle.programs.specs.Costs.{program-cost}
 use Rattle.programs.proofs.Gates.{Fits}

@@ -9,14 +9,14 @@ use borrow.Author.Tests.{ltb-true}
 use lib.Pow.{pow-pos}
 use lib.ListN.{getD, length, replicate, List·getD-map}
 use Rattle.words.specs.Words.{add, numbers}
-use Rattle.shares.specs.Gates.{value, mask}
+use Rattle.shares.specs.Gates.{mask, value}
 use Rattle.tables.specs.Table.{Row}
 use Rattle.gates.specs.declared.Gate.{Gate}
-use Rattle.gates.specs.Steps.{Step, Lane, at, end, origin, past}
+use Rattle.gates.specs.Steps.{Lane, at, Step, end, origin, past}
 use Rattle.gates.specs.Meaning.{meaning, order-steps, job-steps}
 use Rattle.gates.specs.Walk.{whole}
-use Rattle.gates.specs.Hosts.{Triple, act, share}
-use Rattle.gates.specs.Costs.{plus, cost, step-cost}
+use Rattle.gates.specs.Hosts.{Triple, share, act}
+use Rattle.gates.specs.Costs.{plus, step-cost, cost}
 use Rattle.gates.proofs.Needs.{Further, past-used}
 use Rattle.programs.specs.declared.Order.{Order}
 use Rattle.programs.specs.Programs.{sum-program}
@@ -31,8 +31,8 @@ use Rattle.calls.specs.Scripts.{Orderly}
 use Rattle.calls.specs.Calls.{fresh}
 use Rattle.runs.proofs.Lists.{length-map}
 use Rattle.runs.specs.Runs.{Stage}
-use Rattle.runs.specs.Orders.{Words, first, trail, after-order, before-order, first-counts, mask-behind, value-before, value-after}
-use Rattle.runs.specs.Orders.{mask-before}
+use Rattle.runs.specs.Orders.{Words, first, trail, after-order, before-order, value-before, mask-before, value-after, mask-behind}
+use Rattle.runs.specs.Orders.{first-counts}
 use Rattle.runs.proofs.Kept.{j₀-lengths}
 use Rattle.runs.proofs.Chain.{ended, points, job-trail, point-before, point-after, point-next}
 

@@ -1,7 +1,7 @@
 -- The very words that the hosts hold: cited from where they stand. Assumes nothing.
 use Rattle.runs.specs.Runs.{staged}
 use Rattle.runs.specs.Holdings.{Holdings}
-use Rattle.runs.proofs.Standing.{stands0, stands1, stands2}
+use Rattle.runs.proofs.Standing.{stands1, stands2, stands0}
 use Rattle.runs.proofs.Opened.{untargeted}
 
 pub holdings : Holdings

@@ -8,21 +8,20 @@ use lib.ListN.{length, take, length-append}
 use lib.Seq.{take-at, take-all}
 use Rattle.gates.specs.Steps.{Exchange, Step, local, deal, exchange, end, Cursor, origin, past}
 use Rattle.gates.specs.Walk.{Conf, conf, next}
-use Rattle.gates.specs.Hosts.{Pair, Triple, of1, of2, act, joint1, joint2, Supplied}
+use Rattle.gates.specs.Hosts.{Pair, Triple, of1, of2, joint1, joint2, act, Supplied}
 use Rattle.gates.proofs.Seen.{Always}
-use Rattle.calls.specs.Scripts.{orders-in, ends, Closed}
+use Rattle.calls.specs.Scripts.{ends, orders-in, Closed}
 use Rattle.calls.specs.Lent.{Worker, worker1, worker2}
 use Rattle.calls.specs.Calls.{State, Answer, word-at}
 use Rattle.runs.specs.Runs.{Stage, Spoken, placed-word, Among, Dealer, Side, waiting, going, World, world, Call, Completes, prepares}
 use Rattle.runs.specs.Runs.{starts1, starts2, hears1, hears2, given-out, Run, begin, complete, refuse}
-use Rattle.runs.specs.InOrder.{defined-words}
-use Rattle.runs.specs.InOrder.{Before, Rising, InOrder}
+use Rattle.runs.specs.InOrder.{defined-words, Before, Rising, InOrder}
 use Rattle.runs.proofs.Places.{Halted, pos, ends-pos}
 use Rattle.runs.proofs.Ties.{Shadow, shadow1, shadow2, joint, spoken, Tied, Answered}
 use Rattle.runs.proofs.Counts.{closed-at}
 use Rattle.runs.proofs.Answers.{Answered1, start1-answered, hear1-answered, Answered2, start2-answered, hear2-answered}
-use Rattle.runs.proofs.Kept.{all, j₀, supplied, not-yet, dealt-all, wait1, go1, wait2, go2, Ok, ok, refuses-nothing, kept, position}
-use Rattle.runs.proofs.Kept.{Tied1, Tied2, HasDeals}
+use Rattle.runs.proofs.Kept.{all, j₀, position, Tied1, Tied2, HasDeals, not-yet, dealt-all, wait1, go1, wait2, go2, Ok, ok, supplied}
+use Rattle.runs.proofs.Kept.{refuses-nothing, kept}
 
 reverse-onto : {T : Type 0} (l r : List T) → reverseAux l r ≡ reverse l ++ r
 reverse-onto [] r = refl

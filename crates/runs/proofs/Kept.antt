@@ -6,19 +6,19 @@ use native.Mathlib.Omega.{arith}
 use lib.ListN.{length, take, drop, replicate, length-set, length-append, take-append-drop, length-take}
 use lib.Seq.{take-append-le, take-all}
 use Rattle.gates.specs.Steps.{Lane, at, Exchange, Step, local, deal, exchange, end, Cursor, origin}
-use Rattle.gates.specs.Walk.{Conf, conf, whole, next}
-use Rattle.gates.specs.Hosts.{Pair, Triple, of0, of1, of2, act, act0, deals, joint1, joint2, Starts, Supplied}
+use Rattle.gates.specs.Walk.{Conf, conf, next, whole}
+use Rattle.gates.specs.Hosts.{Pair, Triple, of0, of1, of2, act0, deals, joint1, joint2, act, Starts, Supplied}
 use Rattle.gates.proofs.Seen.{through, Always, see-whole}
 use Rattle.gates.proofs.Lanes.{seen0}
 use Rattle.gates.proofs.Needs.{deals-length}
 use Rattle.jobs.specs.Job.{Fault}
 use Rattle.calls.specs.Scripts.{script-cost}
-use Rattle.calls.specs.Lent.{worker1, worker2, dealer-fault, worker-with}
-use Rattle.calls.specs.Calls.{State, fresh, fresh2, start-walk, start, found-of, hear, script-deals, prepare-walk, prepared, prepare}
-use Rattle.runs.specs.Runs.{Stage, Spoken, Among, Dealer, idle, ready, dealer-holds, Side, waiting, going, side-state, World, world}
-use Rattle.runs.specs.Runs.{registers, Refuses, refuses0, refuses0-elsewhere, refuses1, refuses2, Call, lent1, lent2, Dealt}
-use Rattle.runs.specs.Runs.{preparation, started, stepped, Completes, prepares, starts1, starts2, hears1, hears2, given-out, Run}
-use Rattle.runs.specs.Runs.{begin, complete, refuse, placed-word}
+use Rattle.calls.specs.Lent.{worker1, worker2, worker-with, dealer-fault}
+use Rattle.calls.specs.Calls.{State, fresh, fresh2, start-walk, start, found-of, hear, prepare-walk, script-deals, prepared, prepare}
+use Rattle.runs.specs.Runs.{Stage, Spoken, placed-word, Among, Dealer, idle, ready, Side, waiting, going, dealer-holds, side-state}
+use Rattle.runs.specs.Runs.{World, world, registers, Refuses, refuses0, refuses0-elsewhere, refuses1, refuses2, Call, lent1, lent2}
+use Rattle.runs.specs.Runs.{Dealt, preparation, started, stepped, Completes, prepares, starts1, starts2, hears1, hears2, given-out}
+use Rattle.runs.specs.Runs.{Run, begin, complete, refuse}
 use Rattle.runs.proofs.Places.{pos}
 use Rattle.runs.proofs.Ties.{shadow1, shadow2, joint, Heard, Tied, tie-start, tie-hear}
 use Rattle.runs.proofs.Refusals.{start-none, hear-none, prepare-back, masks-back, HasSlots, turned-back}

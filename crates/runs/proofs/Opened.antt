@@ -14,14 +14,14 @@ use Rattle.gates.specs.Steps.{Step}
 use Rattle.gates.specs.Meaning.{job-steps}
 use Rattle.programs.specs.Orders.{program}
 use Rattle.programs.specs.Opens.{order-value}
-use Rattle.jobs.specs.Job.{orders, job-gates, job-fault}
+use Rattle.jobs.specs.Job.{orders, job-fault, job-gates}
 use Rattle.jobs.proofs.Accepted.{Good, accepted-orders}
 use Rattle.calls.proofs.Scripts.{job-made}
 use Rattle.runs.proofs.Lists.{getD-map}
 use Rattle.runs.specs.Runs.{Setting, staged}
-use Rattle.runs.specs.Orders.{Words, trail, order-of, used-before, refresh-mask, share-before, share-after, value-after, source-value}
-use Rattle.runs.specs.Orders.{second-value, source-mask, Unwritten, Untargeted}
-use Rattle.runs.proofs.Chain.{job-orderly, gates-length, job-orders}
+use Rattle.runs.specs.Orders.{Words, trail, share-before, share-after, value-after, Unwritten, order-of, Untargeted, used-before}
+use Rattle.runs.specs.Orders.{refresh-mask, source-value, source-mask, second-value}
+use Rattle.runs.proofs.Chain.{gates-length, job-orders, job-orderly}
 use Rattle.runs.proofs.Gated.{trail-gates, program-leaves}
 use Rattle.runs.proofs.Spared.{slot-kept}
 use Rattle.runs.proofs.Written.{spares-program}

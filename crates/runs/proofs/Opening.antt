@@ -9,14 +9,14 @@ use lib.ListN.{getD, length, length-append, List·getD-append}
 use Rattle.words.specs.Signed.{signed}
 use Rattle.shares.proofs.RoundTrip.{share-opens}
 use Rattle.gates.specs.Steps.{Exchange, Cursor}
-use Rattle.gates.specs.Hosts.{Pair, Triple, of0, of1, of2, act, joint1, joint2}
+use Rattle.gates.specs.Hosts.{Pair, Triple, of0, of1, of2, joint1, joint2, act}
 use Rattle.calls.specs.Calls.{State}
 use Rattle.runs.proofs.Lists.{getD-map}
 use Rattle.runs.specs.Runs.{Stage, Spoken, World, Call, Run, order1, order2, Finished, opened-after}
 use Rattle.runs.specs.Orders.{first, trail, after-order, share-after, value-after}
 use Rattle.runs.proofs.Places.{trail-pos, trail-length}
 use Rattle.runs.proofs.Ties.{Tied}
-use Rattle.runs.proofs.Kept.{all, j₀, last, not-yet, dealt-all, wait1, go1, wait2, go2, Ok, ok, kept, position}
+use Rattle.runs.proofs.Kept.{all, j₀, last, position, not-yet, dealt-all, wait1, go1, wait2, go2, Ok, ok, kept}
 
 module _ (S : Stage) where
   -- a host's trail has the joint walk's lanes as order q left them

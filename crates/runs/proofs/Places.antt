@@ -13,7 +13,7 @@ use native.Mathlib.Nat.{add-zero}
 use Rattle.gates.specs.Steps.{at, Step, local, deal, exchange, end, Cursor, origin, past}
 use Rattle.calls.specs.Places.{Found, nowhere, found, here, seek}
 use Rattle.calls.specs.Scripts.{ends}
-use Rattle.gates.specs.Walk.{Conf, conf, one, next, walk, whole, Exchanging}
+use Rattle.gates.specs.Walk.{Conf, conf, Exchanging, one, next, whole, walk}
 
 -- at an exchange or at the end
 abbrev pub Halted : List Step → Type 0

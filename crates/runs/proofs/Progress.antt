@@ -10,20 +10,20 @@ use borrow.Author.Tests.{le-ltb, eq-eqb}
 use lib.ListN.{length}
 use Rattle.gates.specs.Steps.{origin}
 use Rattle.gates.specs.Walk.{Conf, Exchanging}
-use Rattle.gates.specs.Hosts.{Pair, Triple, of0, of1, of2, act, deals, joint1, joint2, Supplied}
+use Rattle.gates.specs.Hosts.{Pair, Triple, of0, of1, of2, deals, joint1, joint2, act, Supplied}
 use Rattle.gates.specs.Costs.{Cost}
 use Rattle.gates.proofs.Seen.{Always}
 use Rattle.jobs.specs.Job.{Fault, short-a, short-b, short-deals}
-use Rattle.calls.specs.Scripts.{Script, script-cost, orders-in, ends}
-use Rattle.calls.specs.Lent.{Lent, worker1, worker2, or-else, lists-fault, lent-fault, dealer-lists-fault, dealer-fault, worker-with}
-use Rattle.calls.specs.Lent.{worker-of}
-use Rattle.calls.specs.Calls.{State, Answer, report, unless, given, start-walk, start, found-of, resume, hear, prepared, prepare}
-use Rattle.runs.specs.Runs.{Stage, Spoken, Dealer, going, World, world, Call, lent1, lent2, Completes, prepares, starts1}
-use Rattle.runs.specs.Runs.{starts2, hears1, hears2, Run, order1, order2, buffer-of, Accepted, held}
+use Rattle.calls.specs.Scripts.{Script, script-cost, ends, orders-in}
+use Rattle.calls.specs.Lent.{Lent, worker1, worker2, worker-with, worker-of, or-else, lists-fault, lent-fault, dealer-lists-fault}
+use Rattle.calls.specs.Lent.{dealer-fault}
+use Rattle.calls.specs.Calls.{State, Answer, report, unless, start-walk, given, start, found-of, resume, hear, prepared, prepare}
+use Rattle.runs.specs.Runs.{Stage, Spoken, Dealer, going, World, world, Call, lent1, lent2, held, Completes, prepares, starts1}
+use Rattle.runs.specs.Runs.{starts2, hears1, hears2, Run, order1, order2, buffer-of, Accepted}
 use Rattle.runs.proofs.Places.{ends-pos, rest-later, exchange-or-end}
 use Rattle.runs.proofs.Ties.{shadow1, shadow2, can-hear}
-use Rattle.runs.proofs.Kept.{all, j₀, supplied, not-yet, dealt-all, wait1, go1, wait2, go2, Ok, ok, kept, position, Tied1, Tied2}
-use Rattle.runs.proofs.Kept.{HasDeals}
+use Rattle.runs.proofs.Kept.{all, j₀, position, Tied1, Tied2, HasDeals, not-yet, dealt-all, wait1, go1, wait2, go2, Ok, ok, supplied}
+use Rattle.runs.proofs.Kept.{kept}
 
 -- ---- no fault, no refusal
 

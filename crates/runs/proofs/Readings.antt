@@ -11,25 +11,24 @@ use lib.IntN.{ℤ}
 use lib.ListN.{getD, length}
 use Rattle.words.specs.Words.{add, numbers}
 use Rattle.words.specs.Signed.{signed}
-use Rattle.shares.specs.Gates.{Share, value, mask}
+use Rattle.shares.specs.Gates.{Share, mask, value}
 use Rattle.shares.proofs.RoundTrip.{share-opens}
 use Rattle.gates.specs.Steps.{at}
 use Rattle.gates.specs.Hosts.{Pair, of0, act}
 use Rattle.calls.specs.Scripts.{orders-in}
 use Rattle.runs.specs.Runs.{Stage, Setting, staged, World, Call, Run, trail0, order1, order2, Finished, opened-after}
-use Rattle.runs.specs.Orders.{first, trail, after-order, before-order, order-of}
-use Rattle.runs.specs.Orders.{reading, opens, Finishes, share-before, mask-before}
+use Rattle.runs.specs.Orders.{first, trail, after-order, before-order, share-before, mask-before, order-of, reading, Finishes, opens}
 use Rattle.runs.specs.Returned.{opened-given}
 use Rattle.runs.specs.Readings.{reading-of, mask-after, mask-given, UnwrittenBetween, UntargetedBetween, Origin, of-order, of-given}
 use Rattle.runs.specs.Readings.{Readings}
 use Rattle.runs.proofs.Lists.{getD-map}
 use Rattle.runs.proofs.Places.{ends-pos}
-use Rattle.runs.proofs.Kept.{all, j₀, last, not-yet, dealt-all, wait1, go1, wait2, go2, Ok, ok, kept, position}
+use Rattle.runs.proofs.Kept.{all, j₀, last, position, not-yet, dealt-all, wait1, go1, wait2, go2, Ok, ok, kept}
 use Rattle.runs.proofs.Spared.{slot-kept}
 use Rattle.runs.proofs.Opened.{untargeted}
 use Rattle.runs.proofs.Opening.{finished-order, finished-opens}
 use Rattle.runs.proofs.InJob.{good-order}
-use Rattle.runs.proofs.Returned.{given-share, given-share-is, Last, writer, nobody, last-of, unequal, target-is}
+use Rattle.runs.proofs.Returned.{given-share, given-share-is, unequal, Last, writer, nobody, last-of, target-is}
 
 -- ---- over any stage
 

@@ -10,10 +10,10 @@ use lib.Seq.{take-append-le, take-all}
 use Rattle.gates.specs.Hosts.{Pair}
 use Rattle.jobs.specs.Job.{Fault}
 use Rattle.calls.specs.Scripts.{Script}
-use Rattle.calls.specs.Lent.{Lent, lent-fault, dealer-fault, worker-of}
-use Rattle.calls.specs.Calls.{State, Answer, fresh, report, unless, given, start-walk, start, place-fault, hear-walk, found-of, resume}
+use Rattle.calls.specs.Lent.{Lent, worker-of, lent-fault, dealer-fault}
+use Rattle.calls.specs.Calls.{State, Answer, fresh, report, unless, start-walk, given, start, hear-walk, place-fault, found-of, resume}
 use Rattle.calls.specs.Calls.{hear, prepared, prepare}
-use Rattle.runs.specs.Runs.{Dealer, idle, ready, dealer-holds, with-masks, Side, waiting, going, side-state, with-state, registers}
+use Rattle.runs.specs.Runs.{Dealer, idle, ready, Side, waiting, going, dealer-holds, with-masks, side-state, with-state, registers}
 use Rattle.runs.specs.Runs.{Turned, at-start, at-hearing}
 
 -- an answer that is no refusal

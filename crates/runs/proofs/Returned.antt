@@ -14,22 +14,21 @@ use Rattle.words.specs.Words.{numbers}
 use Rattle.words.specs.Signed.{signed}
 use Rattle.shares.specs.Gates.{Share, value}
 use Rattle.shares.proofs.RoundTrip.{share-opens}
-use Rattle.gates.specs.Steps.{Lane, at, Step, local, deal, exchange, end, Cursor, origin, past, Exchange}
-use Rattle.gates.specs.Walk.{Conf, conf, whole, next}
-use Rattle.gates.specs.Hosts.{Pair, Triple, of1, of2, act, share}
+use Rattle.gates.specs.Steps.{Lane, at, Exchange, Step, local, deal, exchange, end, Cursor, origin, past}
+use Rattle.gates.specs.Walk.{Conf, conf, next, whole}
+use Rattle.gates.specs.Hosts.{Pair, Triple, share, of1, of2, act}
 use Rattle.jobs.specs.Job.{orders}
 use Rattle.calls.specs.Scripts.{orders-in, Closed}
 use Rattle.calls.specs.Calls.{State, fresh}
-use Rattle.runs.specs.Runs.{Stage, Setting, staged, Spoken, Dealer, dealer-holds, Side, World, Call, Run, order1, order2}
-use Rattle.runs.specs.Runs.{Finished, opened-slot, opened-after, held}
-use Rattle.runs.specs.Orders.{Words, trail, after-order, Unwritten, order-of}
-use Rattle.runs.specs.Orders.{Finishes, share-after, value-after}
+use Rattle.runs.specs.Runs.{Stage, Setting, staged, Spoken, Dealer, Side, dealer-holds, World, Call, held, Run, order1, order2}
+use Rattle.runs.specs.Runs.{Finished, opened-slot, opened-after}
+use Rattle.runs.specs.Orders.{Words, trail, after-order, share-after, value-after, Unwritten, order-of, Finishes}
 use Rattle.runs.specs.Returned.{side-holds, opened-now, opened-given, UnwrittenFrom, Holds, by-order, by-given, UntargetedFrom}
 use Rattle.runs.specs.Returned.{JobHolds, of-order, of-given, Returned}
-use Rattle.runs.proofs.Places.{pos, trail-pos, trail-length, whole-pos}
+use Rattle.runs.proofs.Places.{pos, whole-pos, trail-pos, trail-length}
 use Rattle.runs.proofs.Ties.{joint, Tied}
-use Rattle.runs.proofs.Kept.{all, j₀, last, DealerOk, not-yet, dealt-all, OneOk, wait1, go1, TwoOk, wait2, go2, Ok, ok, kept}
-use Rattle.runs.proofs.Kept.{position, Tied1, Tied2}
+use Rattle.runs.proofs.Kept.{all, j₀, last, position, Tied1, Tied2, DealerOk, not-yet, dealt-all, OneOk, wait1, go1, TwoOk, wait2}
+use Rattle.runs.proofs.Kept.{go2, Ok, ok, kept}
 use Rattle.runs.proofs.Opened.{untargeted}
 use Rattle.runs.proofs.InJob.{good-order}
 use Rattle.runs.proofs.Opening.{finished-order, finished-opens}

@@ -9,26 +9,26 @@ use lib.Dec.{ltb}
 use lib.ListN.{length}
 use Rattle.gates.specs.Steps.{origin}
 use Rattle.gates.specs.Walk.{Conf, Exchanging}
-use Rattle.gates.specs.Hosts.{Pair, Triple, of1, of2, act, joint1, joint2, Supplied}
+use Rattle.gates.specs.Hosts.{Pair, Triple, of1, of2, joint1, joint2, act, Supplied}
 use Rattle.gates.proofs.Seen.{through}
 use Rattle.jobs.specs.Job.{short-b, short-deals}
 use Rattle.calls.specs.Scripts.{script-cost}
 use Rattle.calls.specs.Places.{seek}
-use Rattle.calls.specs.Lent.{worker2, or-else, lists-fault, lent-fault, worker-with}
+use Rattle.calls.specs.Lent.{worker2, worker-with, or-else, lists-fault, lent-fault}
 use Rattle.calls.specs.Calls.{State, Answer, fresh2, word-at, spoken-at, state-of, start-walk, start, hear-walk, found-of, resume, hear}
-use Rattle.runs.specs.Runs.{Stage, Spoken, placed-word, Among, ready, Side, waiting, going, World, world, Call, starting1}
-use Rattle.runs.specs.Runs.{starting2, hearing1, hearing2, lent1, lent2, started, stepped, Completes, prepares, starts1, starts2}
-use Rattle.runs.specs.Runs.{hears1, hears2, Run, begin, complete, refuse, held}
+use Rattle.runs.specs.Runs.{Stage, Spoken, placed-word, Among, ready, Side, waiting, going, World, world, Call, starting1, starting2}
+use Rattle.runs.specs.Runs.{hearing1, hearing2, lent1, lent2, held, started, stepped, Completes, prepares, starts1, starts2, hears1}
+use Rattle.runs.specs.Runs.{hears2, Run, begin, complete, refuse}
 use Rattle.runs.specs.Strict.{Narrow, none, refuses, StrictRun, Strict}
 use Rattle.runs.proofs.Places.{Halted, one-halt}
 use Rattle.runs.proofs.Ties.{shadow2, words, Went, starts, hears-on, word-right}
 use Rattle.runs.proofs.Refusals.{start-none, hear-none}
 use Rattle.runs.proofs.Started.{or-else-none}
-use Rattle.runs.proofs.Kept.{all, j₀, supplied, deals-fit, not-yet, dealt-all, go1, wait2, go2, Ok, ok, kept, position, Tied2}
-use Rattle.runs.proofs.Kept.{Heard1, HasDeals}
+use Rattle.runs.proofs.Kept.{all, j₀, position, Tied2, Heard1, HasDeals, not-yet, dealt-all, go1, wait2, go2, Ok, ok, supplied}
+use Rattle.runs.proofs.Kept.{deals-fit, kept}
 use Rattle.runs.proofs.Progress.{start-zero, hear-zero}
-use Rattle.runs.proofs.Strict.{BothSpent, both, spent, wide, start-other, hear-other1, resume-number, unheard, moved1, moved2}
-use Rattle.runs.proofs.Strict.{finished-all, strictly-ended, longer, next-run, carried, begun}
+use Rattle.runs.proofs.Strict.{resume-number, moved1, moved2, unheard, wide, longer, BothSpent, both, spent, start-other}
+use Rattle.runs.proofs.Strict.{hear-other1, strictly-ended, finished-all, next-run, carried, begun}
 
 module _ (S : Stage) where
   abbrev A : List ℕ

@@ -10,10 +10,10 @@ use lib.ListN.{getD, set}
 use lib.Seq.{getD-set-other}
 use Rattle.gates.specs.Steps.{Step, local, deal, exchange, end, Cursor, origin, past}
 use Rattle.gates.specs.Walk.{whole}
-use Rattle.gates.specs.Hosts.{Triple, act, share}
+use Rattle.gates.specs.Hosts.{Triple, share, act}
 use Rattle.calls.specs.Scripts.{ends, orders-in}
 use Rattle.runs.specs.Runs.{Stage}
-use Rattle.runs.specs.Orders.{first, trail, after-order, before-order, Unwritten, share-before, share-after}
+use Rattle.runs.specs.Orders.{first, trail, after-order, before-order, share-before, share-after, Unwritten}
 
 module _ (A B : List ℕ) where
   abbrev left : List Step → Cursor → Triple → List Triple

@@ -9,14 +9,14 @@ use lib.Seq.{getD-take, getD-at}
 use Rattle.shares.specs.Gates.{Share}
 use Rattle.gates.specs.Steps.{Lane, at, Exchange, Step, local, deal, exchange, end, Cursor, past}
 use Rattle.gates.specs.Walk.{Conf, conf, next}
-use Rattle.gates.specs.Hosts.{Pair, Triple, of1, of2, act, joint1, joint2, share}
-use Rattle.calls.specs.Scripts.{orders-in, ends, Closed}
+use Rattle.gates.specs.Hosts.{Pair, Triple, share, of1, of2, joint1, joint2, act}
+use Rattle.calls.specs.Scripts.{ends, orders-in, Closed}
 use Rattle.calls.specs.Calls.{State}
 use Rattle.runs.specs.Runs.{Stage, Spoken, Dealer, ready, Side, going, world, Call, Run}
-use Rattle.runs.specs.Orders.{trail, after-order, before-order, Unwritten, share-before}
-use Rattle.runs.proofs.Places.{pos, ends-pos, trail-pos, trail-length}
+use Rattle.runs.specs.Orders.{trail, after-order, before-order, share-before, Unwritten}
+use Rattle.runs.proofs.Places.{pos, trail-pos, trail-length, ends-pos}
 use Rattle.runs.proofs.Ties.{joint, Tied}
-use Rattle.runs.proofs.Kept.{all, j₀, last, Ok, ok, dealt-all, go1, go2, kept, position}
+use Rattle.runs.proofs.Kept.{all, j₀, last, position, dealt-all, go1, go2, Ok, ok, kept}
 use Rattle.runs.proofs.Unwritten.{act-misses, closed-from}
 use Rattle.runs.proofs.Returned.{rest-length, last-is}
 

@@ -11,8 +11,8 @@ use lib.ListN.{length}
 use Rattle.jobs.specs.Job.{Fault, short-a}
 use Rattle.calls.specs.Scripts.{script-cost}
 use Rattle.calls.specs.Lent.{or-else, lists-fault, lent-fault}
-use Rattle.runs.specs.Runs.{Stage, waiting, going, World, world, Call, lent1, Completes, prepares, starts1, starts2}
-use Rattle.runs.specs.Runs.{hears1, hears2, given-out, Run, begin, complete, refuse, order1, held}
+use Rattle.runs.specs.Runs.{Stage, waiting, going, World, world, Call, lent1, held, Completes, prepares, starts1, starts2, hears1}
+use Rattle.runs.specs.Runs.{hears2, given-out, Run, begin, complete, refuse, order1}
 use Rattle.runs.proofs.Refusals.{start-none}
 use Rattle.runs.proofs.Kept.{refuses-nothing, kept}
 

@@ -9,21 +9,21 @@ use lib.ListN.{length, take, replicate}
 use lib.Seq.{take-append-le, take-all}
 use Rattle.gates.specs.Steps.{Lane, Exchange, Step, local, deal, exchange, end, Cursor, origin}
 use Rattle.gates.specs.Walk.{Conf, Exchanging}
-use Rattle.gates.specs.Hosts.{Pair, Triple, of1, of2, act, joint1, joint2, Supplied}
+use Rattle.gates.specs.Hosts.{Pair, Triple, of1, of2, joint1, joint2, act, Supplied}
 use Rattle.gates.proofs.Seen.{through, Always}
 use Rattle.calls.specs.Scripts.{orders-in}
 use Rattle.calls.specs.Places.{Found, nowhere, found, seek}
-use Rattle.calls.specs.Lent.{Worker, worker1, worker2, lists-fault, lent-fault, worker-with}
+use Rattle.calls.specs.Lent.{Worker, worker1, worker2, worker-with, lists-fault, lent-fault}
 use Rattle.calls.specs.Calls.{State, Answer, fresh, state-of, unless, given, start, place-fault, found-of, resume, hear}
-use Rattle.runs.specs.Runs.{Stage, Spoken, Among, Dealer, idle, ready, Side, waiting, going, World, world, registers, Call, lent1}
-use Rattle.runs.specs.Runs.{lent2, Completes, prepares, starts1, starts2, hears1, hears2, Begins, given-out, Run, begin, complete}
-use Rattle.runs.specs.Runs.{refuse, Finished, buffer-of, Accepted, placed-word, held}
+use Rattle.runs.specs.Runs.{Stage, Spoken, placed-word, Among, Dealer, idle, ready, Side, waiting, going, World, world, registers}
+use Rattle.runs.specs.Runs.{Call, lent1, lent2, held, Completes, prepares, starts1, starts2, hears1, hears2, Begins, given-out, Run}
+use Rattle.runs.specs.Runs.{begin, complete, refuse, Finished, buffer-of, Accepted}
 use Rattle.runs.specs.Strict.{Narrow, heard-by-1, heard-by-2, Calls, none, completes, refuses, StrictRun, Done}
-use Rattle.runs.proofs.Places.{Halted, steps-in, seek-pos, once, shrinks}
-use Rattle.runs.proofs.Ties.{Shadow, shadow1, shadow2, Heard, Tied, live-at, word-right, hears-on}
+use Rattle.runs.proofs.Places.{Halted, steps-in, once, seek-pos, shrinks}
+use Rattle.runs.proofs.Ties.{Shadow, shadow1, shadow2, Heard, Tied, hears-on, live-at, word-right}
 use Rattle.runs.proofs.Refusals.{start-none, hear-none}
-use Rattle.runs.proofs.Kept.{all, j₀, supplied, deals-fit, not-yet, dealt-all, go1, go2, Ok, ok, refuses-nothing, kept, position}
-use Rattle.runs.proofs.Kept.{Heard1, Heard2, HasDeals}
+use Rattle.runs.proofs.Kept.{all, j₀, position, Heard1, Heard2, HasDeals, not-yet, dealt-all, go1, go2, Ok, ok, supplied, deals-fit}
+use Rattle.runs.proofs.Kept.{refuses-nothing, kept}
 use Rattle.runs.proofs.Progress.{start-zero, hear-zero, lent2-zero, Ended, Onward, progress, stuck-ended}
 use Rattle.runs.proofs.Returned.{rest-length}
 

@@ -7,9 +7,9 @@ use native.Mathlib.Omega.{arith}
 use native.Mathlib.Decide.{decLe}
 use lib.ListN.{length}
 use Rattle.gates.specs.Steps.{at, Exchange, Step, local, deal, exchange, end, Cursor, origin, past}
-use Rattle.gates.specs.Walk.{Conf, conf, next, walk, Exchanging}
-use Rattle.gates.specs.Hosts.{Pair, Triple, of1, of2, act, joint1, joint2, Supplied}
-use Rattle.gates.proofs.Seen.{through, Seen, quiet, Always, see-walk}
+use Rattle.gates.specs.Walk.{Conf, conf, Exchanging, next, walk}
+use Rattle.gates.specs.Hosts.{Pair, Triple, of1, of2, joint1, joint2, act, Supplied}
+use Rattle.gates.proofs.Seen.{through, quiet, Seen, Always, see-walk}
 use Rattle.gates.proofs.Lanes.{seen1, seen2, says1, says2, hears1, hears2}
 use Rattle.calls.specs.Places.{Found, found, seek}
 use Rattle.calls.specs.Lent.{Worker, worker1, worker2}

@@ -10,7 +10,7 @@ use Rattle.gates.specs.declared.Gate.{Gate}
 use Rattle.gates.specs.declared.Gate.the-variants.{Add, Sub, Xor, Mul, And, Refresh, Scale, Plus, Up, Bit, Const, Public, Deal, DealBits}
 use Rattle.gates.specs.Steps.{Step, local, deal, exchange, end, Cursor}
 use Rattle.gates.specs.Meaning.{meaning, order-steps, job-steps}
-use Rattle.gates.specs.Hosts.{Triple, act, share}
+use Rattle.gates.specs.Hosts.{Triple, share, act}
 use Rattle.programs.proofs.Points.{target}
 use Rattle.calls.specs.Scripts.{ends, Closed}
 use Rattle.runs.specs.Runs.{Stage}

@@ -5,9 +5,9 @@ use mathlib.Core.List.{List, [], _∷_, _++_}
 use Prim.Native.Nat.{ℕ}
 use lib.ListN.{length, drop}
 use Rattle.gates.specs.Steps.{Step, Cursor, origin, past}
-use Rattle.gates.specs.Hosts.{Pair, Triple, of0, act, dealt}
-use Rattle.runs.specs.Runs.{Stage, Spoken, idle, ready, Side, World, world, Call, preparation, Begins}
-use Rattle.runs.specs.Runs.{Run, buffer-of}
+use Rattle.gates.specs.Hosts.{Pair, Triple, of0, dealt, act}
+use Rattle.runs.specs.Runs.{Stage, Spoken, idle, ready, Side, World, world, Call, preparation, Begins, Run}
+use Rattle.runs.specs.Runs.{buffer-of}
 use Rattle.runs.specs.Orders.{first}
 use Rattle.runs.specs.Strict.{Calls}
 

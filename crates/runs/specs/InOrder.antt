@@ -6,7 +6,7 @@ use mathlib.Core.List.{List, [], _∷_, reverse}
 use Prim.Native.Nat.{ℕ, _<_}
 use lib.ListN.{length, take}
 use Rattle.gates.specs.Steps.{Exchange, Step, local, deal, exchange, end, Cursor, origin, past}
-use Rattle.gates.specs.Hosts.{Pair, Triple, act, joint1, joint2}
+use Rattle.gates.specs.Hosts.{Pair, Triple, joint1, joint2, act}
 use Rattle.calls.specs.Scripts.{orders-in, Orderly}
 use Rattle.calls.specs.Calls.{State}
 use Rattle.runs.specs.Runs.{Stage, Spoken, Among, Dealer, Side, going, world, Call, Run}

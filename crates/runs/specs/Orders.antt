@@ -9,7 +9,7 @@ use lib.IntN.{ℤ}
 use lib.ListN.{getD, length}
 use Rattle.words.specs.Words.{add, numbers}
 use Rattle.words.specs.Signed.{signed}
-use Rattle.shares.specs.Gates.{Share, value, mask}
+use Rattle.shares.specs.Gates.{Share, mask, value}
 use Rattle.tables.specs.Table.{rows}
 use Rattle.gates.specs.Steps.{at, Step, local, deal, exchange, end, origin}
 use Rattle.gates.specs.Walk.{whole}

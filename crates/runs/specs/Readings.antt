@@ -12,8 +12,7 @@ use Rattle.words.specs.Signed.{signed}
 use Rattle.gates.specs.Steps.{at}
 use Rattle.jobs.specs.Job.{two-sources}
 use Rattle.runs.specs.Runs.{Stage, Setting, staged, World, trail0, opened-after}
-use Rattle.runs.specs.Orders.{value-before, mask-before, Unwritten, order-of}
-use Rattle.runs.specs.Orders.{reading, opens, Finishes}
+use Rattle.runs.specs.Orders.{value-before, mask-before, Unwritten, order-of, reading, Finishes, opens}
 use Rattle.runs.specs.Returned.{opened-given}
 
 -- the signed reading of slot i just before order q, on the joint walk; `reading` is that of a job's order's source

@@ -8,10 +8,9 @@ use lib.ListN.{length}
 use Rattle.gates.specs.Hosts.{Pair}
 use Rattle.jobs.specs.Job.{orders}
 use Rattle.calls.specs.Scripts.{orders-in, Orderly}
-use Rattle.runs.specs.Runs.{Stage, Setting, staged, Side, dealer-holds, side-state, World, world}
-use Rattle.runs.specs.Runs.{registers, Call, Run, Finished, opened-slot, opened-after}
-use Rattle.runs.specs.Orders.{Words, Unwritten, order-of}
-use Rattle.runs.specs.Orders.{opens, Finishes, Untargeted}
+use Rattle.runs.specs.Runs.{Stage, Setting, staged, Side, dealer-holds, side-state, World, world, registers}
+use Rattle.runs.specs.Runs.{Call, Run, Finished, opened-slot, opened-after}
+use Rattle.runs.specs.Orders.{Words, Unwritten, order-of, Untargeted, Finishes, opens}
 
 -- the first n slots, for a job sixteen registers, in the state that host 1 or 2 holds
 abbrev pub side-holds : (n : ℕ) → Side → Pair

@@ -10,7 +10,7 @@ use Rattle.gates.specs.Steps.{Lane, at}
 use Rattle.gates.specs.Hosts.{Pair}
 use Rattle.calls.specs.Scripts.{Script, job-script, script-cost}
 use Rattle.calls.specs.Lent.{Lent, worker-of}
-use Rattle.calls.specs.Calls.{State, Prepared, start-walk, start, found-of, hear-walk, hear, prepare-walk, prepare}
+use Rattle.calls.specs.Calls.{State, start-walk, start, hear-walk, found-of, hear, Prepared, prepare-walk, prepare}
 use lib.IntN.{ℤ}
 
 -- what every call of a run is lent, the script and the lists; and the registers that the hosts are given, which open:
