@@ -2,10 +2,9 @@
 use mathlib.Core.Path.{_≡_, refl, sym, ap, _∙_}
 use mathlib.Core.Bool.{false}
 use mathlib.Core.List.{List, []}
-use Prim.Native.Nat.{ℕ, zero, suc, _≤_, _<_}
+use Prim.Native.Nat.{ℕ, suc, _≤_, _<_}
 use native.Mathlib.Omega.{arith}
 use native.Mathlib.Nat.{not-suc-le-zero}
-use native.Mathlib.Decide.{decLe}
 use lib.Dec.{eqb}
 use lib.IntN.{ℤ}
 use lib.ListN.{getD, length}
@@ -14,20 +13,20 @@ use Rattle.words.specs.Signed.{signed}
 use Rattle.shares.specs.Gates.{Share, mask, value}
 use Rattle.shares.proofs.RoundTrip.{share-opens}
 use Rattle.gates.specs.Steps.{at}
-use Rattle.gates.specs.Hosts.{Pair, of0, act}
+use Rattle.gates.specs.Hosts.{Pair, of0}
 use Rattle.calls.specs.Scripts.{orders-in}
 use Rattle.runs.specs.Runs.{Stage, Setting, staged, World, Call, Run, trail0, order1, order2, Finished, opened-after}
-use Rattle.runs.specs.Orders.{first, trail, after-order, before-order, share-before, mask-before, order-of, reading, Finishes, opens}
+use Rattle.runs.specs.Orders.{first, trail, after-order, before-order, mask-before, order-of, reading, Finishes, opens}
 use Rattle.runs.specs.Returned.{opened-given}
 use Rattle.runs.specs.Readings.{reading-of, mask-after, mask-given, UnwrittenBetween, UntargetedBetween, Origin, of-order, of-given}
 use Rattle.runs.specs.Readings.{Readings}
 use Rattle.runs.proofs.Lists.{getD-map}
-use Rattle.runs.proofs.Places.{ends-pos}
-use Rattle.runs.proofs.Kept.{all, j₀, last, position, not-yet, dealt-all, wait1, go1, wait2, go2, Ok, ok, kept}
-use Rattle.runs.proofs.Spared.{slot-kept}
+use Rattle.runs.proofs.Kept.{last, not-yet, dealt-all, wait1, go1, wait2, go2, Ok, ok, kept}
+use Rattle.runs.proofs.Spared.{kept-between}
 use Rattle.runs.proofs.Opened.{untargeted}
 use Rattle.runs.proofs.Opening.{finished-order, finished-opens}
 use Rattle.runs.proofs.InJob.{good-order}
+use Rattle.runs.proofs.Standing.{order1-inside}
 use Rattle.runs.proofs.Returned.{given-share, given-share-is, unequal, Last, writer, nobody, last-of, target-is}
 
 -- ---- over any stage
@@ -38,20 +37,7 @@ module _ (S : Stage) where
   in-script v r q f = go v (kept S r) (f .one)
     where
       go : (v : World) → Ok S v → q < order1 v → q < orders-in (S .script)
-      go _ (ok z (wait1 h) two a) l = absurd (not-suc-le-zero l)
-      go _ (ok z (go1 X) two a) l =
-          let k : q < position S (X .n) .cur .order = rw (X .is) at l in
-          omega (arith, ends-pos (act (S .A) (S .B)) (all S) (j₀ S) (X .n))
-
-  -- "the register keeps that until an order writes it": from just before order p to just before order q
-  kept-to : (p i q : ℕ) → p ≤ q → q ≤ orders-in (S .script) → UnwrittenBetween S p q i → share-before S q i ≡ share-before S p i
-  unfolding before-order
-  kept-to p i zero l h u = let e : 0 ≡ p = omega arith in ap (λ (n : ℕ). share-before S n i) e
-  kept-to p i (suc q) l h u = go (decLe p q) (λ k. kept-to p i q k (omega arith) (λ n a b. u n a (omega arith)))
-    where
-      go : Dec (p ≤ q) → (p ≤ q → share-before S q i ≡ share-before S p i) → share-before S (suc q) i ≡ share-before S p i
-      go (yes k) f = slot-kept S q i (omega arith) (u q k (omega arith)) ∙ f k
-      go (no k) f = let e : suc q ≡ p = omega arith in ap (λ (n : ℕ). share-before S n i) e
+      go _ (ok z one two a) l = omega (arith, l, order1-inside S one)
 
   -- host 0's masks as order p left them
   host0-left : {cs : List Call} (v : World) → Run S cs v → (p : ℕ) → Finished v p → getD (trail0 v) p ([], []) ≡ of0 (after-order S p)
@@ -76,22 +62,22 @@ module _ (S : Stage) where
 
     written : (p i : ℕ) → p < q → UnwrittenBetween S (suc p) q i → opened-after w v p i ≡ (0, reading-of w S q i)
     unfolding reading-of before-order
-    written p i l u = finished-opens S w v (F .run) p i (earlier p l) ∙ sym (ap read (kept-to (suc p) i q l before u))
+    written p i l u = finished-opens S w v (F .run) p i (earlier p l) ∙ sym (ap read (kept-between S (suc p) i q l before u))
 
     given : (i : ℕ) → i < S .script .slots → UnwrittenBetween S 0 q i → opened-given w S i ≡ (0, reading-of w S q i)
     unfolding reading-of opened-given before-order
     given i hi u =
-        share-opens w (given-share w S i hi) ∙ sym (ap read (kept-to 0 i q (omega arith) before u ∙ given-share-is w S i hi))
+        share-opens w (given-share w S i hi) ∙ sym (ap read (kept-between S 0 i q (omega arith) before u ∙ given-share-is w S i hi))
 
     mask-written : (p i : ℕ) → p < q → UnwrittenBetween S (suc p) q i → mask-after w v p i ≡ mask-before w S q i
     unfolding mask-after before-order
     mask-written p i l u =
         ap (λ (j : Pair). add w (at (j .0) i) (at (j .1) i)) (host0-left v (F .run) p (earlier p l))
-        ∙ sym (ap (mask (numbers w)) (kept-to (suc p) i q l before u))
+        ∙ sym (ap (mask (numbers w)) (kept-between S (suc p) i q l before u))
 
     mask-kept : (i : ℕ) → i < S .script .slots → UnwrittenBetween S 0 q i → mask-given w S i ≡ mask-before w S q i
     unfolding mask-given before-order
-    mask-kept i hi u = sym (ap (mask (numbers w)) (kept-to 0 i q (omega arith) before u ∙ given-share-is w S i hi))
+    mask-kept i hi u = sym (ap (mask (numbers w)) (kept-between S 0 i q (omega arith) before u ∙ given-share-is w S i hi))
 
 -- ---- of a job
 

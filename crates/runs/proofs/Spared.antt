@@ -2,8 +2,9 @@
 use mathlib.Core.Path.{_≡_, sym, ap, _∙_}
 use mathlib.Core.Bool.{false}
 use mathlib.Core.List.{List, [], _∷_, _++_, append-assoc, append-nil}
-use Prim.Native.Nat.{ℕ, zero, suc, _<_}
+use Prim.Native.Nat.{ℕ, zero, suc, _<_, _≤_}
 use native.Mathlib.Omega.{arith}
+use native.Mathlib.Decide.{decLe}
 use borrow.Author.Tests.{eqb-false}
 use lib.Dec.{eqb}
 use lib.ListN.{getD, set}
@@ -14,6 +15,7 @@ use Rattle.gates.specs.Hosts.{Triple, share, act}
 use Rattle.calls.specs.Scripts.{ends, orders-in}
 use Rattle.runs.specs.Runs.{Stage}
 use Rattle.runs.specs.Orders.{first, trail, after-order, before-order, share-before, share-after, Unwritten}
+use Rattle.runs.specs.Readings.{UnwrittenBetween}
 
 module _ (A B : List ℕ) where
   abbrev left : List Step → Cursor → Triple → List Triple
@@ -71,3 +73,14 @@ pub slot-kept : (S : Stage) (q i : ℕ) → q < orders-in (S .script) → Unwrit
 unfolding trail after-order before-order
 slot-kept S zero i h u = kept-first (S .A) (S .B) i (S .script .steps) origin (first S) (first S) h u
 slot-kept S (suc q) i h u = kept-next (S .A) (S .B) i q (S .script .steps) origin (first S) (first S) h u
+
+-- "the register keeps that until an order writes it": from just before order p to just before order q
+pub kept-between : (S : Stage) (p i q : ℕ) → p ≤ q → q ≤ orders-in (S .script) → UnwrittenBetween S p q i
+    → share-before S q i ≡ share-before S p i
+unfolding before-order
+kept-between S p i zero l h u = let e : 0 ≡ p = omega arith in ap (λ (n : ℕ). share-before S n i) e
+kept-between S p i (suc q) l h u = go (decLe p q) (λ k. kept-between S p i q k (omega arith) (λ n a b. u n a (omega arith)))
+  where
+    go : Dec (p ≤ q) → (p ≤ q → share-before S q i ≡ share-before S p i) → share-before S (suc q) i ≡ share-before S p i
+    go (yes k) f = slot-kept S q i (omega arith) (u q k (omega arith)) ∙ f k
+    go (no k) f = let e : suc q ≡ p = omega arith in ap (λ (n : ℕ). share-before S n i) e

@@ -1,24 +1,25 @@
 -- Wherever a host stands, a slot that the order at hand does not write holds what it held just before that order. Assumes nothing.
 use mathlib.Core.Path.{_≡_, refl, sym, ap, _∙_, subst}
 use mathlib.Core.List.{List, [], _∷_, _++_}
-use Prim.Native.Nat.{ℕ, zero, suc, _+_, _-_, _<_}
+use Prim.Native.Nat.{ℕ, zero, suc, _+_, _-_, _<_, _≤_}
 use native.Mathlib.Nat.{zero-add}
 use native.Mathlib.Omega.{arith}
 use lib.ListN.{getD, length, length-append, List·getD-append}
 use lib.Seq.{getD-take, getD-at}
 use Rattle.shares.specs.Gates.{Share}
-use Rattle.gates.specs.Steps.{Lane, at, Exchange, Step, local, deal, exchange, end, Cursor, past}
-use Rattle.gates.specs.Walk.{Conf, conf, next}
+use Rattle.gates.specs.Steps.{Lane, at, Exchange, Step, local, deal, exchange, end, Cursor, origin, past}
+use Rattle.gates.specs.Walk.{Conf, conf, next, whole}
 use Rattle.gates.specs.Hosts.{Pair, Triple, share, of1, of2, joint1, joint2, act}
 use Rattle.calls.specs.Scripts.{ends, orders-in, Closed}
 use Rattle.calls.specs.Calls.{State}
-use Rattle.runs.specs.Runs.{Stage, Spoken, Dealer, ready, Side, going, world, Call, Run}
+use Rattle.runs.specs.Runs.{Stage, Spoken, Dealer, ready, Side, going, world, Call, Run, side-order}
 use Rattle.runs.specs.Orders.{trail, after-order, before-order, share-before, Unwritten}
-use Rattle.runs.proofs.Places.{pos, trail-pos, trail-length, ends-pos}
+use Rattle.runs.specs.Returned.{UnwrittenFrom}
+use Rattle.runs.proofs.Places.{pos, whole-pos, trail-pos, trail-length, ends-pos}
 use Rattle.runs.proofs.Ties.{joint, Tied}
-use Rattle.runs.proofs.Kept.{all, j₀, last, position, dealt-all, go1, go2, Ok, ok, kept}
+use Rattle.runs.proofs.Kept.{all, j₀, last, position, dealt-all, OneOk, wait1, go1, go2, Ok, ok, kept}
 use Rattle.runs.proofs.Unwritten.{act-misses, closed-from}
-use Rattle.runs.proofs.Returned.{rest-length, last-is}
+use Rattle.runs.proofs.Spared.{kept-between}
 
 module _ (A B : List ℕ) (all : List Step) (j₀ : Triple) where
   abbrev at-n : ℕ → Conf Triple
@@ -97,6 +98,30 @@ module _ (A B : List ℕ) (all : List Step) (j₀ : Triple) where
       }
   current i (suc n) = current-next i (at-n n .rest) (at-n n .cur) (at-n n .state) (at-n n .trail) (current i n)
 
+  -- ---- the last position
+
+  shorter : (ss : List Step) (c : Cursor) (j : Triple) (t : List Triple) → length (next (act A B) (conf ss c j t) .rest) ≡ length ss - 1
+  shorter [] c j t = refl
+  shorter (x ∷ ss) c j t = omega arith
+
+  pub rest-length : (n : ℕ) → length (joint A B all j₀ n .rest) ≡ length all - n
+  unfolding pos
+  rest-length zero = omega arith
+  rest-length (suc n) =
+      let p : Conf Triple = joint A B all j₀ n in omega (arith, shorter (p .rest) (p .cur) (p .state) (p .trail), rest-length n)
+
+  whole-here : (ss : List Step) (c : Cursor) (j : Triple) (t : List Triple) → length ss ≡ 0 → whole (act A B) ss c j t ≡ conf ss c j t
+  unfolding whole
+  whole-here [] c j t e = refl
+  whole-here (x ∷ ss) c j t e = absurd (omega arith)
+
+  pub last-is : whole (act A B) all origin j₀ [] ≡ joint A B all j₀ (length all)
+  unfolding pos
+  last-is =
+      let p : Conf Triple = joint A B all j₀ (length all) in
+      whole-pos (act A B) all j₀ (length all)
+      ∙ whole-here (p .rest) (p .cur) (p .state) (p .trail) (omega (arith, rest-length (length all)))
+
 module _ (S : Stage) where
   abbrev A : List ℕ
   A = S .A
@@ -118,6 +143,19 @@ module _ (S : Stage) where
   -- slot i at position n
   stands-at : (n i : ℕ) → Unwritten i (point n .cur .order) (all S) → share (point n .state) i ≡ share-before S (point n .cur .order) i
   stands-at n i u = current A B (all S) (j₀ S) i n .same u ∙ ap (λ (x : Triple). share x i) (before-is n _ refl)
+
+  inside : (n : ℕ) → point n .cur .order ≤ orders-in (S .script)
+  inside n = omega (arith, ends-pos (act A B) (all S) (j₀ S) n)
+
+  -- behind order p, where no order from order p on writes it
+  pub stands-since : (p i n : ℕ) → UnwrittenFrom S p i → p ≤ point n .cur .order → share (point n .state) i ≡ share-before S p i
+  stands-since p i n u h =
+      stands-at n i (u (point n .cur .order) h) ∙ kept-between S p i (point n .cur .order) h (inside n) (λ q a b. u q a)
+
+  -- the orders that host 1 is past are the script's
+  pub order1-inside : {x : Side} → OneOk S x → side-order x ≤ orders-in (S .script)
+  order1-inside (wait1 h) = omega arith
+  order1-inside (go1 X) = rw (X .is) (inside (X .n))
 
   module _ (h : Triple → Pair) (say : Exchange → Cursor → Triple → ℕ) (s : State) (t : List Pair) (said : List Spoken)
       (Z : Tied A B (all S) (j₀ S) h say s t said) (i : ℕ) where
@@ -169,6 +207,11 @@ module _ (S : Stage) where
           → point (length (all S)) .cur .order ≡ ends (all S)
       go [] e l = sym (zero-add _) ∙ e
       go (x ∷ ss) e l = absurd (omega arith)
+
+  pub last-since : (p i : ℕ) → UnwrittenFrom S p i → p ≤ orders-in (S .script) → share (last S .state) i ≡ share-before S p i
+  last-since p i u h =
+      ap (λ (x : Conf Triple). share (x .state) i) (last-is A B (all S) (j₀ S))
+      ∙ stands-since p i (length (all S)) u (omega (arith, h, last-order))
 
   last-stands : Closed (all S) → (i : ℕ) → share (last S .state) i ≡ share-before S (orders-in (S .script)) i
   last-stands shut i =

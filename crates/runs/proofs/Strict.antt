@@ -25,7 +25,7 @@ use Rattle.runs.proofs.Refusals.{start-none, hear-none}
 use Rattle.runs.proofs.Kept.{all, j₀, position, Heard1, Heard2, HasDeals, not-yet, dealt-all, go1, go2, Ok, ok, supplied, deals-fit}
 use Rattle.runs.proofs.Kept.{refuses-nothing, kept}
 use Rattle.runs.proofs.Progress.{start-zero, hear-zero, lent2-zero, Ended, Onward, progress, stuck-ended}
-use Rattle.runs.proofs.Returned.{rest-length}
+use Rattle.runs.proofs.Standing.{rest-length}
 
 -- ---- the number of a hearing does not depend on the words lent
 
