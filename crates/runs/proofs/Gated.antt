@@ -29,7 +29,6 @@ use Rattle.programs.proofs.Opens.{new-mask, curve-mask, Sound, kind-opens}
 use Rattle.jobs.proofs.Accepted.{Good, exact-shift, curve-ruled}
 use Rattle.calls.specs.Scripts.{Orderly}
 use Rattle.calls.specs.Calls.{fresh}
-use Rattle.runs.proofs.Lists.{length-map}
 use Rattle.runs.specs.Runs.{Stage}
 use Rattle.runs.specs.Orders.{Words, first, trail, after-order, before-order, value-before, mask-before, value-after, mask-behind}
 use Rattle.runs.specs.Orders.{first-counts}
@@ -94,11 +93,6 @@ module _ (w : ℕ) (S : Stage) (tidy : Orderly (S .script)) (words : Words w S) 
       before-used os (ended w (S .A) (S .B) (words .A) (words .B) (run o G)) q in
       record { a = omega arith; b = omega arith; deals = omega arith }
 
-  points-length : (os : List (List Gate)) (G : Pt) → length (points w (S .A) (S .B) (words .A) (words .B) os G) ≡ length os
-  unfolding points
-  points-length [] G = refl
-  points-length (o ∷ os) G = ap suc (points-length os _)
-
   module _ (gates : List (List Gate)) (made : S .script .steps ≡ job-steps w gates) where
     abbrev pub before : ℕ → Pt
     before q = point-before w (S .A) (S .B) (words .A) (words .B) gates G₀ q
@@ -108,10 +102,6 @@ module _ (w : ℕ) (S : Stage) (tidy : Orderly (S .script)) (words : Words w S) 
     trail-is =
         ap (λ (ss : List Step). whole (act (S .A) (S .B)) ss origin (first S) [] .trail) made
         ∙ job-trail w (S .A) (S .B) (words .A) (words .B) gates G₀ []
-
-    -- as many entries as lists of gates
-    pub trail-gates : length (trail S) ≡ length gates
-    trail-gates = ap length trail-is ∙ length-map _ (points w (S .A) (S .B) (words .A) (words .B) gates G₀) ∙ points-length gates G₀
 
     pub after-is : (q : ℕ) → q < length gates → after-order S q ≡ run (getD gates q []) (before q) .j
     unfolding after-order

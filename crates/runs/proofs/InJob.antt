@@ -6,13 +6,14 @@ use Rattle.jobs.specs.Job.{orders}
 use Rattle.jobs.proofs.Accepted.{Good}
 use Rattle.runs.specs.Runs.{Setting, staged, World}
 use Rattle.runs.specs.Orders.{order-of, Finishes}
-use Rattle.runs.proofs.Opened.{trail-orders, order-good}
-use Rattle.runs.proofs.Opening.{finished-order}
+use Rattle.runs.proofs.Chain.{job-orders}
+use Rattle.runs.proofs.Opened.{order-good}
+use Rattle.runs.proofs.Standing.{in-script}
 use Rattle.runs.proofs.Started.{Checked, past-checked}
 
 module _ (w : ℕ) (S : Setting) (q : ℕ) (v : World) (F : Finishes w (staged w S) q v) where
   pub in-job : q < length (orders (S .job))
-  in-job = rw (trail-orders w S (F .words)) at (finished-order (staged w S) v (F .run) q (F .finished))
+  in-job = rw (job-orders w (S .job) (S .table)) at (in-script (staged w S) v (F .run) q (F .finished .one))
 
   pub checked : Checked (staged w S)
   checked = past-checked (staged w S) v q (F .run) (F .finished .one)

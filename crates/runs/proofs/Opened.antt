@@ -1,6 +1,6 @@
 -- What every order of an accepted job leaves on the joint walk: its target opens the value that document 01 defines, other registers keep
 -- their shares. Assumes nothing.
-use mathlib.Core.Path.{_≡_, sym, _∙_, subst}
+use mathlib.Core.Path.{_≡_, sym, subst}
 use mathlib.Core.Bool.{true, false}
 use mathlib.Core.List.{List, []}
 use Prim.Native.Nat.{ℕ, _<_}
@@ -19,10 +19,10 @@ use Rattle.jobs.proofs.Accepted.{Good, accepted-orders}
 use Rattle.calls.proofs.Scripts.{job-made}
 use Rattle.runs.proofs.Lists.{getD-map}
 use Rattle.runs.specs.Runs.{Setting, staged}
-use Rattle.runs.specs.Orders.{Words, trail, share-before, share-after, value-after, Unwritten, order-of, Untargeted, used-before}
+use Rattle.runs.specs.Orders.{Words, share-before, share-after, value-after, Unwritten, order-of, Untargeted, used-before}
 use Rattle.runs.specs.Orders.{refresh-mask, source-value, source-mask, second-value}
 use Rattle.runs.proofs.Chain.{gates-length, job-orders, job-orderly}
-use Rattle.runs.proofs.Gated.{trail-gates, program-leaves}
+use Rattle.runs.proofs.Gated.{program-leaves}
 use Rattle.runs.proofs.Spared.{slot-kept}
 use Rattle.runs.proofs.Written.{spares-program}
 use Rattle.runs.proofs.Unwritten.{unwritten-gates}
@@ -33,10 +33,6 @@ module _ (w : ℕ) (S : Setting) where
 
   abbrev made : staged w S .script .steps ≡ job-steps w gates
   made = job-made w (S .job) (S .table)
-
-  -- as many entries as the job has orders
-  pub trail-orders : Words w (staged w S) → length (trail (staged w S)) ≡ length (orders (S .job))
-  trail-orders words = trail-gates w (staged w S) (job-orderly w (S .job) (S .table)) words gates made ∙ gates-length w (S .job) (S .table)
 
   module _ (q : ℕ) (hq : q < length (orders (S .job))) where
     pub in-gates : q < length gates

@@ -1,5 +1,4 @@
--- After every run: what opening gives on a finished order's shares, and that the words spoken are those defined at their places. Assumes
--- nothing.
+-- After every run: what opening gives on a finished order's shares. Assumes nothing.
 use mathlib.Core.Path.{_≡_}
 use mathlib.Core.List.{List, [], _++_}
 use Prim.Native.Nat.{ℕ, _<_}

@@ -26,19 +26,12 @@ use Rattle.runs.proofs.Spared.{kept-between}
 use Rattle.runs.proofs.Opened.{untargeted}
 use Rattle.runs.proofs.Opening.{finished-order, finished-opens}
 use Rattle.runs.proofs.InJob.{good-order}
-use Rattle.runs.proofs.Standing.{order1-inside}
+use Rattle.runs.proofs.Standing.{in-script}
 use Rattle.runs.proofs.Returned.{given-share, given-share-is, unequal, Last, writer, nobody, last-of, target-is}
 
 -- ---- over any stage
 
 module _ (S : Stage) where
-  -- a finished order ends in the script's steps
-  in-script : {cs : List Call} (v : World) → Run S cs v → (q : ℕ) → Finished v q → q < orders-in (S .script)
-  in-script v r q f = go v (kept S r) (f .one)
-    where
-      go : (v : World) → Ok S v → q < order1 v → q < orders-in (S .script)
-      go _ (ok z one two a) l = omega (arith, l, order1-inside S one)
-
   -- host 0's masks as order p left them
   host0-left : {cs : List Call} (v : World) → Run S cs v → (p : ℕ) → Finished v p → getD (trail0 v) p ([], []) ≡ of0 (after-order S p)
   unfolding after-order trail
@@ -55,7 +48,7 @@ module _ (S : Stage) where
     read x = (0, signed w (value (numbers w) x))
 
     before : q ≤ orders-in (S .script)
-    before = omega (arith, in-script v (F .run) q (F .finished))
+    before = omega (arith, in-script S v (F .run) q (F .finished .one))
 
     earlier : (p : ℕ) → p < q → Finished v p
     earlier p l = record { one = omega (arith, F .finished .one); two = omega (arith, F .finished .two) }

@@ -12,7 +12,7 @@ use Rattle.gates.specs.Walk.{Conf, conf, next, whole}
 use Rattle.gates.specs.Hosts.{Pair, Triple, share, of1, of2, joint1, joint2, act}
 use Rattle.calls.specs.Scripts.{ends, orders-in, Closed}
 use Rattle.calls.specs.Calls.{State}
-use Rattle.runs.specs.Runs.{Stage, Spoken, Dealer, ready, Side, going, world, Call, Run, side-order}
+use Rattle.runs.specs.Runs.{Stage, Spoken, Dealer, ready, Side, going, World, world, Call, Run, side-order, order1}
 use Rattle.runs.specs.Orders.{trail, after-order, before-order, share-before, Unwritten}
 use Rattle.runs.specs.Returned.{UnwrittenFrom}
 use Rattle.runs.proofs.Places.{pos, whole-pos, trail-pos, trail-length, ends-pos}
@@ -156,6 +156,12 @@ module _ (S : Stage) where
   pub order1-inside : {x : Side} → OneOk S x → side-order x ≤ orders-in (S .script)
   order1-inside (wait1 h) = omega arith
   order1-inside (go1 X) = rw (X .is) (inside (X .n))
+
+  pub in-script : {cs : List Call} (v : World) → Run S cs v → (q : ℕ) → q < order1 v → q < orders-in (S .script)
+  in-script v r q l = go v (kept S r) l
+    where
+      go : (v : World) → Ok S v → q < order1 v → q < orders-in (S .script)
+      go _ (ok z one two a) l = omega (arith, l, order1-inside one)
 
   module _ (h : Triple → Pair) (say : Exchange → Cursor → Triple → ℕ) (s : State) (t : List Pair) (said : List Spoken)
       (Z : Tied A B (all S) (j₀ S) h say s t said) (i : ℕ) where
