@@ -23,7 +23,8 @@ use Rattle.runs.specs.Runs.{Setting, staged, World}
 use Rattle.runs.specs.Orders.{order-of, refresh-mask, source-value, source-mask, second-value, reading, opens, Finishes}
 use Rattle.demands.specs.Demand3.{Y-of, Exact, OneBit}
 use Rattle.demands.specs.ByKind.{reduced, second-reading, shift, m-of, W-of, ByKind}
-use Rattle.demands.proofs.Curves.{good, rules-kept, kind-value, of-kind, curve-opens}
+use Rattle.runs.proofs.InJob.{good-order}
+use Rattle.demands.proofs.Curves.{rules-kept, kind-value, of-kind, curve-opens}
 
 module _ (w : ℕ) (wide : 12 < w) (S : Setting) (q : ℕ) (v : World) (F : Finishes w (staged w S) q v) where
   abbrev x : ℕ
@@ -91,7 +92,7 @@ module _ (w : ℕ) (wide : 12 < w) (S : Setting) (q : ℕ) (v : World) (F : Fini
   shift-low : order-of S q .kind ≡ 7 → shift S q ≤ w - 2
   unfolding ill-fourth ill-fourths
   shift-low k =
-      ltb-false (w - 2) (shift S q) (or-false (eqb (shift S q) 0) (ltb (w - 2) (shift S q)) (rw k at (good w S q v F .fourth)) .1)
+      ltb-false (w - 2) (shift S q) (or-false (eqb (shift S q) 0) (ltb (w - 2) (shift S q)) (rw k at (good-order w S q v F .fourth)) .1)
 
   one-bit-range : order-of S q .kind ≡ 7 → T (in-range w (reading w S q))
       → opens w S v q ≡ (0, floor (reading w S q) (2 ^ shift S q) +ℤ pos (slip (shift S q) (wrap (shift S q) (reading w S q)) L))

@@ -17,19 +17,14 @@ use Rattle.runs.specs.Orders.{order-of, refresh-mask, source-value, source-mask
 use Rattle.demands.specs.Demand3.{Y-of}
 use Rattle.runs.proofs.Opened.{order-leaves}
 use Rattle.runs.proofs.Opening.{finished-opens}
-use Rattle.runs.proofs.InJob.{in-job, checked}
+use Rattle.runs.proofs.InJob.{in-job, checked, good-order}
 
 -- ---- at every width
 
--- the order met none of the conditions 3 to 5
-pub good : (w : ℕ) (S : Setting) (q : ℕ) (v : World) → Finishes w (staged w S) q v → Good w (keeps-rules (S .table)) (order-of S q)
-unfolding order-of
-good w S q v F = accepted-orders w (S .job) (S .table) (checked w S q v F .script) q (in-job w S q v F) _
-
--- so a curve's table keeps the rules
+-- an order that met none of the conditions 3 to 5: a curve's table keeps the rules
 pub rules-kept : (w : ℕ) (S : Setting) (q : ℕ) (v : World) → Finishes w (staged w S) q v → order-of S q .kind ≡ 10
     → T (keeps-rules (S .table))
-rules-kept w S q v F k = rw (curve-ruled w (keeps-rules (S .table)) (order-of S q) (good w S q v F) k .1) tt
+rules-kept w S q v F k = rw (curve-ruled w (keeps-rules (S .table)) (order-of S q) (good-order w S q v F) k .1) tt
 
 -- the value of kind n on what order q finds
 abbrev pub kind-value : (w : ℕ) → Setting → (q n : ℕ) → ℕ
@@ -38,16 +33,13 @@ kind-value w S q n =
     (refresh-mask w S q)) n 0
 
 module _ (w : ℕ) (wide : 12 < w) (S : Setting) (q : ℕ) (v : World) (F : Finishes w (staged w S) q v) where
-  low : 2 ≤ w
-  low = omega arith
-
   -- an order of kind n opens that kind's value
   pub of-kind : (n : ℕ) → order-of S q .kind ≡ n → opens w S v q ≡ (0, signed w (kind-value w S q n))
   unfolding order-value
   of-kind n e =
       finished-opens (staged w S) w v (F .run) q (order-of S q .target) (F .finished)
       ∙ ap {B = ℕ × ℤ} (λ (x : ℕ). (0, signed w x))
-      (order-leaves w S (F .words) low wide (checked w S q v F .script) q (in-job w S q v F) ∙ ap (kind-value w S q) e)
+      (order-leaves w S (F .words) wide (checked w S q v F .script) q (in-job w S q v F) ∙ ap (kind-value w S q) e)
 
   -- a curve order opens its curve's value, in its mode
   pub curve-opens : (mode : ℕ) → order-of S q .kind ≡ 10 → order-of S q .fourth ≡ mode

@@ -18,7 +18,7 @@ use Rattle.calls.specs.Lent.{Worker, worker1, worker2, dealer-fault}
 use Rattle.calls.specs.Calls.{State, Answer, fresh2, script-deals, prepared, prepare}
 use Rattle.calls.proofs.Scripts.{job-made}
 use Rattle.runs.specs.Runs.{Stage, Setting, staged, Spoken, Among, Dealer, ready, Side, waiting, going, world, registers, Dealt}
-use Rattle.runs.specs.Orders.{slot, after-order, before-order, Unwritten, order-of}
+use Rattle.runs.specs.Orders.{share-before, share-after, Unwritten, order-of}
 use Rattle.runs.specs.InOrder.{words-of-1, words-of-2}
 use Rattle.demands.specs.Demand2.{Counted, Demand2}
 use Rattle.runs.proofs.Ties.{Shadow, shadow1, shadow2, Tied, Answered}
@@ -97,7 +97,7 @@ module _ (S : Stage) where
 
 -- no step of a job's order writes a register but its target
 register-kept : (w : ℕ) (S : Setting) (q i : ℕ) → q < length (orders (S .job)) → i < 16 → eqb i (order-of S q .target) ≡ false
-    → slot (after-order (staged w S) q) i ≡ slot (before-order (staged w S) q) i
+    → share-after (staged w S) q i ≡ share-before (staged w S) q i
 register-kept w S q i hq hi e =
     slot-kept (staged w S) q i (rw (job-orders w (S .job) (S .table)) hq)
     (subst (λ (ss : List Step). Unwritten i q ss) (sym (job-made w (S .job) (S .table)))

@@ -15,7 +15,7 @@ use Rattle.gates.specs.declared.Gate.the-variants.{Refresh}
 use Rattle.gates.specs.Steps.{at, origin}
 use Rattle.gates.specs.Meaning.{meaning, order-steps, job-steps}
 use Rattle.gates.specs.Walk.{Conf, whole, far}
-use Rattle.gates.specs.Hosts.{Triple, act}
+use Rattle.gates.specs.Hosts.{Triple, act, share}
 use Rattle.gates.specs.Costs.{Cost, step-cost, cost, plus}
 use Rattle.gates.proofs.Needs.{far-used, whole-alike}
 use Rattle.programs.specs.Programs.{sum-program, one-bit-program, curve-one-bit}
@@ -25,7 +25,7 @@ use Rattle.programs.proofs.Costs.{cost-after}
 use Rattle.jobs.specs.Job.{orders, steps-of, job-cost}
 use Rattle.calls.proofs.Scripts.{job-made}
 use Rattle.runs.specs.Runs.{Setting, staged}
-use Rattle.runs.specs.Orders.{Words, first, slot, before-order, order-of, used-before, refresh-mask, reading}
+use Rattle.runs.specs.Orders.{Words, first, before-order, order-of, used-before, refresh-mask, reading}
 use Rattle.demands.specs.Demand3.{OneBit, refresh-place, with-word}
 use Rattle.runs.proofs.Chain.{job-orderly, state-before, first-cost, used-within}
 use Rattle.runs.proofs.Gated.{G₀, before-is}
@@ -90,7 +90,7 @@ module _ (w : ℕ) (S : Setting) (q : ℕ) where
       → reading w (with-word w S q a) q ≡ reading w S q
   unfolding reading with-word order-of
   reading-same a words words′ h =
-      ap (λ (t : Triple). signed w (value (numbers w) (slot t (order-of S q .source)))) (before-same a words words′ h)
+      ap (λ (t : Triple). signed w (value (numbers w) (share t (order-of S q .source)))) (before-same a words words′ h)
 
   -- and the mask is that word plus the refresh's word of B
   pub mask-same : (a : ℕ) → i < length (S .A) → refresh-mask w (with-word w S q a) q ≡ add w a word-of-b

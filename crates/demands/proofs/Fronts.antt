@@ -12,7 +12,7 @@ use Rattle.gates.specs.declared.Gate.{Gate}
 use Rattle.gates.specs.Steps.{Step, end, origin}
 use Rattle.gates.specs.Meaning.{meaning, order-steps, job-steps}
 use Rattle.gates.specs.Walk.{Conf, whole}
-use Rattle.gates.specs.Hosts.{Triple, act}
+use Rattle.gates.specs.Hosts.{Triple, act, share}
 use Rattle.gates.specs.Costs.{Cost, cost, plus}
 use Rattle.gates.proofs.Needs.{whole-append, cost-append}
 use Rattle.programs.specs.declared.Order.{Order}
@@ -22,16 +22,15 @@ use Rattle.jobs.specs.FirstFault.{order, IllSized, no-words, above-256, not-by-
 use Rattle.jobs.proofs.FirstFault.{number-0}
 use Rattle.calls.specs.Scripts.{script-cost}
 use Rattle.runs.specs.Runs.{Stage, Setting, staged, World, opened-after, Accepted}
-use Rattle.runs.specs.Orders.{first, trail, after-order, slot, order-of, opens, Finishes}
+use Rattle.runs.specs.Orders.{first, trail, after-order, order-of, opens, Finishes}
 use Rattle.runs.specs.Returned.{opened-now, UnwrittenFrom}
 use Rattle.demands.specs.Fronts.{Front, up-to, Fronts}
 use Rattle.runs.proofs.Places.{trail-grows}
 use Rattle.runs.proofs.Chain.{job-orders, job-orderly}
 use Rattle.runs.proofs.Unwritten.{closed-from}
 use Rattle.runs.proofs.Opening.{finished-order, finished-opens}
-use Rattle.runs.proofs.InJob.{in-job}
-use Rattle.runs.proofs.Returned.{now-after}
-use Rattle.demands.proofs.Curves.{good}
+use Rattle.runs.proofs.InJob.{in-job, good-order}
+use Rattle.runs.proofs.Returned.{returned}
 
 -- ---- any script
 
@@ -67,7 +66,7 @@ same : (w : ℕ) (S′ S : Stage) → Front S′ S → (q : ℕ) (v v′ : World
     → opened-after w v q i ≡ opened-after w v′ q i
 same w S′ S F q v v′ G G′ i =
     finished-opens S w v (G .run) q i (G .finished)
-    ∙ ap {B = ℕ × _} (λ (j : Triple). (0, signed w (value (numbers w) (slot j i))))
+    ∙ ap {B = ℕ × _} (λ (j : Triple). (0, signed w (value (numbers w) (share j i))))
     (after-same S′ S F q (finished-order S′ v′ (G′ .run) q (G′ .finished)))
     ∙ sym (finished-opens S′ w v′ (G′ .run) q i (G′ .finished))
 
@@ -184,8 +183,7 @@ as-last w S q v v′ F F′ =
     let S′ : Stage = staged w (up-to S q) in
     let t : ℕ = order-of S q .target in
     same w S′ (staged w S) (front w S q hq) q v v′ F F′ t
-    ∙ finished-opens S′ w v′ (F′ .run) q t (F′ .finished)
-    ∙ sym (now-after w S′ t (good w S q v F .target) v′ (F′ .run) q (F′ .finished) (none-behind w S q hq t))
+    ∙ sym (returned w .written S′ q v′ F′ t (good-order w S q v F .target) (none-behind w S q hq t))
 
 pub fronts : (w : ℕ) → Fronts w
 fronts w = record { same = same w; as-last = as-last w; accepted = λ S q buf hq acc. accepted w S q hq buf acc }

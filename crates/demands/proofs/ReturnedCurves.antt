@@ -26,7 +26,7 @@ use Rattle.runs.proofs.Strict.{wide-on, given-back}
 use Rattle.runs.proofs.Same.{strict}
 
 now-opens : (S : Setting) (q : ℕ) (v : World) → Stays 32 S q v → target-opens 32 S v q ≡ opens 32 S v q
-now-opens S q v F = returned .last-writer S q v (F .finishes) (F .last)
+now-opens S q v F = returned 32 .last-writer S q v (F .finishes) (F .last)
 
 -- ---- the family of runs
 

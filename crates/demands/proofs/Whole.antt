@@ -15,10 +15,10 @@ use Rattle.demands.specs.Demand1.{job-terms, gate-terms, Demand1}
 use Rattle.runs.specs.Strict.{Calls, none, completes}
 use Rattle.demands.specs.Whole.{WholeRun, first-world, Whole}
 use Rattle.runs.proofs.Kept.{kept}
-use Rattle.runs.proofs.Progress.{lent1-zero, lent2-zero}
+use Rattle.runs.proofs.Progress.{lent1-zero, lent2-zero, start-zero}
 use Rattle.demands.proofs.Numbers.{preparation-is}
 use Rattle.demands.proofs.Demand1.{demand1-at, demand1}
-use Rattle.runs.proofs.Strict.{wide-on, start-zero, joined, buffer-kept, carried-with}
+use Rattle.runs.proofs.Strict.{wide-on, joined, buffer-kept, carried-with}
 
 module _ (S : Stage) (buf : List ℕ) (r : Pair) where
   -- the script's number, whatever its index
@@ -100,8 +100,8 @@ module _ (S : Stage) (E : List ℕ) where
         let b0 = given-out p1 p2 in
         let c1 = completes none (prepares e) tt in
         let acc′ : Accepted S b = buffer-kept S (prepares e) (kept S (wide-on S (begin b0) c1)) acc in
-        let c2 = completes c1 (starts1 E (start-zero S (lent1 S E) (held S one) (lent1-zero S b acc′ E))) refl in
-        let c3 = completes c2 (starts2 b refl (start-zero S (lent2 S b) (held S two) (lent2-zero S b acc′ b (acc′ .deals)))) refl in
+        let c2 = completes c1 (starts1 E (start-zero (lent1 S E) (held S one) (lent1-zero S b acc′ E))) refl in
+        let c3 = completes c2 (starts2 b refl (start-zero (lent2 S b) (held S two) (lent2-zero S b acc′ b (acc′ .deals)))) refl in
         let d = carried-with S E (AtWork m b) (works-on m b) (record {
           from = first-world S buf one two;
           begins = b0;

@@ -16,7 +16,7 @@ use Rattle.calls.specs.Scripts.{job-script, script-cost, orders-in, Orderly}
 use Rattle.calls.specs.Calls.{State, start, hear}
 use Rattle.runs.specs.Runs.{Stage, Setting, staged, Spoken, Among, Dealer, ready, Side, waiting, going, World}
 use Rattle.runs.specs.Runs.{world, Call, lent1, lent2, Dealt, preparation, held, Run, opened-after}
-use Rattle.runs.specs.Orders.{slot, after-order, before-order, Unwritten, order-of, refresh-mask}
+use Rattle.runs.specs.Orders.{share-before, share-after, value-after, Unwritten, order-of, refresh-mask}
 use Rattle.runs.specs.Orders.{source-value, source-mask, second-value, opens, Finishes}
 use Rattle.runs.specs.InOrder.{words-of-1, words-of-2}
 
@@ -40,14 +40,14 @@ pub record Demand2 : Type 0 where
       → opens w S v q ≡ (0, signed w (defined-value w S q))
   -- opening any register as the order leaves it never meets 10, and gives its value on the joint walk
   pub shares-agree : (w : ℕ) (S : Stage) (q i : ℕ) (v : World) → Finishes w S q v
-      → opened-after w v q i ≡ (0, signed w (value (numbers w) (slot (after-order S q) i)))
+      → opened-after w v q i ≡ (0, signed w (value-after w S q i))
   -- "the register keeps that until an order writes it": any slot that no step of the order writes; so every register
   -- but a job's order's target
   pub slot-kept : (S : Stage) (q i : ℕ) → q < orders-in (S .script) → Unwritten i q (S .script .steps)
-      → slot (after-order S q) i ≡ slot (before-order S q) i
+      → share-after S q i ≡ share-before S q i
   pub register-kept : (w : ℕ) (S : Setting) (q i : ℕ) (v : World) → Finishes w (staged w S) q v → i < 16
       → eqb i (order-of S q .target) ≡ false
-      → slot (after-order (staged w S) q) i ≡ slot (before-order (staged w S) q) i
+      → share-after (staged w S) q i ≡ share-before (staged w S) q i
   -- "every spoken word is the one defined there": one of those defined; in order and each once, InOrder.antt
   pub host1-speaks : (S : Stage) (cs : List Call) (z : Dealer) (buf : List ℕ) (s : State) (t : List Pair)
       (said : List Spoken)

@@ -33,10 +33,10 @@ use Rattle.calls.specs.Lent.{or-else, dealer-lists-fault, dealer-fault}
 use Rattle.calls.specs.Calls.{fresh}
 use Rattle.calls.proofs.Faults.{long-enough}
 use Rattle.runs.specs.Runs.{Setting, staged, opened-slot}
-use Rattle.runs.specs.Orders.{Words, slot, before-order, after-order, order-of, first-counts, used-before, refresh-mask, source-value}
+use Rattle.runs.specs.Orders.{Words, before-order, after-order, value-after, order-of, first-counts, used-before, refresh-mask, source-value}
 use Rattle.runs.proofs.Opened.{order-leaves}
 use Rattle.sample_masks.proofs.Multiples.{multiples-length, multiples-at, multiples-fit}
-use Rattle.gates.specs.Hosts.{Triple}
+use Rattle.gates.specs.Hosts.{Triple, share}
 use Rattle.trio.specs.Together.{Trio}
 use Rattle.trio.proofs.Positions.{prepare-number, left-of, P}
 use Rattle.trio.proofs.Leaves.{left-one, register-opens, words-spoken, deals-dealt}
@@ -191,10 +191,10 @@ module _ (mode m l1 l2 : ℕ) where
     left-is =
         left-one 32 (staged 32 S) (program 32 (rows house) (record { kind = 10; target = 0; source = 0; fourth = mode-word mode })) refl
 
-    leaves : value (numbers 32) (slot (after-order (staged 32 S) 0) 0) ≡ curve-value 32 (rows house) (mode-word mode) x refresh-L
+    leaves : value-after 32 (staged 32 S) 0 0 ≡ curve-value 32 (rows house) (mode-word mode) x refresh-L
     unfolding order-of orders order-value values
     leaves =
-        order-leaves 32 S fitting (lit≤ tt) (lit< tt) (job-sound mode) 0 (lit< tt)
+        order-leaves 32 S fitting (lit< tt) (job-sound mode) 0 (lit< tt)
         ∙ ap₂ (λ (v R : ℕ). curve-value 32 (rows house) (mode-word mode) v R) source-is mask-is
 
     opens-curve : opens-first (trial mode m l1 l2)
@@ -202,7 +202,7 @@ module _ (mode m l1 l2 : ℕ) where
     unfolding trial
     opens-curve =
         register-opens (staged 32 S) buffer accepted 32 0 (lit< tt)
-        ∙ ap {B = ℕ × ℤ} (λ (v : ℕ). (0, signed 32 v)) (ap (λ (j : Triple). value (numbers 32) (slot j 0)) left-is ∙ leaves)
+        ∙ ap {B = ℕ × ℤ} (λ (v : ℕ). (0, signed 32 v)) (ap (λ (j : Triple). value (numbers 32) (share j 0)) left-is ∙ leaves)
 
     curve-is : (n : ℕ) (z : ℤ) → signed 32 x ≡ z → T (in-range 32 z)
         → signed 32 (curve-value 32 (rows house) (mode-word n) x refresh-L) ≡ Spec.value n z

@@ -1,18 +1,19 @@
 -- What the buffer holds: the joint walk's deals in gate order, then the words that stood behind them. Assumes nothing.
-use mathlib.Core.Path.{_≡_, refl, sym, ap, _∙_}
+use mathlib.Core.Path.{_≡_, refl, ap, _∙_}
 use mathlib.Core.List.{List, [], _∷_, _++_}
 use Prim.Native.Nat.{ℕ}
 use lib.ListN.{length, drop}
 use Rattle.gates.specs.Steps.{Step, Cursor, origin, past}
-use Rattle.gates.specs.Hosts.{Pair, Triple, of0, act, dealt, deals}
+use Rattle.gates.specs.Hosts.{Pair, Triple, of0, dealt, deals, act}
 use Rattle.gates.proofs.Lanes.{of0-act}
 use Rattle.jobs.specs.Job.{Fault}
 use Rattle.calls.specs.Lent.{dealer-fault}
 use Rattle.calls.specs.Calls.{script-deals, prepare}
-use Rattle.runs.specs.Runs.{Stage, Spoken, Dealer, idle, ready, Side, World, world, Refuses, Call, preparation, Completes, prepares, starts1, starts2, hears1, hears2, Begins, given-out, Run, begin, buffer-of}
+use Rattle.runs.specs.Runs.{Stage, Spoken, idle, ready, Side, World, world, Call, preparation, Completes, prepares, starts1, starts2}
+use Rattle.runs.specs.Runs.{hears1, hears2, Begins, given-out, Run, begin, buffer-of}
 use Rattle.runs.specs.Strict.{Calls, none, completes, refuses}
 use Rattle.runs.specs.Buffers.{defined-deals, deals-of, with-deals, Buffers}
-use Rattle.runs.proofs.Kept.{Ok, ok, not-yet, prepared-none, refuses-nothing, kept}
+use Rattle.runs.proofs.Kept.{not-yet, Ok, ok, prepared-none, refuses-nothing, kept}
 use Rattle.runs.proofs.Strict.{wide-on}
 
 deals-defined : (A B : List ℕ) (ss : List Step) (c : Cursor) (j : Triple) → deals A B ss c (of0 j) ≡ defined-deals A B ss c j
@@ -38,10 +39,12 @@ module _ (S : Stage) where
   from-given r buf h e =
       let f : Fault = dealer-fault (S .script) (S .A) (S .B) buf in
       let p = prepared-none S (f .0) f buf r refl e in
-      let d : script-deals (S .script) (S .A) (S .B) r ≡ deals-of S = ap {B = List ℕ} (λ (x : Pair). script-deals (S .script) (S .A) (S .B) x) h ∙ own-deals in
+      let d : script-deals (S .script) (S .A) (S .B) r ≡ deals-of S =
+      ap {B = List ℕ} (λ (x : Pair). script-deals (S .script) (S .A) (S .B) x) h ∙ own-deals in
       (p .2 ∙ ap length d, p .1 ∙ ap (λ (l : List ℕ). l ++ drop (length l) buf) d)
 
-  pub prepares-filled : {cs : List Call} {r : Pair} {buf : List ℕ} {one two : Side} → Run S cs (world (idle r) buf one two) → preparation S buf r .number ≡ 0
+  pub prepares-filled : {cs : List Call} {r : Pair} {buf : List ℕ} {one two : Side} → Run S cs (world (idle r) buf one two)
+      → preparation S buf r .number ≡ 0
       → (preparation S buf r .deals ≡ length (deals-of S)) × (preparation S buf r .buffer ≡ with-deals S buf)
   prepares-filled {r = r} {buf = buf} R e = from-given r buf (masks-given (kept S R)) e
 
@@ -64,7 +67,8 @@ module _ (S : Stage) where
   held-first : {v : World} → Begins S v → Held (buffer-of v) v
   held-first (given-out a b) = refl
 
-  pub held-along : {E : List ℕ} {v v′ : World} {cs : List Call} {h1 h2 : List Spoken} → Begins S v → Calls S E v [] [] cs v′ h1 h2 → Held (buffer-of v) v′
+  pub held-along : {E : List ℕ} {v v′ : World} {cs : List Call} {h1 h2 : List Spoken} → Begins S v → Calls S E v [] [] cs v′ h1 h2
+      → Held (buffer-of v) v′
   held-along b none = held-first b
   held-along {v = v} b (completes c k n) = held-on (buffer-of v) (wide-on S (begin b) c) k (held-along b c)
   held-along b (refuses c f) = rw (refuses-nothing S (kept S (wide-on S (begin b) c)) f) (held-along b c)

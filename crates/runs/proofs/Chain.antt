@@ -3,21 +3,20 @@ use mathlib.Core.Path.{_≡_, refl, sym, ap, _∙_}
 use mathlib.Core.List.{List, [], _∷_, _++_, map, append-nil, append-assoc}
 use Prim.Native.Nat.{ℕ, zero, suc, _+_, _≤_, _<_}
 use native.Mathlib.Omega.{arith}
-use lib.ListN.{getD, length, take}
+use lib.ListN.{getD, length, take, length-map}
 use Rattle.gates.specs.declared.Gate.{Gate}
 use Rattle.gates.specs.declared.Gate.the-variants.{Add, Sub, Xor, Mul, And, Refresh, Scale, Plus, Up, Bit, Const, Public, Deal, DealBits}
 use Rattle.gates.specs.Steps.{Step, end, past}
 use Rattle.gates.specs.Meaning.{meaning, order-steps, job-steps}
 use Rattle.gates.specs.Walk.{Conf, mark, whole}
 use Rattle.gates.specs.Hosts.{Triple, act}
-use Rattle.gates.specs.Costs.{Cost, plus, cost, step-cost}
+use Rattle.gates.specs.Costs.{Cost, plus, step-cost, cost}
 use Rattle.gates.proofs.Needs.{cost-path}
 use Rattle.programs.specs.Costs.{program-cost}
 use Rattle.programs.proofs.Gates.{Fits}
 use Rattle.programs.proofs.Points.{Point, after, afters}
 use Rattle.jobs.specs.Job.{orders, job-gates, steps-of}
 use Rattle.calls.specs.Scripts.{job-script, ends, Closed, Orderly}
-use Rattle.runs.proofs.Lists.{length-map}
 use Rattle.runs.specs.Orders.{first-counts}
 
 pub mark-gate : {S : Type 0} (w : ℕ) (g : Gate) (s : S) (t : List S) → mark (meaning w g) s t ≡ t
@@ -54,12 +53,15 @@ module _ (w : ℕ) (A B : List ℕ) (hA : Fits w A) (hB : Fits w B) where
   points (o ∷ os) G = run o G ∷ points os (ended (run o G))
 
   whole-order : (gs : List Gate) (G : Pt) (ss : List Step) (t : List Triple)
-      → whole (act A B) (order-steps w gs ss) (G .c) (G .j) t ≡ whole (act A B) ss (past end (run gs G .c)) (run gs G .j) (t ++ (run gs G .j ∷ []))
+      → whole (act A B) (order-steps w gs ss) (G .c) (G .j) t
+      ≡ whole (act A B) ss (past end (run gs G .c)) (run gs G .j) (t ++ (run gs G .j ∷ []))
   unfolding whole order-steps afters after act
   whole-order [] G ss t = refl
-  whole-order (g ∷ gs) G ss t = ap (whole (act A B) (order-steps w gs ss) _ _) (mark-gate w g (G .j) t) ∙ whole-order gs (after w A B hA hB g G) ss t
+  whole-order (g ∷ gs) G ss t =
+      ap (whole (act A B) (order-steps w gs ss) _ _) (mark-gate w g (G .j) t) ∙ whole-order gs (after w A B hA hB g G) ss t
 
-  pub job-trail : (os : List (List Gate)) (G : Pt) (t : List Triple) → whole (act A B) (job-steps w os) (G .c) (G .j) t .trail ≡ t ++ map (λ (p : Pt). p .j) (points os G)
+  pub job-trail : (os : List (List Gate)) (G : Pt) (t : List Triple)
+      → whole (act A B) (job-steps w os) (G .c) (G .j) t .trail ≡ t ++ map (λ (p : Pt). p .j) (points os G)
   unfolding whole job-steps points
   job-trail [] G t = sym (append-nil t)
   job-trail (o ∷ os) G t =
@@ -74,7 +76,8 @@ module _ (w : ℕ) (A B : List ℕ) (hA : Fits w A) (hB : Fits w B) where
   point-before (o ∷ os) G (suc q) = point-before os (ended (run o G)) q
 
   -- order q takes the point before it to the next
-  pub point-after : (os : List (List Gate)) (G E : Pt) (q : ℕ) → q < length os → getD (points os G) q E ≡ run (getD os q []) (point-before os G q)
+  pub point-after : (os : List (List Gate)) (G E : Pt) (q : ℕ) → q < length os
+      → getD (points os G) q E ≡ run (getD os q []) (point-before os G q)
   unfolding points point-before
   point-after [] G E q h = absurd (omega arith)
   point-after (o ∷ os) G E zero h = refl
@@ -89,12 +92,14 @@ module _ (w : ℕ) (A B : List ℕ) (hA : Fits w A) (hB : Fits w B) where
   point-next (o ∷ os) G E (suc q) h = point-next os (ended (run o G)) E q (omega arith)
 
   -- the walk of the first q orders comes to the point before order q
-  pub state-before : (os : List (List Gate)) (G : Pt) (q : ℕ) (t : List Triple) → whole (act A B) (job-steps w (take q os)) (G .c) (G .j) t .state ≡ point-before os G q .j
+  pub state-before : (os : List (List Gate)) (G : Pt) (q : ℕ) (t : List Triple)
+      → whole (act A B) (job-steps w (take q os)) (G .c) (G .j) t .state ≡ point-before os G q .j
   unfolding whole job-steps point-before
   state-before [] G zero t = refl
   state-before [] G (suc q) t = refl
   state-before (o ∷ os) G zero t = refl
-  state-before (o ∷ os) G (suc q) t = ap (λ (p : Conf Triple). p .state) (whole-order o G (job-steps w (take q os)) t) ∙ state-before os (ended (run o G)) q _
+  state-before (o ∷ os) G (suc q) t =
+      ap (λ (p : Conf Triple). p .state) (whole-order o G (job-steps w (take q os)) t) ∙ state-before os (ended (run o G)) q _
 
 -- ---- the counts of a job, order by order
 
@@ -111,11 +116,13 @@ first-cost w (o ∷ os) zero = refl
 first-cost w (o ∷ os) (suc q) = order-cost w o (job-steps w (take q os)) ∙ ap (plus (program-cost w o)) (first-cost w os q)
 
 -- the words of A that the orders up to order q use
-pub used-within : (w : ℕ) (os : List (List Gate)) (q : ℕ) → q < length os → first-counts w q os .a + program-cost w (getD os q []) .a ≤ cost (job-steps w os) .a
+pub used-within : (w : ℕ) (os : List (List Gate)) (q : ℕ) → q < length os
+    → first-counts w q os .a + program-cost w (getD os q []) .a ≤ cost (job-steps w os) .a
 unfolding job-steps first-counts plus
 used-within w [] q h = absurd (omega arith)
 used-within w (o ∷ os) zero h = omega (arith, ap (λ (k : Cost). k .a) (order-cost w o (job-steps w os)))
-used-within w (o ∷ os) (suc q) h = omega (arith, ap (λ (k : Cost). k .a) (order-cost w o (job-steps w os)), used-within w os q (omega arith))
+used-within w (o ∷ os) (suc q) h =
+    omega (arith, ap (λ (k : Cost). k .a) (order-cost w o (job-steps w os)), used-within w os q (omega arith))
 
 -- ---- as many ends as orders
 
@@ -149,7 +156,7 @@ ends-job w (o ∷ os) = ends-order w o (job-steps w os) ∙ ap suc (ends-job w o
 -- a job has as many lists of gates as orders
 pub gates-length : (w : ℕ) (job table : List ℕ) → length (job-gates w job table) ≡ length (orders job)
 unfolding job-gates
-gates-length w job table = length-map _ (orders job)
+gates-length w job table = length-map (orders job) _
 
 pub job-orders : (w : ℕ) (job table : List ℕ) → ends (steps-of w job table) ≡ length (orders job)
 unfolding steps-of

@@ -1,23 +1,22 @@
--- A stage whose steps are those of lists of gates: its trail is what they leave, one after another, and where one of them is an order's program, its target
--- opens the value that document 01 defines and other registers keep their shares. Assumes nothing.
+-- A stage whose steps are those of lists of gates: its trail is what they leave, one after another, and where one of them is an order's
+-- program, its target opens the value that document 01 defines. Assumes nothing.
 use mathlib.Core.Path.{_≡_, refl, sym, ap, ap₂, _∙_}
-use mathlib.Core.Bool.{Bool, true, false}
+use mathlib.Core.Bool.{Bool, true}
 use mathlib.Core.List.{List, [], _∷_, _++_, map}
 use Prim.Native.Nat.{ℕ, zero, suc, _+_, _≤_, _<_}
 use native.Mathlib.Omega.{arith}
 use borrow.Author.Tests.{ltb-true}
-use lib.Dec.{eqb}
 use lib.Pow.{pow-pos}
 use lib.ListN.{getD, length, replicate, List·getD-map}
 use Rattle.words.specs.Words.{add, numbers}
-use Rattle.shares.specs.Gates.{value, mask}
+use Rattle.shares.specs.Gates.{mask, value}
 use Rattle.tables.specs.Table.{Row}
 use Rattle.gates.specs.declared.Gate.{Gate}
-use Rattle.gates.specs.Steps.{Step, Lane, at, end, origin, past}
+use Rattle.gates.specs.Steps.{Lane, at, Step, end, origin, past}
 use Rattle.gates.specs.Meaning.{meaning, order-steps, job-steps}
 use Rattle.gates.specs.Walk.{whole}
-use Rattle.gates.specs.Hosts.{Triple, act}
-use Rattle.gates.specs.Costs.{plus, cost, step-cost}
+use Rattle.gates.specs.Hosts.{Triple, share, act}
+use Rattle.gates.specs.Costs.{plus, step-cost, cost}
 use Rattle.gates.proofs.Needs.{Further, past-used}
 use Rattle.programs.specs.declared.Order.{Order}
 use Rattle.programs.specs.Programs.{sum-program}
@@ -26,13 +25,13 @@ use Rattle.programs.specs.Opens.{order-value}
 use Rattle.programs.specs.Costs.{program-cost}
 use Rattle.programs.proofs.Gates.{Fits}
 use Rattle.programs.proofs.Points.{Point, after, afters, num, l1-of, l2-of}
-use Rattle.programs.proofs.Opens.{new-mask, curve-mask, Sound, kind-opens, kind-keeps}
+use Rattle.programs.proofs.Opens.{new-mask, curve-mask, Sound, kind-opens}
 use Rattle.jobs.proofs.Accepted.{Good, exact-shift, curve-ruled}
 use Rattle.calls.specs.Scripts.{Orderly}
 use Rattle.calls.specs.Calls.{fresh}
-use Rattle.runs.proofs.Lists.{length-map}
 use Rattle.runs.specs.Runs.{Stage}
-use Rattle.runs.specs.Orders.{Words, first, trail, after-order, before-order, slot, first-counts, mask-behind}
+use Rattle.runs.specs.Orders.{Words, first, trail, after-order, before-order, value-before, mask-before, value-after, mask-behind}
+use Rattle.runs.specs.Orders.{first-counts}
 use Rattle.runs.proofs.Kept.{j₀-lengths}
 use Rattle.runs.proofs.Chain.{ended, points, job-trail, point-before, point-after, point-next}
 
@@ -77,23 +76,22 @@ module _ (w : ℕ) (S : Stage) (tidy : Orderly (S .script)) (words : Words w S) 
   afters-used [] G = omega arith
   afters-used (g ∷ gs) G =
       let p : Further (G .c) (step-cost (meaning w g)) (past (meaning w g) (G .c)) = past-used (meaning w g) (G .c) in
-      let q : Further (past (meaning w g) (G .c)) (cost (order-steps w gs [])) (run gs (after w (S .A) (S .B) (words .A) (words .B) g G) .c) = afters-used gs (after w (S .A) (S .B) (words .A) (words .B) g G) in
+      let q : Further (past (meaning w g) (G .c)) (cost (order-steps w gs []))
+      (run gs (after w (S .A) (S .B) (words .A) (words .B) g G) .c) = afters-used gs (after w (S .A) (S .B) (words .A) (words .B) g G) in
       record { a = omega arith; b = omega arith; deals = omega arith }
 
-  before-used : (os : List (List Gate)) (G : Pt) (q : ℕ) → Further (G .c) (first-counts w q os) (point-before w (S .A) (S .B) (words .A) (words .B) os G q .c)
+  before-used : (os : List (List Gate)) (G : Pt) (q : ℕ)
+      → Further (G .c) (first-counts w q os) (point-before w (S .A) (S .B) (words .A) (words .B) os G q .c)
   unfolding first-counts point-before past plus
   before-used [] G zero = omega arith
   before-used [] G (suc q) = omega arith
   before-used (o ∷ os) G zero = omega arith
   before-used (o ∷ os) G (suc q) =
       let p : Further (G .c) (program-cost w o) (run o G .c) = afters-used o G in
-      let r : Further (past end (run o G .c)) (first-counts w q os) (point-before w (S .A) (S .B) (words .A) (words .B) os (ended w (S .A) (S .B) (words .A) (words .B) (run o G)) q .c) = before-used os (ended w (S .A) (S .B) (words .A) (words .B) (run o G)) q in
+      let r : Further (past end (run o G .c)) (first-counts w q os)
+      (point-before w (S .A) (S .B) (words .A) (words .B) os (ended w (S .A) (S .B) (words .A) (words .B) (run o G)) q .c) =
+      before-used os (ended w (S .A) (S .B) (words .A) (words .B) (run o G)) q in
       record { a = omega arith; b = omega arith; deals = omega arith }
-
-  points-length : (os : List (List Gate)) (G : Pt) → length (points w (S .A) (S .B) (words .A) (words .B) os G) ≡ length os
-  unfolding points
-  points-length [] G = refl
-  points-length (o ∷ os) G = ap suc (points-length os _)
 
   module _ (gates : List (List Gate)) (made : S .script .steps ≡ job-steps w gates) where
     abbrev pub before : ℕ → Pt
@@ -102,16 +100,14 @@ module _ (w : ℕ) (S : Stage) (tidy : Orderly (S .script)) (words : Words w S) 
     trail-is : trail S ≡ map (λ (p : Pt). p .j) (points w (S .A) (S .B) (words .A) (words .B) gates G₀)
     unfolding trail
     trail-is =
-        ap (λ (ss : List Step). whole (act (S .A) (S .B)) ss origin (first S) [] .trail) made ∙ job-trail w (S .A) (S .B) (words .A) (words .B) gates G₀ []
-
-    -- as many entries as lists of gates
-    pub trail-gates : length (trail S) ≡ length gates
-    trail-gates = ap length trail-is ∙ length-map _ (points w (S .A) (S .B) (words .A) (words .B) gates G₀) ∙ points-length gates G₀
+        ap (λ (ss : List Step). whole (act (S .A) (S .B)) ss origin (first S) [] .trail) made
+        ∙ job-trail w (S .A) (S .B) (words .A) (words .B) gates G₀ []
 
     pub after-is : (q : ℕ) → q < length gates → after-order S q ≡ run (getD gates q []) (before q) .j
     unfolding after-order
     after-is q h =
-        ap (λ (t : List Triple). getD t q (first S)) trail-is ∙ List·getD-map (λ (p : Pt). p .j) (points w (S .A) (S .B) (words .A) (words .B) gates G₀) q G₀
+        ap (λ (t : List Triple). getD t q (first S)) trail-is
+        ∙ List·getD-map (λ (p : Pt). p .j) (points w (S .A) (S .B) (words .A) (words .B) gates G₀) q G₀
         ∙ ap (λ (p : Pt). p .j) (point-after w (S .A) (S .B) (words .A) (words .B) gates G₀ G₀ q h)
 
     pub before-is : (q : ℕ) → q < length gates → before-order S q ≡ before q .j
@@ -128,9 +124,13 @@ module _ (w : ℕ) (S : Stage) (tidy : Orderly (S .script)) (words : Words w S) 
 
     -- ---- where list q is an order's program
 
-    module _ (low : 2 ≤ w) (wide : 12 < w) (q : ℕ) (hq : q < length gates) (ps : List Row) (o : Order) (is : getD gates q [] ≡ program w ps o)
+    module _ (wide : 12 < w) (q : ℕ) (hq : q < length gates) (ps : List Row) (o : Order) (is : getD gates q [] ≡ program w ps o)
         (ruled : Bool) (good : Good w ruled o) (some-row : ruled ≡ true → 0 < length ps) where
-      sound : Sound w (S .A) (S .B) (words .A) (words .B) low ps (o .target) (o .source) (o .fourth) (good .target) (good .source) (before q) (o .kind)
+      low : 2 ≤ w
+      low = omega (arith, wide)
+
+      sound : Sound w (S .A) (S .B) (words .A) (words .B) low ps (o .target) (o .source) (o .fourth) (good .target) (good .source)
+          (before q) (o .kind)
       sound =
           record {
             shift = λ e. let h = exact-shift w ruled o good e in (h .0, omega (arith, h .1));
@@ -150,20 +150,14 @@ module _ (w : ℕ) (S : Stage) (tidy : Orderly (S .script)) (words : Words w S) 
           ap₂ (add w) (ap (at (S .A)) (omega (arith, p .a, r .a))) (ap (at (S .B)) (omega (arith, p .b, r .b)))
 
       -- "each order opens to the value that document 01 defines for it"
-      pub program-leaves : value (numbers w) (slot (after-order S q) (o .target))
-          ≡ order-value w ps o (value (numbers w) (slot (before-order S q) (o .source))) (value (numbers w) (slot (before-order S q) (o .fourth)))
-          (mask (numbers w) (slot (before-order S q) (o .source))) (mask-behind w (S .A) (S .B) (first-counts w q gates) (sum-program w (o .source) ps))
+      pub program-leaves : value-after w S q (o .target)
+          ≡ order-value w ps o (value-before w S q (o .source)) (value-before w S q (o .fourth))
+          (mask-before w S q (o .source)) (mask-behind w (S .A) (S .B) (first-counts w q gates) (sum-program w (o .source) ps))
       unfolding order-value program num l1-of l2-of curve-mask
       program-leaves =
-          ap (λ (t : Triple). value (numbers w) (slot t (o .target))) left-is
-          ∙ kind-opens w (S .A) (S .B) (words .A) (words .B) low ps (o .target) (o .source) (o .fourth) (good .target) (good .source) (before q) (o .kind) (good .kind) sound
-          ∙ ap₂ (λ (t : Triple) (R : ℕ). order-value w ps o (value (numbers w) (slot t (o .source))) (value (numbers w) (slot t (o .fourth))) (mask (numbers w) (slot t (o .source))) R)
+          ap (λ (t : Triple). value (numbers w) (share t (o .target))) left-is
+          ∙ kind-opens w (S .A) (S .B) (words .A) (words .B) low ps (o .target) (o .source) (o .fourth) (good .target) (good .source)
+          (before q) (o .kind) (good .kind) sound
+          ∙ ap₂ (λ (t : Triple) (R : ℕ). order-value w ps o (value (numbers w) (share t (o .source)))
+          (value (numbers w) (share t (o .fourth))) (mask (numbers w) (share t (o .source))) R)
           (sym (before-is q hq)) mask-is
-
-      -- "the register keeps that until an order writes it"
-      pub program-keeps : (i : ℕ) → i < 16 → eqb i (o .target) ≡ false → slot (after-order S q) i ≡ slot (before-order S q) i
-      unfolding program
-      program-keeps i hi e =
-          ap (λ (t : Triple). slot t i) left-is
-          ∙ kind-keeps w (S .A) (S .B) (words .A) (words .B) low ps (o .target) (o .source) (o .fourth) (good .target) (good .source) (before q) i hi e (o .kind) (good .kind)
-          ∙ ap (λ (t : Triple). slot t i) (sym (before-is q hq))

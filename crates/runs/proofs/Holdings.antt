@@ -1,7 +1,8 @@
 -- The very words that the hosts hold: cited from where they stand. Assumes nothing.
 use Rattle.runs.specs.Runs.{staged}
 use Rattle.runs.specs.Holdings.{Holdings}
-use Rattle.runs.proofs.Standing.{stands0, stands1, stands2, spared-by}
+use Rattle.runs.proofs.Standing.{stands1, stands2, stands0}
+use Rattle.runs.proofs.Opened.{untargeted}
 
 pub holdings : Holdings
 holdings =
@@ -9,6 +10,6 @@ holdings =
       host1 = λ S cs z buf s t said two r i u. stands1 S r i u;
       host2 = λ S cs z buf one s t said r i u. stands2 S r i u;
       host0 = λ S tidy cs r t buf one two R i h. stands0 S (tidy .closed) R i h;
-      job-host1 = λ S cs z buf s t said two r i h f. stands1 (staged 32 S) r i (spared-by S (s .order) i h f);
-      job-host2 = λ S cs z buf one s t said r i h f. stands2 (staged 32 S) r i (spared-by S (s .order) i h f);
+      job-host1 = λ w S cs z buf s t said two r i h f. stands1 (staged w S) r i (untargeted w S (s .order) i h f);
+      job-host2 = λ w S cs z buf one s t said r i h f. stands2 (staged w S) r i (untargeted w S (s .order) i h f);
     }

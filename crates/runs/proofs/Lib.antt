@@ -15,8 +15,8 @@ pub mod InJob
 pub mod Counts
 pub mod Written
 pub mod Unwritten
-pub mod Returned
 pub mod Standing
+pub mod Returned
 pub mod Holdings
 pub mod InOrder
 pub mod Strict

@@ -1,5 +1,5 @@
--- Lists: an element and the length of a mapped list. Assumes nothing.
-use mathlib.Core.Path.{_≡_, refl, ap}
+-- Lists: an element of a mapped list. Assumes nothing.
+use mathlib.Core.Path.{_≡_, refl}
 use mathlib.Core.List.{List, [], _∷_, map}
 use Prim.Native.Nat.{ℕ, zero, suc, _<_}
 use native.Mathlib.Omega.{arith}
@@ -9,7 +9,3 @@ pub getD-map : {A B : Type 0} (f : A → B) (l : List A) (q : ℕ) (d : A) (e : 
 getD-map f [] q d e h = absurd (omega arith)
 getD-map f (x ∷ l) zero d e h = refl
 getD-map f (x ∷ l) (suc q) d e h = getD-map f l q d e (omega arith)
-
-pub length-map : {A B : Type 0} (f : A → B) (l : List A) → length (map f l) ≡ length l
-length-map f [] = refl
-length-map f (x ∷ l) = ap suc (length-map f l)

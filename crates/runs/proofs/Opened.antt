@@ -1,29 +1,31 @@
--- What every order of an accepted job leaves on the joint walk: its target opens the value that document 01 defines, other registers keep their shares.
--- Assumes nothing.
-use mathlib.Core.Path.{_≡_, _∙_}
+-- What every order of an accepted job leaves on the joint walk: its target opens the value that document 01 defines, other registers keep
+-- their shares. Assumes nothing.
+use mathlib.Core.Path.{_≡_, sym, subst}
 use mathlib.Core.Bool.{true, false}
 use mathlib.Core.List.{List, []}
-use Prim.Native.Nat.{ℕ, _≤_, _<_}
+use Prim.Native.Nat.{ℕ, _<_}
 use native.Mathlib.Omega.{arith}
 use lib.Dec.{eqb}
 use lib.ListN.{getD, length}
-use Rattle.words.specs.Words.{numbers}
-use Rattle.shares.specs.Gates.{value, mask}
-use Rattle.tables.specs.Table.{Row, rows, keeps-rules}
+use Rattle.tables.specs.Table.{rows, keeps-rules}
 use Rattle.tables.proofs.Rows.{for-table}
 use Rattle.gates.specs.declared.Gate.{Gate}
+use Rattle.gates.specs.Steps.{Step}
 use Rattle.gates.specs.Meaning.{job-steps}
-use Rattle.programs.specs.declared.Order.{Order}
 use Rattle.programs.specs.Orders.{program}
 use Rattle.programs.specs.Opens.{order-value}
-use Rattle.jobs.specs.Job.{orders, job-gates, job-fault}
+use Rattle.jobs.specs.Job.{orders, job-fault, job-gates}
 use Rattle.jobs.proofs.Accepted.{Good, accepted-orders}
 use Rattle.calls.proofs.Scripts.{job-made}
 use Rattle.runs.proofs.Lists.{getD-map}
 use Rattle.runs.specs.Runs.{Setting, staged}
-use Rattle.runs.specs.Orders.{Words, trail, after-order, before-order, slot, order-of, used-before, refresh-mask}
-use Rattle.runs.proofs.Chain.{job-orderly, gates-length}
-use Rattle.runs.proofs.Gated.{trail-gates, program-leaves, program-keeps}
+use Rattle.runs.specs.Orders.{Words, share-before, share-after, value-after, Unwritten, order-of, Untargeted, used-before}
+use Rattle.runs.specs.Orders.{refresh-mask, source-value, source-mask, second-value}
+use Rattle.runs.proofs.Chain.{gates-length, job-orders, job-orderly}
+use Rattle.runs.proofs.Gated.{program-leaves}
+use Rattle.runs.proofs.Spared.{slot-kept}
+use Rattle.runs.proofs.Written.{spares-program}
+use Rattle.runs.proofs.Unwritten.{unwritten-gates}
 
 module _ (w : ℕ) (S : Setting) where
   abbrev pub gates : List (List Gate)
@@ -31,10 +33,6 @@ module _ (w : ℕ) (S : Setting) where
 
   abbrev made : staged w S .script .steps ≡ job-steps w gates
   made = job-made w (S .job) (S .table)
-
-  -- as many entries as the job has orders
-  pub trail-orders : Words w (staged w S) → length (trail (staged w S)) ≡ length (orders (S .job))
-  trail-orders words = trail-gates w (staged w S) (job-orderly w (S .job) (S .table)) words gates made ∙ gates-length w (S .job) (S .table)
 
   module _ (q : ℕ) (hq : q < length (orders (S .job))) where
     pub in-gates : q < length gates
@@ -44,29 +42,37 @@ module _ (w : ℕ) (S : Setting) where
     unfolding job-gates order-of
     gates-is = getD-map (program w (rows (S .table))) (orders (S .job)) q _ [] hq
 
-  -- ---- order q of an accepted job
+  -- ---- whatever the order: "the register keeps that until an order writes it"
 
-  module _ (words : Words w (staged w S)) (low : 2 ≤ w) (wide : 12 < w) (accepted : job-fault w (S .job) (S .table) .0 ≡ 0) (q : ℕ) (hq : q < length (orders (S .job))) where
-    abbrev o : Order
-    o = order-of S q
+  -- no step of order q writes a register that is not its target
+  pub untargeted : (q i : ℕ) → i < 16 → Untargeted S q i → Unwritten i q (staged w S .script .steps)
+  untargeted q i hi f =
+      subst (λ (ss : List Step). Unwritten i q ss) (sym made)
+      (unwritten-gates w i q gates
+      (λ h. let k : q < length (orders (S .job)) = rw (gates-length w (S .job) (S .table)) at h in
+      rw (gates-is q k) (spares-program w (rows (S .table)) (order-of S q) i hi (f k))))
 
-    abbrev ps : List Row
-    ps = rows (S .table)
+  pub order-keeps : (q : ℕ) → q < length (orders (S .job)) → (i : ℕ) → i < 16 → eqb i (order-of S q .target) ≡ false
+      → share-after (staged w S) q i ≡ share-before (staged w S) q i
+  order-keeps q hq i hi e = slot-kept (staged w S) q i (rw (job-orders w (S .job) (S .table)) hq) (untargeted q i hi (λ h. e))
 
-    pub order-good : Good w (keeps-rules (S .table)) o
-    unfolding order-of
-    order-good = accepted-orders w (S .job) (S .table) accepted q hq _
+  -- ---- of an accepted job
 
-    some-row : keeps-rules (S .table) ≡ true → 0 < length ps
-    some-row e = for-table (λ rs. 0 < length rs) (λ p rs h. omega arith) (S .table) (rw e tt)
+  pub order-good : job-fault w (S .job) (S .table) .0 ≡ 0 → (q : ℕ) → q < length (orders (S .job))
+      → Good w (keeps-rules (S .table)) (order-of S q)
+  unfolding order-of
+  order-good accepted q hq = accepted-orders w (S .job) (S .table) accepted q hq _
 
-    -- "each order opens to the value that document 01 defines for it"
-    pub order-leaves : value (numbers w) (slot (after-order (staged w S) q) (o .target))
-        ≡ order-value w ps o (value (numbers w) (slot (before-order (staged w S) q) (o .source))) (value (numbers w) (slot (before-order (staged w S) q) (o .fourth)))
-        (mask (numbers w) (slot (before-order (staged w S) q) (o .source))) (refresh-mask w S q)
-    unfolding refresh-mask used-before
-    order-leaves = program-leaves w (staged w S) (job-orderly w (S .job) (S .table)) words gates made low wide q (in-gates q hq) ps o (gates-is q hq) (keeps-rules (S .table)) order-good some-row
+  some-row : keeps-rules (S .table) ≡ true → 0 < length (rows (S .table))
+  some-row e = for-table (λ rs. 0 < length rs) (λ p rs h. omega arith) (S .table) (rw e tt)
 
-    -- "the register keeps that until an order writes it"
-    pub order-keeps : (i : ℕ) → i < 16 → eqb i (o .target) ≡ false → slot (after-order (staged w S) q) i ≡ slot (before-order (staged w S) q) i
-    order-keeps = program-keeps w (staged w S) (job-orderly w (S .job) (S .table)) words gates made low wide q (in-gates q hq) ps o (gates-is q hq) (keeps-rules (S .table)) order-good some-row
+  -- "each order opens to the value that document 01 defines for it": at every width above the curve's shift by 12
+  pub order-leaves : Words w (staged w S) → 12 < w → job-fault w (S .job) (S .table) .0 ≡ 0 → (q : ℕ)
+      → q < length (orders (S .job))
+      → value-after w (staged w S) q (order-of S q .target)
+      ≡ order-value w (rows (S .table)) (order-of S q) (source-value w S q) (second-value w S q) (source-mask w S q) (refresh-mask w S q)
+  unfolding refresh-mask used-before
+  order-leaves words wide accepted q hq =
+      program-leaves w (staged w S) (job-orderly w (S .job) (S .table)) words gates made wide q (in-gates q hq) (rows (S .table))
+      (order-of S q)
+      (gates-is q hq) (keeps-rules (S .table)) (order-good accepted q hq) some-row

@@ -13,7 +13,7 @@ use native.Mathlib.Nat.{add-zero}
 use Rattle.gates.specs.Steps.{at, Step, local, deal, exchange, end, Cursor, origin, past}
 use Rattle.calls.specs.Places.{Found, nowhere, found, here, seek}
 use Rattle.calls.specs.Scripts.{ends}
-use Rattle.gates.specs.Walk.{Conf, conf, one, next, walk, whole, Exchanging}
+use Rattle.gates.specs.Walk.{Conf, conf, Exchanging, one, next, whole, walk}
 
 -- at an exchange or at the end
 abbrev pub Halted : List Step → Type 0
@@ -133,7 +133,8 @@ module _ {S : Type 0} (act : Step → Cursor → S → S) (all : List Step) (s�
   -- no place comes again after its exchange
   pub once : (i j : ℕ) → Exchanging (pos i .rest) → i < j → pos i .cur .order ≡ pos j .cur .order → pos i .cur .turn ≡ pos j .cur .turn → ⊥
   unfolding pos
-  once i j x h p q = upto-not _ _ (pos j .cur) (upto-pos _ _ (suc i) j h (upto-next (pos i .rest) (pos i .cur) (pos i .state) (pos i .trail) x)) p q
+  once i j x h p q =
+      upto-not _ _ (pos j .cur) (upto-pos _ _ (suc i) j h (upto-next (pos i .rest) (pos i .cur) (pos i .state) (pos i .trail) x)) p q
 
   -- ---- `seek` finds a position at which a walk halts
 
@@ -150,7 +151,8 @@ module _ {S : Type 0} (act : Step → Cursor → S → S) (all : List Step) (s�
       → seek o x all origin ≡ seek o x (pos j .rest) (pos j .cur)
   unfolding pos
   seek-from o x n zero h q = refl
-  seek-from o x n (suc j) h q = seek-from o x n j (omega arith) q ∙ seek-one o x (pos j .rest) (pos j .cur) (pos j .state) (pos j .trail) (q j h)
+  seek-from o x n (suc j) h q =
+      seek-from o x n j (omega arith) q ∙ seek-one o x (pos j .rest) (pos j .cur) (pos j .state) (pos j .trail) (q j h)
 
   seek-hit : (ss : List Step) (c : Cursor) → Halted ss → seek (c .order) (c .turn) ss c ≡ found ss c
   unfolding seek
@@ -191,7 +193,8 @@ module _ {S : Type 0} (act : Step → Cursor → S → S) (all : List Step) (s�
   trail-pos n = rw (whole-pos n) (trail-grows (pos n .rest) (pos n .cur) (pos n .state) (pos n .trail))
 
   -- as many entries as orders are finished
-  trail-one : (ss : List Step) (c : Cursor) (s : S) (t : List S) → length t ≡ c .order → length (one act ss c s t .trail) ≡ one act ss c s t .cur .order
+  trail-one : (ss : List Step) (c : Cursor) (s : S) (t : List S) → length t ≡ c .order
+      → length (one act ss c s t .trail) ≡ one act ss c s t .cur .order
   unfolding past
   trail-one [] c s t h = h
   trail-one (local d m l ∷ ss) c s t h = h
@@ -240,11 +243,13 @@ module _ {S : Type 0} (act : Step → Cursor → S → S) (all : List Step) (s�
   exchange-or-end (end ∷ ss) h = absurd h
 
   -- two walks that halt next after a position halt at one
-  pub one-halt : (k i j : ℕ) → k ≤ i → k ≤ j → Halted (pos i .rest) → Halted (pos j .rest) → ((x : ℕ) → k ≤ x → x < i → Exchanging (pos x .rest) → ⊥)
+  pub one-halt : (k i j : ℕ) → k ≤ i → k ≤ j → Halted (pos i .rest) → Halted (pos j .rest)
+      → ((x : ℕ) → k ≤ x → x < i → Exchanging (pos x .rest) → ⊥)
       → ((x : ℕ) → k ≤ x → x < j → Exchanging (pos x .rest) → ⊥) → pos i ≡ pos j
   one-halt k i j a b h g p q = go (decLe (suc i) j) (decLe (suc j) i) (exchange-or-end _ h) (exchange-or-end _ g)
     where
-      go : Dec (suc i ≤ j) → Dec (suc j ≤ i) → Exchanging (pos i .rest) ⊎ (pos i .rest ≡ []) → Exchanging (pos j .rest) ⊎ (pos j .rest ≡ []) → pos i ≡ pos j
+      go : Dec (suc i ≤ j) → Dec (suc j ≤ i) → Exchanging (pos i .rest) ⊎ (pos i .rest ≡ []) → Exchanging (pos j .rest) ⊎ (pos j .rest ≡ [])
+          → pos i ≡ pos j
       go (yes l) d (inl x) y = absurd (q i a l x)
       go (yes l) d (inr e) y = rest-later i j (omega arith) e
       go (no l) (yes m) x (inl y) = absurd (p j b m y)
@@ -252,7 +257,8 @@ module _ {S : Type 0} (act : Step → Cursor → S → S) (all : List Step) (s�
       go (no l) (no m) x y = let e : i ≡ j = omega arith in rw e
 
   -- a place that an exchange has belongs to one position
-  pub same-place : (i n : ℕ) → Halted (pos i .rest) → Exchanging (pos n .rest) → pos i .cur .order ≡ pos n .cur .order → pos i .cur .turn ≡ pos n .cur .turn
+  pub same-place : (i n : ℕ) → Halted (pos i .rest) → Exchanging (pos n .rest) → pos i .cur .order ≡ pos n .cur .order
+      → pos i .cur .turn ≡ pos n .cur .turn
       → pos i ≡ pos n
   same-place i n h x p q = go (decLe (suc i) n) (decLe (suc n) i) (exchange-or-end (pos i .rest) h)
     where

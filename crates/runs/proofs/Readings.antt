@@ -1,66 +1,37 @@
 -- What a register reads just before an order is what opening gives: after every run that finishes the order. Assumes nothing.
-use mathlib.Core.Path.{_≡_, refl, sym, ap, _∙_, subst}
+use mathlib.Core.Path.{_≡_, refl, sym, ap, _∙_}
 use mathlib.Core.Bool.{false}
 use mathlib.Core.List.{List, []}
-use Prim.Native.Nat.{ℕ, zero, suc, _≤_, _<_}
+use Prim.Native.Nat.{ℕ, suc, _≤_, _<_}
 use native.Mathlib.Omega.{arith}
 use native.Mathlib.Nat.{not-suc-le-zero}
-use native.Mathlib.Decide.{decLe}
-use lib.Dec.{eqb, lit≤, lit<}
+use lib.Dec.{eqb}
 use lib.IntN.{ℤ}
 use lib.ListN.{getD, length}
 use Rattle.words.specs.Words.{add, numbers}
 use Rattle.words.specs.Signed.{signed}
-use Rattle.shares.specs.Gates.{Share, value, mask}
+use Rattle.shares.specs.Gates.{Share, mask, value}
 use Rattle.shares.proofs.RoundTrip.{share-opens}
-use Rattle.tables.specs.Table.{rows, keeps-rules}
-use Rattle.gates.specs.Steps.{at, Step}
-use Rattle.gates.specs.Hosts.{Pair, of0, act}
-use Rattle.jobs.specs.Job.{orders}
-use Rattle.jobs.proofs.Accepted.{Good}
+use Rattle.gates.specs.Steps.{at}
+use Rattle.gates.specs.Hosts.{Pair, of0}
 use Rattle.calls.specs.Scripts.{orders-in}
-use Rattle.calls.proofs.Scripts.{job-made}
 use Rattle.runs.specs.Runs.{Stage, Setting, staged, World, Call, Run, trail0, order1, order2, Finished, opened-after}
-use Rattle.runs.specs.Orders.{first, trail, slot, after-order, before-order, Unwritten, order-of}
-use Rattle.runs.specs.Orders.{reading, opens, Finishes}
+use Rattle.runs.specs.Orders.{first, trail, after-order, before-order, mask-before, order-of, reading, Finishes, opens}
 use Rattle.runs.specs.Returned.{opened-given}
-use Rattle.runs.specs.Readings.{reading-of, mask-of, mask-after, mask-given, UnwrittenBetween, UntargetedBetween, Origin, of-order, of-given, Readings}
+use Rattle.runs.specs.Readings.{reading-of, mask-after, mask-given, UnwrittenBetween, UntargetedBetween, Origin, of-order, of-given}
+use Rattle.runs.specs.Readings.{Readings}
 use Rattle.runs.proofs.Lists.{getD-map}
-use Rattle.runs.proofs.Places.{ends-pos}
-use Rattle.runs.proofs.Ties.{joint}
-use Rattle.runs.proofs.Kept.{all, j₀, last, not-yet, dealt-all, wait1, go1, wait2, go2, Ok, ok, kept}
-use Rattle.runs.proofs.Chain.{gates-length}
-use Rattle.runs.proofs.Spared.{slot-kept}
-use Rattle.runs.proofs.Opened.{gates, gates-is, order-good}
+use Rattle.runs.proofs.Kept.{last, not-yet, dealt-all, wait1, go1, wait2, go2, Ok, ok, kept}
+use Rattle.runs.proofs.Spared.{kept-between}
+use Rattle.runs.proofs.Opened.{untargeted}
 use Rattle.runs.proofs.Opening.{finished-order, finished-opens}
-use Rattle.runs.proofs.InJob.{in-job, checked}
-use Rattle.runs.proofs.Written.{spares-program}
-use Rattle.runs.proofs.Unwritten.{unwritten-gates}
-use Rattle.runs.proofs.Returned.{start, start-is, Last, writer, nobody, last-of, unequal, target-is}
+use Rattle.runs.proofs.InJob.{good-order}
+use Rattle.runs.proofs.Standing.{in-script}
+use Rattle.runs.proofs.Returned.{given-share, given-share-is, unequal, Last, writer, nobody, last-of, target-is}
 
 -- ---- over any stage
 
 module _ (S : Stage) where
-  -- a finished order ends in the script's steps
-  in-script : {cs : List Call} (v : World) → Run S cs v → (q : ℕ) → Finished v q → q < orders-in (S .script)
-  in-script v r q f = go v (kept S r) (f .one)
-    where
-      go : (v : World) → Ok S v → q < order1 v → q < orders-in (S .script)
-      go _ (ok z (wait1 h) two a) l = absurd (not-suc-le-zero l)
-      go _ (ok z (go1 X) two a) l =
-          let k : q < joint (S .A) (S .B) (all S) (j₀ S) (X .n) .cur .order = rw (X .is) at l in
-          omega (arith, ends-pos (act (S .A) (S .B)) (all S) (j₀ S) (X .n))
-
-  -- "the register keeps that until an order writes it": from just before order p to just before order q
-  kept-to : (p i q : ℕ) → p ≤ q → q ≤ orders-in (S .script) → UnwrittenBetween S p q i → slot (before-order S q) i ≡ slot (before-order S p) i
-  unfolding before-order
-  kept-to p i zero l h u = let e : 0 ≡ p = omega arith in ap (λ (n : ℕ). slot (before-order S n) i) e
-  kept-to p i (suc q) l h u = go (decLe p q) (λ k. kept-to p i q k (omega arith) (λ n a b. u n a (omega arith)))
-    where
-      go : Dec (p ≤ q) → (p ≤ q → slot (before-order S q) i ≡ slot (before-order S p) i) → slot (before-order S (suc q)) i ≡ slot (before-order S p) i
-      go (yes k) f = slot-kept S q i (omega arith) (u q k (omega arith)) ∙ f k
-      go (no k) f = let e : suc q ≡ p = omega arith in ap (λ (n : ℕ). slot (before-order S n) i) e
-
   -- host 0's masks as order p left them
   host0-left : {cs : List Call} (v : World) → Run S cs v → (p : ℕ) → Finished v p → getD (trail0 v) p ([], []) ≡ of0 (after-order S p)
   unfolding after-order trail
@@ -72,94 +43,90 @@ module _ (S : Stage) where
       go _ (ok (not-yet h) (go1 X) (go2 Y) a) l k n = absurd a
       go _ (ok (dealt-all d g h e) (go1 X) (go2 Y) a) l k n = rw e (getD-map of0 (last S .trail) p (first S) ([], []) n)
 
-  module _ (q : ℕ) (v : World) (F : Finishes 32 S q v) where
+  module _ (w q : ℕ) (v : World) (F : Finishes w S q v) where
     abbrev read : Share ℕ → ℕ × ℤ
-    read x = (0, signed 32 (value (numbers 32) x))
+    read x = (0, signed w (value (numbers w) x))
 
     before : q ≤ orders-in (S .script)
-    before = omega (arith, in-script v (F .run) q (F .finished))
+    before = omega (arith, in-script S v (F .run) q (F .finished .one))
 
     earlier : (p : ℕ) → p < q → Finished v p
     earlier p l = record { one = omega (arith, F .finished .one); two = omega (arith, F .finished .two) }
 
-    written : (p i : ℕ) → p < q → UnwrittenBetween S (suc p) q i → opened-after 32 v p i ≡ (0, reading-of S q i)
+    written : (p i : ℕ) → p < q → UnwrittenBetween S (suc p) q i → opened-after w v p i ≡ (0, reading-of w S q i)
     unfolding reading-of before-order
-    written p i l u = finished-opens S 32 v (F .run) p i (earlier p l) ∙ sym (ap read (kept-to (suc p) i q l before u))
+    written p i l u = finished-opens S w v (F .run) p i (earlier p l) ∙ sym (ap read (kept-between S (suc p) i q l before u))
 
-    given : (i : ℕ) → i < S .script .slots → UnwrittenBetween S 0 q i → opened-given 32 S i ≡ (0, reading-of S q i)
+    given : (i : ℕ) → i < S .script .slots → UnwrittenBetween S 0 q i → opened-given w S i ≡ (0, reading-of w S q i)
     unfolding reading-of opened-given before-order
     given i hi u =
-        share-opens 32 (start 32 S i hi) ∙ sym (ap read (kept-to 0 i q (omega arith) before u ∙ start-is 32 S i hi))
+        share-opens w (given-share w S i hi) ∙ sym (ap read (kept-between S 0 i q (omega arith) before u ∙ given-share-is w S i hi))
 
-    mask-written : (p i : ℕ) → p < q → UnwrittenBetween S (suc p) q i → mask-after v p i ≡ mask-of S q i
-    unfolding mask-after mask-of before-order
+    mask-written : (p i : ℕ) → p < q → UnwrittenBetween S (suc p) q i → mask-after w v p i ≡ mask-before w S q i
+    unfolding mask-after before-order
     mask-written p i l u =
-        ap (λ (j : Pair). add 32 (at (j .0) i) (at (j .1) i)) (host0-left v (F .run) p (earlier p l))
-        ∙ sym (ap (mask (numbers 32)) (kept-to (suc p) i q l before u))
+        ap (λ (j : Pair). add w (at (j .0) i) (at (j .1) i)) (host0-left v (F .run) p (earlier p l))
+        ∙ sym (ap (mask (numbers w)) (kept-between S (suc p) i q l before u))
 
-    mask-kept : (i : ℕ) → i < S .script .slots → UnwrittenBetween S 0 q i → mask-given S i ≡ mask-of S q i
-    unfolding mask-given mask-of before-order
-    mask-kept i hi u = sym (ap (mask (numbers 32)) (kept-to 0 i q (omega arith) before u ∙ start-is 32 S i hi))
+    mask-kept : (i : ℕ) → i < S .script .slots → UnwrittenBetween S 0 q i → mask-given w S i ≡ mask-before w S q i
+    unfolding mask-given before-order
+    mask-kept i hi u = sym (ap (mask (numbers w)) (kept-between S 0 i q (omega arith) before u ∙ given-share-is w S i hi))
 
 -- ---- of a job
 
-untargeted : (S : Setting) (p q i : ℕ) → i < 16 → UntargetedBetween S p q i → UnwrittenBetween (staged 32 S) p q i
-untargeted S p q i hi u n a b =
-    subst (λ (ss : List Step). Unwritten i n ss) (sym (job-made 32 (S .job) (S .table)))
-    (unwritten-gates 32 i n (gates 32 S) (λ h.
-    let k : n < length (orders (S .job)) = rw (gates-length 32 (S .job) (S .table)) at h in
-    rw (gates-is 32 S n k) (spares-program 32 (rows (S .table)) (order-of S n) i hi (u n a b))))
+unwritten : (w : ℕ) (S : Setting) (p q i : ℕ) → i < 16 → UntargetedBetween S p q i → UnwrittenBetween (staged w S) p q i
+unwritten w S p q i hi u n a b = untargeted w S n i hi (λ h. u n a b)
 
-module _ (S : Setting) (q : ℕ) (v : World) (F : Finishes 32 (staged 32 S) q v) where
+module _ (w : ℕ) (S : Setting) (q : ℕ) (v : World) (F : Finishes w (staged w S) q v) where
   -- register i, that order p wrote
-  written-by : (p i : ℕ) → p < q → i < 16 → order-of S p .target ≡ i → UntargetedBetween S (suc p) q i → opens 32 S v p ≡ (0, reading-of (staged 32 S) q i)
-  written-by p i l hi e u = ap (opened-after 32 v p) e ∙ written (staged 32 S) q v F p i l (untargeted S (suc p) q i hi u)
+  written-by : (p i : ℕ) → p < q → i < 16 → order-of S p .target ≡ i → UntargetedBetween S (suc p) q i
+      → opens w S v p ≡ (0, reading-of w (staged w S) q i)
+  written-by p i l hi e u = ap (opened-after w v p) e ∙ written (staged w S) w q v F p i l (unwritten w S (suc p) q i hi u)
 
-  given-to : (i : ℕ) → i < 16 → UntargetedBetween S 0 q i → opened-given 32 (staged 32 S) i ≡ (0, reading-of (staged 32 S) q i)
-  given-to i hi u = given (staged 32 S) q v F i hi (untargeted S 0 q i hi u)
+  given-to : (i : ℕ) → i < 16 → UntargetedBetween S 0 q i → opened-given w (staged w S) i ≡ (0, reading-of w (staged w S) q i)
+  given-to i hi u = given (staged w S) w q v F i hi (unwritten w S 0 q i hi u)
 
-  every : (i : ℕ) → i < 16 → Origin S q v i
+  every : (i : ℕ) → i < 16 → Origin w S q v i
   every i hi = go (last-of (λ p. eqb i (order-of S p .target) ≡ false) (λ p. unequal (eqb i (order-of S p .target))) q)
     where
-      go : Last (λ p. eqb i (order-of S p .target) ≡ false) q → Origin S q v i
+      go : Last (λ p. eqb i (order-of S p .target) ≡ false) q → Origin w S q v i
       go (writer p l t u) =
           let e : order-of S p .target ≡ i = target-is i (order-of S p .target) t in
-          of-order p l e u (written-by p i l hi e u) (mask-written (staged 32 S) q v F p i l (untargeted S (suc p) q i hi u))
+          of-order p l e u (written-by p i l hi e u) (mask-written (staged w S) w q v F p i l (unwritten w S (suc p) q i hi u))
       go (nobody u) =
           let n : UntargetedBetween S 0 q i = λ n a b. u n b in
-          of-given n (given-to i hi n) (mask-kept (staged 32 S) q v F i hi (untargeted S 0 q i hi n))
-
-  abbrev good : Good 32 (keeps-rules (S .table)) (order-of S q)
-  good = order-good 32 S (F .words) (lit≤ tt) (lit< tt) (checked 32 S q v F .script) q (in-job 32 S q v F)
+          of-given n (given-to i hi n) (mask-kept (staged w S) w q v F i hi (unwritten w S 0 q i hi n))
 
   source-low : order-of S q .source < 16
-  source-low = good .source
+  source-low = good-order w S q v F .source
 
-  source-written : (p : ℕ) → p < q → order-of S p .target ≡ order-of S q .source → UntargetedBetween S (suc p) q (order-of S q .source) → opens 32 S v p ≡ (0, reading 32 S q)
+  source-written : (p : ℕ) → p < q → order-of S p .target ≡ order-of S q .source → UntargetedBetween S (suc p) q (order-of S q .source)
+      → opens w S v p ≡ (0, reading w S q)
   unfolding reading reading-of
   source-written p l e u = written-by p (order-of S q .source) l source-low e u
 
-  source-given : UntargetedBetween S 0 q (order-of S q .source) → opened-given 32 (staged 32 S) (order-of S q .source) ≡ (0, reading 32 S q)
+  source-given : UntargetedBetween S 0 q (order-of S q .source) → opened-given w (staged w S) (order-of S q .source) ≡ (0, reading w S q)
   unfolding reading reading-of
   source-given u = given-to (order-of S q .source) source-low u
 
   -- a run that finishes order q finishes the orders before it
-  finishes : (p : ℕ) → p < q → Finishes 32 (staged 32 S) p v
-  finishes p l = record { words = F .words; calls = F .calls; run = F .run; finished = earlier (staged 32 S) q v F p l }
+  finishes : (p : ℕ) → p < q → Finishes w (staged w S) p v
+  finishes p l = record { words = F .words; calls = F .calls; run = F .run; finished = earlier (staged w S) w q v F p l }
 
-pub readings : Readings
-readings =
+pub readings : (w : ℕ) → Readings w
+readings w =
     record {
-      written = λ S q v F. written S q v F;
-      given = λ S q v F. given S q v F;
-      mask-written = λ S q v F. mask-written S q v F;
-      mask-kept = λ S q v F. mask-kept S q v F;
-      untargeted = untargeted;
-      register-written = λ S q v F p l u. written-by S q v F p (order-of S p .target) l (good S p v (finishes S q v F p l) .target) refl u;
-      register-given = λ S q v F i hi u. given-to S q v F i hi u;
-      every-register = λ S q v F i hi. every S q v F i hi;
-      source-written = λ S q v F p l e u. source-written S q v F p l e u;
-      source-given = λ S q v F u. source-given S q v F u;
-      source = λ S q v F. every S q v F (order-of S q .source) (source-low S q v F);
-      second-source = λ S q v F t. every S q v F (order-of S q .fourth) (good S q v F .second t);
+      written = λ S q v F. written S w q v F;
+      given = λ S q v F. given S w q v F;
+      mask-written = λ S q v F. mask-written S w q v F;
+      mask-kept = λ S q v F. mask-kept S w q v F;
+      untargeted = unwritten w;
+      register-written = λ S q v F p l u. written-by w S q v F p (order-of S p .target) l
+          (good-order w S p v (finishes w S q v F p l) .target) refl u;
+      register-given = λ S q v F i hi u. given-to w S q v F i hi u;
+      every-register = λ S q v F i hi. every w S q v F i hi;
+      source-written = λ S q v F p l e u. source-written w S q v F p l e u;
+      source-given = λ S q v F u. source-given w S q v F u;
+      source = λ S q v F. every w S q v F (order-of S q .source) (source-low w S q v F);
+      second-source = λ S q v F t. every w S q v F (order-of S q .fourth) (good-order w S q v F .second t);
     }

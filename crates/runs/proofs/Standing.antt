@@ -1,32 +1,25 @@
 -- Wherever a host stands, a slot that the order at hand does not write holds what it held just before that order. Assumes nothing.
 use mathlib.Core.Path.{_≡_, refl, sym, ap, _∙_, subst}
-use mathlib.Core.Bool.{false}
 use mathlib.Core.List.{List, [], _∷_, _++_}
-use Prim.Native.Nat.{ℕ, zero, suc, _+_, _-_, _<_}
+use Prim.Native.Nat.{ℕ, zero, suc, _+_, _-_, _<_, _≤_}
 use native.Mathlib.Nat.{zero-add}
 use native.Mathlib.Omega.{arith}
-use lib.Dec.{eqb}
-use lib.ListN.{getD, length, take, length-append, List·getD-append}
+use lib.ListN.{getD, length, length-append, List·getD-append}
 use lib.Seq.{getD-take, getD-at}
 use Rattle.shares.specs.Gates.{Share}
-use Rattle.tables.specs.Table.{rows}
 use Rattle.gates.specs.Steps.{Lane, at, Exchange, Step, local, deal, exchange, end, Cursor, origin, past}
-use Rattle.gates.specs.Walk.{Conf, conf, whole, next}
-use Rattle.gates.specs.Hosts.{Pair, Triple, of1, of2, act, joint1, joint2}
-use Rattle.jobs.specs.Job.{orders}
-use Rattle.calls.specs.Scripts.{orders-in, ends, Closed}
-use Rattle.calls.proofs.Scripts.{job-made}
+use Rattle.gates.specs.Walk.{Conf, conf, next, whole}
+use Rattle.gates.specs.Hosts.{Pair, Triple, share, of1, of2, joint1, joint2, act}
+use Rattle.calls.specs.Scripts.{ends, orders-in, Closed}
 use Rattle.calls.specs.Calls.{State}
-use Rattle.runs.specs.Runs.{Stage, Setting, staged, Spoken, Dealer, ready, Side, going, world, Call, Run}
-use Rattle.runs.specs.Orders.{first, trail, after-order, before-order, slot, Unwritten, order-of}
-use Rattle.runs.proofs.Places.{pos, ends-pos, trail-pos, trail-length}
+use Rattle.runs.specs.Runs.{Stage, Spoken, Dealer, ready, Side, going, World, world, Call, Run, side-order, order1}
+use Rattle.runs.specs.Orders.{trail, after-order, before-order, share-before, Unwritten}
+use Rattle.runs.specs.Returned.{UnwrittenFrom}
+use Rattle.runs.proofs.Places.{pos, whole-pos, trail-pos, trail-length, ends-pos}
 use Rattle.runs.proofs.Ties.{joint, Tied}
-use Rattle.runs.proofs.Kept.{all, j₀, last, Ok, ok, dealt-all, go1, go2, kept}
-use Rattle.runs.proofs.Chain.{gates-length}
-use Rattle.runs.proofs.Opened.{gates, gates-is}
-use Rattle.runs.proofs.Written.{spares-program}
-use Rattle.runs.proofs.Unwritten.{act-misses, closed-from, unwritten-gates}
-use Rattle.runs.proofs.Returned.{rest-length, last-is}
+use Rattle.runs.proofs.Kept.{all, j₀, last, position, dealt-all, OneOk, wait1, go1, go2, Ok, ok, kept}
+use Rattle.runs.proofs.Unwritten.{act-misses, closed-from}
+use Rattle.runs.proofs.Spared.{kept-between}
 
 module _ (A B : List ℕ) (all : List Step) (j₀ : Triple) where
   abbrev at-n : ℕ → Conf Triple
@@ -40,7 +33,7 @@ module _ (A B : List ℕ) (all : List Step) (j₀ : Triple) where
   -- what the order at hand has still to do, and slot i while it does not write it
   record Current (i : ℕ) (p : Conf Triple) : Type 0 where
     pub later : (k q : ℕ) → q ≡ p .cur .order + k → Unwritten i q all → Unwritten i k (p .rest)
-    pub same : Unwritten i (p .cur .order) all → slot (p .state) i ≡ slot (before (p .cur .order) (p .trail)) i
+    pub same : Unwritten i (p .cur .order) all → share (p .state) i ≡ share (before (p .cur .order) (p .trail)) i
     pub count : length (p .trail) ≡ p .cur .order
 
   here : (i : ℕ) (p : Conf Triple) → Current i p → Unwritten i (p .cur .order) all → Unwritten i 0 (p .rest)
@@ -49,13 +42,13 @@ module _ (A B : List ℕ) (all : List Step) (j₀ : Triple) where
   module _ (i : ℕ) (ss : List Step) (c : Cursor) (j : Triple) (t : List Triple) where
     -- past a step of the order at hand
     within : (x : Step) (c′ : Cursor) (j′ : Triple) → c′ .order ≡ c .order → ((k : ℕ) → Unwritten i k (x ∷ ss) → Unwritten i k ss)
-        → (Unwritten i 0 (x ∷ ss) → slot j′ i ≡ slot j i) → Current i (conf (x ∷ ss) c j t) → Current i (conf ss c′ j′ t)
+        → (Unwritten i 0 (x ∷ ss) → share j′ i ≡ share j i) → Current i (conf (x ∷ ss) c j t) → Current i (conf ss c′ j′ t)
     within x c′ j′ e f g z =
         record {
           later = λ k q h u. f k (z .later k q (omega (arith, h, e)) u);
           same = λ u.
               let v : Unwritten i (c .order) all = subst (λ (q : ℕ). Unwritten i q all) e u in
-              g (here i (conf (x ∷ ss) c j t) z v) ∙ z .same v ∙ ap (λ (q : ℕ). slot (before q t) i) (sym e);
+              g (here i (conf (x ∷ ss) c j t) z v) ∙ z .same v ∙ ap (λ (q : ℕ). share (before q t) i) (sym e);
           count = omega (arith, z .count, e);
         }
 
@@ -64,7 +57,7 @@ module _ (A B : List ℕ) (all : List Step) (j₀ : Triple) where
     behind-end z =
         record {
           later = λ k q h u. z .later (suc k) q (omega (arith, h)) u;
-          same = λ u. ap (λ (x : Triple). slot x i) (sym (getD-at t j [] j₀ (c .order) (z .count)));
+          same = λ u. ap (λ (x : Triple). share x i) (sym (getD-at t j [] j₀ (c .order) (z .count)));
           count = omega (arith, length-append t (j ∷ []), z .count);
         }
 
@@ -83,7 +76,8 @@ module _ (A B : List ℕ) (all : List Step) (j₀ : Triple) where
   passes-exchange i d e ss zero u = u .1
   passes-exchange i d e ss (suc k) u = u
 
-  current-next : (i : ℕ) (ss : List Step) (c : Cursor) (j : Triple) (t : List Triple) → Current i (conf ss c j t) → Current i (next (act A B) (conf ss c j t))
+  current-next : (i : ℕ) (ss : List Step) (c : Cursor) (j : Triple) (t : List Triple) → Current i (conf ss c j t)
+      → Current i (next (act A B) (conf ss c j t))
   unfolding past
   current-next i [] c j t z = z
   current-next i (local d m l ∷ ss) c j t z =
@@ -96,8 +90,37 @@ module _ (A B : List ℕ) (all : List Step) (j₀ : Triple) where
 
   current : (i n : ℕ) → Current i (at-n n)
   unfolding pos before
-  current i zero = record { later = λ k q h u. let e : q ≡ k = omega (arith, h) in subst (λ (x : ℕ). Unwritten i x all) e u; same = λ u. refl; count = refl }
+  current i zero =
+      record {
+        later = λ k q h u. let e : q ≡ k = omega (arith, h) in subst (λ (x : ℕ). Unwritten i x all) e u;
+        same = λ u. refl;
+        count = refl;
+      }
   current i (suc n) = current-next i (at-n n .rest) (at-n n .cur) (at-n n .state) (at-n n .trail) (current i n)
+
+  -- ---- the last position
+
+  shorter : (ss : List Step) (c : Cursor) (j : Triple) (t : List Triple) → length (next (act A B) (conf ss c j t) .rest) ≡ length ss - 1
+  shorter [] c j t = refl
+  shorter (x ∷ ss) c j t = omega arith
+
+  pub rest-length : (n : ℕ) → length (joint A B all j₀ n .rest) ≡ length all - n
+  unfolding pos
+  rest-length zero = omega arith
+  rest-length (suc n) =
+      let p : Conf Triple = joint A B all j₀ n in omega (arith, shorter (p .rest) (p .cur) (p .state) (p .trail), rest-length n)
+
+  whole-here : (ss : List Step) (c : Cursor) (j : Triple) (t : List Triple) → length ss ≡ 0 → whole (act A B) ss c j t ≡ conf ss c j t
+  unfolding whole
+  whole-here [] c j t e = refl
+  whole-here (x ∷ ss) c j t e = absurd (omega arith)
+
+  pub last-is : whole (act A B) all origin j₀ [] ≡ joint A B all j₀ (length all)
+  unfolding pos
+  last-is =
+      let p : Conf Triple = joint A B all j₀ (length all) in
+      whole-pos (act A B) all j₀ (length all)
+      ∙ whole-here (p .rest) (p .cur) (p .state) (p .trail) (omega (arith, rest-length (length all)))
 
 module _ (S : Stage) where
   abbrev A : List ℕ
@@ -107,7 +130,7 @@ module _ (S : Stage) where
   B = S .B
 
   abbrev point : ℕ → Conf Triple
-  point n = joint A B (all S) (j₀ S) n
+  point n = position S n
 
   before-is : (n q : ℕ) → point n .cur .order ≡ q → before A B (all S) (j₀ S) q (point n .trail) ≡ before-order S q
   unfolding before before-order after-order trail
@@ -118,74 +141,101 @@ module _ (S : Stage) where
       sym (ap (λ (u : List Triple). getD u q (j₀ S)) (r .1) ∙ List·getD-append (point n .trail) (r .0) (j₀ S) q l)
 
   -- slot i at position n
-  stands-at : (n i : ℕ) → Unwritten i (point n .cur .order) (all S) → slot (point n .state) i ≡ slot (before-order S (point n .cur .order)) i
-  stands-at n i u = current A B (all S) (j₀ S) i n .same u ∙ ap (λ (x : Triple). slot x i) (before-is n _ refl)
+  stands-at : (n i : ℕ) → Unwritten i (point n .cur .order) (all S) → share (point n .state) i ≡ share-before S (point n .cur .order) i
+  stands-at n i u = current A B (all S) (j₀ S) i n .same u ∙ ap (λ (x : Triple). share x i) (before-is n _ refl)
+
+  inside : (n : ℕ) → point n .cur .order ≤ orders-in (S .script)
+  inside n = omega (arith, ends-pos (act A B) (all S) (j₀ S) n)
+
+  -- behind order p, where no order from order p on writes it
+  pub stands-since : (p i n : ℕ) → UnwrittenFrom S p i → p ≤ point n .cur .order → share (point n .state) i ≡ share-before S p i
+  stands-since p i n u h =
+      stands-at n i (u (point n .cur .order) h) ∙ kept-between S p i (point n .cur .order) h (inside n) (λ q a b. u q a)
+
+  -- the orders that host 1 is past are the script's
+  pub order1-inside : {x : Side} → OneOk S x → side-order x ≤ orders-in (S .script)
+  order1-inside (wait1 h) = omega arith
+  order1-inside (go1 X) = rw (X .is) (inside (X .n))
+
+  pub in-script : {cs : List Call} (v : World) → Run S cs v → (q : ℕ) → q < order1 v → q < orders-in (S .script)
+  in-script v r q l = go v (kept S r) l
+    where
+      go : (v : World) → Ok S v → q < order1 v → q < orders-in (S .script)
+      go _ (ok z one two a) l = omega (arith, l, order1-inside one)
 
   module _ (h : Triple → Pair) (say : Exchange → Cursor → Triple → ℕ) (s : State) (t : List Pair) (said : List Spoken)
       (Z : Tied A B (all S) (j₀ S) h say s t said) (i : ℕ) where
     order-is : s .order ≡ point (Z .n) .cur .order
     order-is = ap (λ (x : State). x .order) (Z .is)
 
-    tied-stands : Unwritten i (s .order) (all S) → slot (point (Z .n) .state) i ≡ slot (before-order S (s .order)) i
+    tied-stands : Unwritten i (s .order) (all S) → share (point (Z .n) .state) i ≡ share-before S (s .order) i
     tied-stands u =
-        stands-at (Z .n) i (subst (λ (q : ℕ). Unwritten i q (all S)) order-is u) ∙ ap (λ (q : ℕ). slot (before-order S q) i) (sym order-is)
+        stands-at (Z .n) i (subst (λ (q : ℕ). Unwritten i q (all S)) order-is u) ∙ ap (λ (q : ℕ). share-before S q i) (sym order-is)
 
   -- ---- host by host
 
-  pub stands1 : {cs : List Call} {z : Dealer} {buf : List ℕ} {s : State} {t : List Pair} {said : List Spoken} {two : Side} → Run S cs (world z buf (going s t said) two)
-      → (i : ℕ) → Unwritten i (s .order) (all S) → (at (s .m) i ≡ slot (before-order S (s .order)) i .m) × (at (s .mask) i ≡ slot (before-order S (s .order)) i .l1)
+  pub stands1 : {cs : List Call} {z : Dealer} {buf : List ℕ} {s : State} {t : List Pair} {said : List Spoken} {two : Side}
+      → Run S cs (world z buf (going s t said) two)
+      → (i : ℕ) → Unwritten i (s .order) (all S)
+      → (at (s .m) i ≡ share-before S (s .order) i .m) × (at (s .mask) i ≡ share-before S (s .order) i .l1)
   stands1 {s = s} {t = t} {said = said} r i u = go (kept S r)
     where
       go : {z : Dealer} {buf : List ℕ} {two : Side} → Ok S (world z buf (going s t said) two)
-          → (at (s .m) i ≡ slot (before-order S (s .order)) i .m) × (at (s .mask) i ≡ slot (before-order S (s .order)) i .l1)
+          → (at (s .m) i ≡ share-before S (s .order) i .m) × (at (s .mask) i ≡ share-before S (s .order) i .l1)
       go (ok z (go1 X) two a) =
-          let e = tied-stands of1 (joint1 A B) s t said X i u in
-          (ap (λ (x : State). at (x .m) i) (X .is) ∙ ap (λ (x : Share ℕ). x .m) e, ap (λ (x : State). at (x .mask) i) (X .is) ∙ ap (λ (x : Share ℕ). x .l1) e)
+          let e = tied-stands of1 (joint1 A B) s t said X i u in (
+            ap (λ (x : State). at (x .m) i) (X .is) ∙ ap (λ (x : Share ℕ). x .m) e,
+            ap (λ (x : State). at (x .mask) i) (X .is) ∙ ap (λ (x : Share ℕ). x .l1) e,
+          )
 
-  pub stands2 : {cs : List Call} {z : Dealer} {buf : List ℕ} {one : Side} {s : State} {t : List Pair} {said : List Spoken} → Run S cs (world z buf one (going s t said))
-      → (i : ℕ) → Unwritten i (s .order) (all S) → (at (s .m) i ≡ slot (before-order S (s .order)) i .m) × (at (s .mask) i ≡ slot (before-order S (s .order)) i .l2)
+  pub stands2 : {cs : List Call} {z : Dealer} {buf : List ℕ} {one : Side} {s : State} {t : List Pair} {said : List Spoken}
+      → Run S cs (world z buf one (going s t said))
+      → (i : ℕ) → Unwritten i (s .order) (all S)
+      → (at (s .m) i ≡ share-before S (s .order) i .m) × (at (s .mask) i ≡ share-before S (s .order) i .l2)
   stands2 {s = s} {t = t} {said = said} r i u = go (kept S r)
     where
       go : {z : Dealer} {buf : List ℕ} {one : Side} → Ok S (world z buf one (going s t said))
-          → (at (s .m) i ≡ slot (before-order S (s .order)) i .m) × (at (s .mask) i ≡ slot (before-order S (s .order)) i .l2)
+          → (at (s .m) i ≡ share-before S (s .order) i .m) × (at (s .mask) i ≡ share-before S (s .order) i .l2)
       go (ok z one (go2 Y) a) =
-          let e = tied-stands of2 (joint2 A B) s t said Y i u in
-          (ap (λ (x : State). at (x .m) i) (Y .is) ∙ ap (λ (x : Share ℕ). x .m) e, ap (λ (x : State). at (x .mask) i) (Y .is) ∙ ap (λ (x : Share ℕ). x .l2) e)
+          let e = tied-stands of2 (joint2 A B) s t said Y i u in (
+            ap (λ (x : State). at (x .m) i) (Y .is) ∙ ap (λ (x : Share ℕ). x .m) e,
+            ap (λ (x : State). at (x .mask) i) (Y .is) ∙ ap (λ (x : Share ℕ). x .l2) e,
+          )
 
   -- the end of the joint walk, past every order
   last-order : point (length (all S)) .cur .order ≡ orders-in (S .script)
   unfolding ends
-  last-order = go (point (length (all S)) .rest) (ends-pos (act A B) (all S) (j₀ S) (length (all S))) (rest-length A B (all S) (j₀ S) (length (all S)))
+  last-order =
+      go (point (length (all S)) .rest) (ends-pos (act A B) (all S) (j₀ S) (length (all S)))
+      (rest-length A B (all S) (j₀ S) (length (all S)))
     where
       go : (ss : List Step) → ends ss + point (length (all S)) .cur .order ≡ ends (all S) → length ss ≡ length (all S) - length (all S)
           → point (length (all S)) .cur .order ≡ ends (all S)
       go [] e l = sym (zero-add _) ∙ e
       go (x ∷ ss) e l = absurd (omega arith)
 
-  last-stands : Closed (all S) → (i : ℕ) → slot (last S .state) i ≡ slot (before-order S (orders-in (S .script))) i
+  pub last-since : (p i : ℕ) → UnwrittenFrom S p i → p ≤ orders-in (S .script) → share (last S .state) i ≡ share-before S p i
+  last-since p i u h =
+      ap (λ (x : Conf Triple). share (x .state) i) (last-is A B (all S) (j₀ S))
+      ∙ stands-since p i (length (all S)) u (omega (arith, h, last-order))
+
+  last-stands : Closed (all S) → (i : ℕ) → share (last S .state) i ≡ share-before S (orders-in (S .script)) i
   last-stands shut i =
       let n : ℕ = length (all S) in
       let u : Unwritten i (point n .cur .order) (all S) = closed-from i (all S) shut (point n .cur .order) (omega (arith, last-order)) in
-      ap (λ (p : Conf Triple). slot (p .state) i) (last-is A B (all S) (j₀ S)) ∙ stands-at n i u ∙ ap (λ (q : ℕ). slot (before-order S q) i) last-order
+      ap (λ (p : Conf Triple). share (p .state) i) (last-is A B (all S) (j₀ S)) ∙ stands-at n i u
+      ∙ ap (λ (q : ℕ). share-before S q i) last-order
 
-  pub stands0 : {cs : List Call} {r : Pair} {t : List Pair} {buf : List ℕ} {one two : Side} → Closed (all S) → Run S cs (world (ready r t) buf one two)
+  pub stands0 : {cs : List Call} {r : Pair} {t : List Pair} {buf : List ℕ} {one two : Side} → Closed (all S)
+      → Run S cs (world (ready r t) buf one two)
       → (i : ℕ) → i < S .script .slots
-      → (at (r .0) i ≡ slot (before-order S (orders-in (S .script))) i .l1) × (at (r .1) i ≡ slot (before-order S (orders-in (S .script))) i .l2)
+      → (at (r .0) i ≡ share-before S (orders-in (S .script)) i .l1) × (at (r .1) i ≡ share-before S (orders-in (S .script)) i .l2)
   stands0 {r = r} {t = t} shut R i h = go (kept S R)
     where
       go : {buf : List ℕ} {one two : Side} → Ok S (world (ready r t) buf one two)
-          → (at (r .0) i ≡ slot (before-order S (orders-in (S .script))) i .l1) × (at (r .1) i ≡ slot (before-order S (orders-in (S .script))) i .l2)
+          → (at (r .0) i ≡ share-before S (orders-in (S .script)) i .l1) × (at (r .1) i ≡ share-before S (orders-in (S .script)) i .l2)
       go (ok (dealt-all p g e k) one two a) =
           let z = last-stands shut i in (
             ap (λ (x : Pair). at (x .0) i) e ∙ getD-take (S .script .slots) (last S .state .1) i 0 h ∙ ap (λ (x : Share ℕ). x .l1) z,
             ap (λ (x : Pair). at (x .1) i) e ∙ getD-take (S .script .slots) (last S .state .2) i 0 h ∙ ap (λ (x : Share ℕ). x .l2) z,
           )
-
--- ---- of a job: a register that is not the target of order q
-
-pub spared-by : (S : Setting) (q i : ℕ) → i < 16 → (q < length (orders (S .job)) → eqb i (order-of S q .target) ≡ false) → Unwritten i q (staged 32 S .script .steps)
-spared-by S q i hi f =
-    subst (λ (ss : List Step). Unwritten i q ss) (sym (job-made 32 (S .job) (S .table)))
-    (unwritten-gates 32 i q (gates 32 S)
-    (λ h. let k : q < length (orders (S .job)) = rw (gates-length 32 (S .job) (S .table)) at h in
-    rw (gates-is 32 S q k) (spares-program 32 (rows (S .table)) (order-of S q) i hi (f k))))

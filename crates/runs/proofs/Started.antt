@@ -1,5 +1,5 @@
 -- A host that has started was lent an accepted script, with lists that are long enough. Assumes nothing.
-use mathlib.Core.Path.{_≡_, refl}
+use mathlib.Core.Path.{_≡_, refl, subst}
 use mathlib.Core.Bool.{Bool, true, false, cond}
 use mathlib.Core.List.{List}
 use Prim.Native.Nat.{ℕ, _≤_, _<_}
@@ -11,8 +11,10 @@ use lib.ListN.{length}
 use Rattle.jobs.specs.Job.{Fault, short-a}
 use Rattle.calls.specs.Scripts.{script-cost}
 use Rattle.calls.specs.Lent.{or-else, lists-fault, lent-fault}
-use Rattle.runs.specs.Runs.{Stage, waiting, going, World, world, Refuses, dealer, dealer-later, dealer-elsewhere, dealer-later-elsewhere, one-waiting, two-waiting, one-going, two-going, Call, registers, lent1, Completes, prepares, starts1, starts2, hears1, hears2, given-out, Run, begin, complete, refuse, order1}
+use Rattle.runs.specs.Runs.{Stage, waiting, going, World, world, Call, lent1, held, Completes, prepares, starts1, starts2, hears1}
+use Rattle.runs.specs.Runs.{hears2, given-out, Run, begin, complete, refuse, order1}
 use Rattle.runs.proofs.Refusals.{start-none}
+use Rattle.runs.proofs.Kept.{refuses-nothing, kept}
 
 pub or-else-none : (f : Fault) (n : ℕ) → or-else f n .0 ≡ 0 → (f .0 ≡ 0) × (n ≡ 0)
 unfolding or-else
@@ -37,7 +39,8 @@ checked-of S D e =
     let p = or-else-none (S .script .fault) _ e in
     record { script = p .0; a = go (ltb (length (S .A)) (script-cost (S .script) .a)) refl (p .1) }
   where
-    go : (b : Bool) → ltb (length (S .A)) (script-cost (S .script) .a) ≡ b → _≡_ {A = ℕ} (cond b 6 0) 0 → script-cost (S .script) .a ≤ length (S .A)
+    go : (b : Bool) → ltb (length (S .A)) (script-cost (S .script) .a) ≡ b → _≡_ {A = ℕ} (cond b 6 0) 0
+        → script-cost (S .script) .a ≤ length (S .A)
     go true t h = absurd (omega arith)
     go false t h = ltb-false (length (S .A)) (script-cost (S .script) .a) t
 
@@ -45,32 +48,16 @@ module _ (S : Stage) where
   completed : {c : Call} {v v′ : World} → Completes S c v v′ → (Gone v → Checked S) → Gone v′ → Checked S
   completed (prepares {one = waiting s} e) h g = absurd g
   completed (prepares {one = going s t said} e) h g = h tt
-  completed (starts1 {s = s} D e) h g = checked-of S D (start-none (lent1 S D) (registers (S .script .slots) s) e .0)
+  completed (starts1 {s = s} D e) h g = checked-of S D (start-none (lent1 S D) (held S s) e .0)
   completed (starts2 {one = waiting s} D d e) h g = absurd g
   completed (starts2 {one = going s t said} D d e) h g = h tt
   completed (hears1 D v m e) h g = h tt
   completed (hears2 D d v m e) h g = h tt
 
-  refused : {v v′ : World} → Refuses (S .script .slots) v v′ → (Gone v → Checked S) → Gone v′ → Checked S
-  refused (dealer {one = waiting s} σ A B e) h g = absurd g
-  refused (dealer {one = going s t said} σ A B e) h g = h tt
-  refused (dealer-later {one = waiting s} σ A B e) h g = absurd g
-  refused (dealer-later {one = going s t said} σ A B e) h g = h tt
-  refused (dealer-elsewhere {one = waiting s} σ A B b e) h g = absurd g
-  refused (dealer-elsewhere {one = going s t said} σ A B b e) h g = h tt
-  refused (dealer-later-elsewhere {one = waiting s} σ A B b e) h g = absurd g
-  refused (dealer-later-elsewhere {one = going s t said} σ A B b e) h g = h tt
-  refused (one-waiting e) h g = absurd g
-  refused (two-waiting {one = waiting s} e) h g = absurd g
-  refused (two-waiting {one = going s t said} e) h g = h tt
-  refused (one-going e) h g = h tt
-  refused (two-going {one = waiting s} e) h g = absurd g
-  refused (two-going {one = going s t said} e) h g = h tt
-
   gone : {cs : List Call} {v : World} → Run S cs v → Gone v → Checked S
   gone (begin (given-out h k)) g = absurd g
   gone (complete r c) g = completed c (λ h. gone r h) g
-  gone (refuse r c) g = refused c (λ h. gone r h) g
+  gone (refuse r c) g = gone r (subst Gone (refuses-nothing S (kept S r) c) g)
 
   -- a run in which host 1 is past an order is one of an accepted script
   pub past-checked : {cs : List Call} (v : World) (q : ℕ) → Run S cs v → q < order1 v → Checked S

@@ -7,30 +7,35 @@ use native.Mathlib.Omega.{arith}
 use native.Mathlib.Decide.{decLe}
 use lib.ListN.{length}
 use Rattle.gates.specs.Steps.{at, Exchange, Step, local, deal, exchange, end, Cursor, origin, past}
-use Rattle.gates.specs.Walk.{Conf, conf, next, walk, Exchanging}
-use Rattle.gates.specs.Hosts.{Pair, Triple, of1, of2, act, joint1, joint2, Supplied}
-use Rattle.gates.proofs.Seen.{through, Seen, quiet, Always, see-walk}
+use Rattle.gates.specs.Walk.{Conf, conf, Exchanging, next, walk}
+use Rattle.gates.specs.Hosts.{Pair, Triple, of1, of2, joint1, joint2, act, Supplied}
+use Rattle.gates.proofs.Seen.{through, quiet, Seen, Always, see-walk}
 use Rattle.gates.proofs.Lanes.{seen1, seen2, says1, says2, hears1, hears2}
 use Rattle.calls.specs.Places.{Found, found, seek}
 use Rattle.calls.specs.Lent.{Worker, worker1, worker2}
 use Rattle.calls.specs.Calls.{State, Answer, fresh2, word-at, spoken-at, state-of, report, unless, hear-walk, place-fault, resume}
-use Rattle.runs.specs.Runs.{Spoken, utter, Among}
+use Rattle.runs.specs.Runs.{Spoken, placed-word, Among}
 use Rattle.runs.proofs.Places.{Halted, pos, walk-reaches, seek-pos, same-place}
 
 -- P sees the lanes h of the joint walk, speaks `own` and expects `other`
-pub record Shadow (A B : List ℕ) (P : Worker) (h : Triple → Pair) (own other : Exchange → Cursor → Triple → ℕ) (Good : List Step → Cursor → Triple → Type 0) : Type 0 where
+pub record Shadow (A B : List ℕ) (P : Worker) (h : Triple → Pair) (own other : Exchange → Cursor → Triple → ℕ)
+    (Good : List Step → Cursor → Triple → Type 0) : Type 0 where
   pub seen : Seen (act A B) (P .act) h Good quiet
   pub says : (d : ℕ) (e : Exchange) (ss : List Step) (c : Cursor) (j : Triple) → Good (exchange d e ∷ ss) c j → P .say e c (h j) ≡ own e c j
-  pub hears : (d : ℕ) (e : Exchange) (ss : List Step) (c : Cursor) (j : Triple) (w : ℕ) → Good (exchange d e ∷ ss) c j → w ≡ other e c j
-      → P .hear d e c (h j) w ≡ h (act A B (exchange d e) c j)
+  pub hears : (d : ℕ) (e : Exchange) (ss : List Step) (c : Cursor) (j : Triple) (v : ℕ) → Good (exchange d e ∷ ss) c j → v ≡ other e c j
+      → P .hear d e c (h j) v ≡ h (act A B (exchange d e) c j)
 
 pub shadow1 : (A B : List ℕ) → Shadow A B (worker1 A) of1 (joint1 A B) (joint2 A B) Always
 shadow1 A B =
-    record { seen = seen1 A B; says = λ d e ss c j g. says1 A B [] e c j; hears = λ d e ss c j w g q. hears1 A B [] d e c j w q }
+    record { seen = seen1 A B; says = λ d e ss c j g. says1 A B [] e c j; hears = λ d e ss c j v g q. hears1 A B [] d e c j v q }
 
 pub shadow2 : (A B D : List ℕ) → Shadow A B (worker2 B D) of2 (joint2 A B) (joint1 A B) (Supplied A B D)
 shadow2 A B D =
-    record { seen = seen2 A B D; says = λ d e ss c j g. says2 A B D d e ss c j g; hears = λ d e ss c j w g q. hears2 A B D d e ss c j w g q }
+    record {
+      seen = seen2 A B D;
+      says = λ d e ss c j g. says2 A B D d e ss c j g;
+      hears = λ d e ss c j v g q. hears2 A B D d e ss c j v g q;
+    }
 
 -- a walk only adds to its trail
 pub walk-trail : {S : Type 0} (f : Step → Cursor → S → S) (ss : List Step) (c : Cursor) (s : S) (t : List S)
@@ -125,9 +130,16 @@ module _ (A B : List ℕ) (all : List Step) (j₀ : Triple) where
     -- the answer where the joint walk is at position n
     abbrev pub answer-at : ℕ → Answer
     answer-at n =
-        record { number = 0; index = 0; spoken = spoken-at (joint n .rest) (joint n .cur); word = words own n; state = state-of (through h (joint n)) }
+        record {
+          number = 0;
+          index = 0;
+          spoken = spoken-at (joint n .rest) (joint n .cur);
+          word = words own n;
+          state = state-of (through h (joint n));
+        }
 
-    -- an answer after whose call the walk halts at position `to`, from position n on, with the trail t before it and the trail tr of the call
+    -- an answer after whose call the walk halts at position `to`, from position n on, with the trail t before it and the trail tr of the
+    -- call
     pub record Went (n : ℕ) (t : List Pair) (ans : Answer) (tr : List Pair) : Type 0 where
       pub to : ℕ
       pub later : n ≤ to
@@ -151,19 +163,28 @@ module _ (A B : List ℕ) (all : List Step) (j₀ : Triple) where
         }
       where
         answer-with : ℕ → Answer
-        answer-with v = record { number = 0; index = 0; spoken = spoken-at (joint to .rest) (joint to .cur); word = v; state = state-of (through h (joint to)) }
+        answer-with v =
+            record {
+              number = 0;
+              index = 0;
+              spoken = spoken-at (joint to .rest) (joint to .cur);
+              word = v;
+              state = state-of (through h (joint to));
+            }
 
     walked : (n : ℕ) → Went n (map h (joint n .trail)) (report P (walk (P .act) (joint n .rest) (joint n .cur) (h (joint n .state)) []))
         (walk (P .act) (joint n .rest) (joint n .cur) (h (joint n .state)) [] .trail)
     walked n =
         let r = walk-reaches (act A B) all j₀ (joint n .rest) (joint n .cur) (joint n .state) (joint n .trail) n refl in
-        went n (r .to) (map h (joint n .trail)) (walk (P .act) (joint n .rest) (joint n .cur) (h (joint n .state)) []) (r .later) (rw (r .is) at (r .halts)) (r .quietly)
+        went n (r .to) (map h (joint n .trail)) (walk (P .act) (joint n .rest) (joint n .cur) (h (joint n .state)) []) (r .later)
+        (rw (r .is) at (r .halts)) (r .quietly)
         (sym (walk-trail (P .act) _ _ _ _)
         ∙ see-walk (act A B) (P .act) h Good (sh .seen) (joint n .rest) (joint n .cur) (joint n .state) (joint n .trail) (good-pos n)
         ∙ ap (through h) (r .is))
 
     walked-at : (q : Conf Triple) (n : ℕ) → q ≡ joint n
-        → Went n (map h (q .trail)) (report P (walk (P .act) (q .rest) (q .cur) (h (q .state)) [])) (walk (P .act) (q .rest) (q .cur) (h (q .state)) [] .trail)
+        → Went n (map h (q .trail)) (report P (walk (P .act) (q .rest) (q .cur) (h (q .state)) []))
+        (walk (P .act) (q .rest) (q .cur) (h (q .state)) [] .trail)
     walked-at q n e = rw e (walked n)
 
     -- starting and hearing, once the checks 1 to 7 are passed
@@ -180,8 +201,10 @@ module _ (A B : List ℕ) (all : List Step) (j₀ : Triple) where
     unfolding pos
     starts r e = rw e (walked 0)
 
-    hear-at : (ss : List Step) (c : Cursor) (j : Triple) (t : List Triple) (n v : ℕ) → conf ss c j t ≡ joint n → Exchanging ss → Good ss c j → v ≡ word-at other ss c j
-        → Went (suc n) (map h t) (resume P (state-of (through h (conf ss c j t))) v (found ss c)) (hear-walk P (state-of (through h (conf ss c j t))) v (found ss c) .trail)
+    hear-at : (ss : List Step) (c : Cursor) (j : Triple) (t : List Triple) (n v : ℕ) → conf ss c j t ≡ joint n → Exchanging ss → Good ss c j
+        → v ≡ word-at other ss c j
+        → Went (suc n) (map h t) (resume P (state-of (through h (conf ss c j t))) v (found ss c))
+        (hear-walk P (state-of (through h (conf ss c j t))) v (found ss c) .trail)
     unfolding resume place-fault unless hear-walk word-at pos
     hear-at [] c j t n v p x g e = absurd x
     hear-at (local d m l ∷ ss) c j t n v p x g e = absurd x
@@ -191,10 +214,12 @@ module _ (A B : List ℕ) (all : List Step) (j₀ : Triple) where
 
     -- hearing, at position n, the word that the other speaks there
     pub hears-on : (n v : ℕ) → Exchanging (joint n .rest) → Halted (joint n .rest) → v ≡ words other n
-        → Went (suc n) (map h (joint n .trail)) (heard-by (state-of (through h (joint n))) v) (heard-trail (state-of (through h (joint n))) v)
+        → Went (suc n) (map h (joint n .trail)) (heard-by (state-of (through h (joint n))) v)
+        (heard-trail (state-of (through h (joint n))) v)
     hears-on n v x k e =
         let s : State = state-of (through h (joint n)) in
-        subst (λ (f : Found). Went (suc n) (map h (joint n .trail)) (resume P s v f) (hear-walk P s v f .trail)) (sym (seek-pos (act A B) all j₀ n k))
+        subst (λ (f : Found). Went (suc n) (map h (joint n .trail)) (resume P s v f) (hear-walk P s v f .trail))
+        (sym (seek-pos (act A B) all j₀ n k))
         (hear-at (joint n .rest) (joint n .cur) (joint n .state) (joint n .trail) n v refl x (good-pos n) e)
 
     add-heard : (k to : ℕ) (said : List Spoken) (x : Spoken) → x ≡ spoken own to → Halted (joint to .rest)
@@ -214,22 +239,24 @@ module _ (A B : List ℕ) (all : List Step) (j₀ : Triple) where
             go (no a) (no b) = let f : i ≡ to = omega arith in inl (rw f (sym e))
 
     -- after a call that went well
-    pub tie : (k : ℕ) (t tr : List Pair) (said : List Spoken) (a : Answer) → Went k t a tr → Heard own k said → length said ≡ joint k .cur .b
-        → Tied h own (a .state) (t ++ tr) (utter (a .state) (a .word) ∷ said)
+    pub tie : (k : ℕ) (t tr : List Pair) (said : List Spoken) (a : Answer) → Went k t a tr → Heard own k said
+        → length said ≡ joint k .cur .b
+        → Tied h own (a .state) (t ++ tr) (placed-word (a .state) (a .word) ∷ said)
     tie k t tr said a W H c =
         record {
           n = W .to;
           halts = W .halts;
           is = ap (λ (x : Answer). x .state) (W .is);
           trails = W .whole-trail;
-          heard = add-heard k (W .to) said (utter (a .state) (a .word)) (rw (W .is)) (W .halts) (W .quietly) H;
+          heard = add-heard k (W .to) said (placed-word (a .state) (a .word)) (rw (W .is)) (W .halts) (W .quietly) H;
           count = ap suc (c ∙ sym (b-quiet k (W .to) (W .later) (W .quietly)));
         }
 
     none-heard : Heard own 0 []
     none-heard = record { only = λ p x. absurd x; every = λ i l x. omega arith }
 
-    pub tie-start : (r : Pair) → fresh2 r ≡ h j₀ → Tied h own (report P (begun r) .state) (begun r .trail) (utter (report P (begun r) .state) (report P (begun r) .word) ∷ [])
+    pub tie-start : (r : Pair) → fresh2 r ≡ h j₀
+        → Tied h own (report P (begun r) .state) (begun r .trail) (placed-word (report P (begun r) .state) (report P (begun r) .word) ∷ [])
     unfolding pos
     tie-start r e = tie 0 [] (begun r .trail) [] (report P (begun r)) (starts r e) none-heard refl
 
@@ -242,31 +269,36 @@ module _ (A B : List ℕ) (all : List Step) (j₀ : Triple) where
     live (exchange d y ∷ ss) c s v e = tt
     live (end ∷ ss) c s v e = absurd (omega arith)
 
-    live-at : (n v : ℕ) → Halted (joint n .rest) → heard-by (state-of (through h (joint n))) v .number ≡ 0 → Exchanging (joint n .rest)
+    pub live-at : (n v : ℕ) → Halted (joint n .rest) → heard-by (state-of (through h (joint n))) v .number ≡ 0 → Exchanging (joint n .rest)
     live-at n v k e = live (joint n .rest) (joint n .cur) _ v (rw (seek-pos (act A B) all j₀ n k) at e)
 
     -- a word that the other host has said at this place is the joint walk's
-    pub word-right : (n k w : ℕ) (said : List Spoken) → Exchanging (joint n .rest) → Heard other k said
-        → Among (joint n .cur .order, joint n .cur .turn, w) said → w ≡ words other n
-    word-right n k w said x H m =
+    pub word-right : (n k v : ℕ) (said : List Spoken) → Exchanging (joint n .rest) → Heard other k said
+        → Among (joint n .cur .order, joint n .cur .turn, v) said → v ≡ words other n
+    word-right n k v said x H m =
         let f = H .only _ m in
         let e : joint (f .0) ≡ joint n =
         same-place (act A B) all j₀ (f .0) n (f .1) x (ap (λ (p : Spoken). p .0) (sym (f .2))) (ap (λ (p : Spoken). p .1) (sym (f .2))) in
         ap (λ (p : Spoken). p .2) (f .2) ∙ ap (λ (p : Conf Triple). word-at other (p .rest) (p .cur) (p .state)) e
 
-    next-count : (n : ℕ) (said : List Spoken) → Exchanging (joint n .rest) → length said ≡ suc (joint n .cur .b) → length said ≡ joint (suc n) .cur .b
+    next-count : (n : ℕ) (said : List Spoken) → Exchanging (joint n .rest) → length said ≡ suc (joint n .cur .b)
+        → length said ≡ joint (suc n) .cur .b
     unfolding pos
     next-count n said x c = c ∙ sym (b-one (joint n) x)
 
-    pub tie-hear : (s : State) (t : List Pair) (said said′ : List Spoken) (k v : ℕ) → Tied h own s t said → Heard other k said′ → Among (s .order, s .turn, v) said′
-        → heard-by s v .number ≡ 0 → Tied h own (heard-by s v .state) (t ++ heard-trail s v) (utter (heard-by s v .state) (heard-by s v .word) ∷ said)
+    pub tie-hear : (s : State) (t : List Pair) (said said′ : List Spoken) (k v : ℕ) → Tied h own s t said → Heard other k said′
+        → Among (placed-word s v) said′
+        → heard-by s v .number ≡ 0
+        → Tied h own (heard-by s v .state) (t ++ heard-trail s v) (placed-word (heard-by s v .state) (heard-by s v .word) ∷ said)
     tie-hear s t said said′ k v Z H m a =
         let a′ : heard-by (state-of (through h (joint (Z .n)))) v .number ≡ 0 = rw (Z .is) at a in
         let x : Exchanging (joint (Z .n) .rest) = live-at (Z .n) v (Z .halts) a′ in
         let m′ : Among (joint (Z .n) .cur .order, joint (Z .n) .cur .turn, v) said′ = rw (Z .is) at m in
         let W = hears-on (Z .n) v x (Z .halts) (word-right (Z .n) k v said′ x H m′) in
-        subst (λ (q : State). Tied h own (heard-by q v .state) (t ++ heard-trail q v) (utter (heard-by q v .state) (heard-by q v .word) ∷ said)) (sym (Z .is))
-        (rw (Z .trails) (tie (suc (Z .n)) (map h (joint (Z .n) .trail)) (heard-trail (state-of (through h (joint (Z .n)))) v) said _ W (Z .heard) (next-count (Z .n) said x (Z .count))))
+        subst (λ (q : State). Tied h own (heard-by q v .state) (t ++ heard-trail q v)
+        (placed-word (heard-by q v .state) (heard-by q v .word) ∷ said)) (sym (Z .is))
+        (rw (Z .trails) (tie (suc (Z .n)) (map h (joint (Z .n) .trail)) (heard-trail (state-of (through h (joint (Z .n)))) v) said _ W
+        (Z .heard) (next-count (Z .n) said x (Z .count))))
 
     -- the answer of a call that completes, where the walk then halts, and the number of answers given so far
     pub record Answered (a : Answer) (given : ℕ) : Type 0 where
@@ -283,7 +315,8 @@ module _ (A B : List ℕ) (all : List Step) (j₀ : Triple) where
     unfolding pos
     start-answered r e = answered 0 [] (begun r .trail) 0 (report P (begun r)) (starts r e) refl
 
-    pub hear-answered : (s : State) (t : List Pair) (said said′ : List Spoken) (k v : ℕ) → Tied h own s t said → Heard other k said′ → Among (s .order, s .turn, v) said′
+    pub hear-answered : (s : State) (t : List Pair) (said said′ : List Spoken) (k v : ℕ) → Tied h own s t said → Heard other k said′
+        → Among (placed-word s v) said′
         → heard-by s v .number ≡ 0 → Answered (heard-by s v) (suc (length said))
     hear-answered s t said said′ k v Z H m a =
         let a′ : heard-by (state-of (through h (joint (Z .n)))) v .number ≡ 0 = rw (Z .is) at a in
@@ -296,12 +329,14 @@ module _ (A B : List ℕ) (all : List Step) (j₀ : Triple) where
     -- a host at a product or refresh, where the other has said its word, can hear it, and comes further
     pub record CanHear (s : State) (t : List Pair) (said said′ : List Spoken) (n : ℕ) : Type 0 where
       pub word : ℕ
-      pub among : Among (s .order, s .turn, word) said′
+      pub among : Among (placed-word s word) said′
       pub completes : heard-by s word .number ≡ 0
-      pub tied : Tied h own (heard-by s word .state) (t ++ heard-trail s word) (utter (heard-by s word .state) (heard-by s word .word) ∷ said)
+      pub tied : Tied h own (heard-by s word .state) (t ++ heard-trail s word)
+          (placed-word (heard-by s word .state) (heard-by s word .word) ∷ said)
       pub further : n < tied .n
 
-    can-hear-at : (n : ℕ) (said said′ : List Spoken) (k : ℕ) → Heard own (suc n) said → length said ≡ suc (joint n .cur .b) → Halted (joint n .rest) → Exchanging (joint n .rest)
+    can-hear-at : (n : ℕ) (said said′ : List Spoken) (k : ℕ) → Heard own (suc n) said → length said ≡ suc (joint n .cur .b)
+        → Halted (joint n .rest) → Exchanging (joint n .rest)
         → Heard other k said′ → n < k → CanHear (state-of (through h (joint n))) (map h (joint n .trail)) said said′ n
     unfolding tie
     can-hear-at n said said′ k own-said own-count u x H l =
@@ -310,10 +345,12 @@ module _ (A B : List ℕ) (all : List Step) (j₀ : Triple) where
           word = words other n;
           among = H .every n l x;
           completes = ap (λ (a : Answer). a .number) (W .is);
-          tied = tie (suc n) (map h (joint n .trail)) (heard-trail (state-of (through h (joint n))) (words other n)) said _ W own-said (next-count n said x own-count);
+          tied = tie (suc n) (map h (joint n .trail)) (heard-trail (state-of (through h (joint n))) (words other n)) said _ W own-said
+              (next-count n said x own-count);
           further = W .later;
         }
 
-    pub can-hear : (s : State) (t : List Pair) (said said′ : List Spoken) (k : ℕ) (Z : Tied h own s t said) → Exchanging (joint (Z .n) .rest)
+    pub can-hear : (s : State) (t : List Pair) (said said′ : List Spoken) (k : ℕ) (Z : Tied h own s t said)
+        → Exchanging (joint (Z .n) .rest)
         → Heard other k said′ → Z .n < k → CanHear s t said said′ (Z .n)
     can-hear s t said said′ k Z x H l = rw (Z .is, Z .trails) (can-hear-at (Z .n) said said′ k (Z .heard) (Z .count) (Z .halts) x H l)

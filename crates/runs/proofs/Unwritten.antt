@@ -1,5 +1,5 @@
 -- Steps and gates that do not write a slot, from an order on. Assumes nothing.
-use mathlib.Core.Path.{_≡_, refl, sym, subst}
+use mathlib.Core.Path.{_≡_, refl}
 use mathlib.Core.Bool.{false}
 use mathlib.Core.List.{List, [], _∷_}
 use Prim.Native.Nat.{ℕ, zero, suc, _≤_, _<_}
@@ -10,14 +10,11 @@ use Rattle.gates.specs.declared.Gate.{Gate}
 use Rattle.gates.specs.declared.Gate.the-variants.{Add, Sub, Xor, Mul, And, Refresh, Scale, Plus, Up, Bit, Const, Public, Deal, DealBits}
 use Rattle.gates.specs.Steps.{Step, local, deal, exchange, end, Cursor}
 use Rattle.gates.specs.Meaning.{meaning, order-steps, job-steps}
-use Rattle.gates.specs.Hosts.{Triple, act}
+use Rattle.gates.specs.Hosts.{Triple, share, act}
 use Rattle.programs.proofs.Points.{target}
 use Rattle.calls.specs.Scripts.{ends, Closed}
-use Rattle.runs.specs.Runs.{Stage}
-use Rattle.runs.specs.Orders.{slot, Unwritten}
-use Rattle.runs.specs.Returned.{UnwrittenFrom}
+use Rattle.runs.specs.Orders.{Unwritten}
 use Rattle.runs.proofs.Spared.{other-slot}
-use Rattle.runs.proofs.Kept.{all}
 use Rattle.runs.proofs.Written.{Spares, none, also}
 
 -- ---- steps that do not write slot i
@@ -28,47 +25,12 @@ Misses i (deal d f) = eqb i d ≡ false
 Misses i (exchange d e) = eqb i d ≡ false
 Misses i end = Unit
 
-pub act-misses : (A B : List ℕ) (x : Step) (c : Cursor) (j : Triple) (i : ℕ) → Misses i x → slot (act A B x c j) i ≡ slot j i
+pub act-misses : (A B : List ℕ) (x : Step) (c : Cursor) (j : Triple) (i : ℕ) → Misses i x → share (act A B x c j) i ≡ share j i
 unfolding act
 act-misses A B (local d m l) c j i h = other-slot A B j d i _ _ _ h
 act-misses A B (deal d f) c j i h = other-slot A B j d i _ _ _ h
 act-misses A B (exchange d e) c j i h = other-slot A B j d i _ _ _ h
 act-misses A B end c j i h = refl
-
--- ---- a list of steps in which, once k orders have ended, no step writes slot i
-
-abbrev pub Spared : (i k : ℕ) → List Step → Type 0
-Spared i k [] = Unit
-Spared i zero (x ∷ ss) = Misses i x × Spared i zero ss
-Spared i (suc k) (local d m l ∷ ss) = Spared i (suc k) ss
-Spared i (suc k) (deal d f ∷ ss) = Spared i (suc k) ss
-Spared i (suc k) (exchange d e ∷ ss) = Spared i (suc k) ss
-Spared i (suc k) (end ∷ ss) = Spared i k ss
-
--- behind the first step of order 0, and behind a step of an earlier order
-within : (i : ℕ) (ss ss′ : List Step) → Unwritten i 0 ss → ((p : ℕ) → 0 ≤ p → Unwritten i (suc p) ss′ → Unwritten i (suc p) ss)
-    → ((p : ℕ) → 0 ≤ p → Unwritten i p ss′) → (p : ℕ) → 0 ≤ p → Unwritten i p ss
-within i ss ss′ u g f zero l = u
-within i ss ss′ u g f (suc p) l = g p (omega arith) (f (suc p) (omega arith))
-
-before-it : (i k : ℕ) (ss ss′ : List Step) → ((p : ℕ) → Unwritten i (suc p) ss′ → Unwritten i (suc p) ss)
-    → ((p : ℕ) → suc k ≤ p → Unwritten i p ss′) → (p : ℕ) → suc k ≤ p → Unwritten i p ss
-before-it i k ss ss′ g f zero l = absurd (omega arith)
-before-it i k ss ss′ g f (suc p) l = g p (f (suc p) l)
-
-spared-from : (i k : ℕ) (ss : List Step) → ((p : ℕ) → k ≤ p → Unwritten i p ss) → Spared i k ss
-spared-from i k [] f = tt
-spared-from i zero (local d m l ∷ ss) f = (f 0 (omega arith) .0, spared-from i 0 ss (within i ss (local d m l ∷ ss) (f 0 (omega arith) .1) (λ p h u. u) f))
-spared-from i zero (deal d e ∷ ss) f = (f 0 (omega arith) .0, spared-from i 0 ss (within i ss (deal d e ∷ ss) (f 0 (omega arith) .1) (λ p h u. u) f))
-spared-from i zero (exchange d e ∷ ss) f = (f 0 (omega arith) .0, spared-from i 0 ss (within i ss (exchange d e ∷ ss) (f 0 (omega arith) .1) (λ p h u. u) f))
-spared-from i zero (end ∷ ss) f = (tt, spared-from i 0 ss (λ p l. f (suc p) (omega arith)))
-spared-from i (suc k) (local d m l ∷ ss) f = spared-from i (suc k) ss (before-it i k ss (local d m l ∷ ss) (λ p u. u) f)
-spared-from i (suc k) (deal d e ∷ ss) f = spared-from i (suc k) ss (before-it i k ss (deal d e ∷ ss) (λ p u. u) f)
-spared-from i (suc k) (exchange d e ∷ ss) f = spared-from i (suc k) ss (before-it i k ss (exchange d e ∷ ss) (λ p u. u) f)
-spared-from i (suc k) (end ∷ ss) f = spared-from i k ss (λ p l. f (suc p) (omega arith))
-
-pub spared-all : (S : Stage) (q i : ℕ) → UnwrittenFrom S q i → Spared i q (all S)
-spared-all S q i u = spared-from i q (all S) u
 
 -- where every step stands in an order, none comes behind the last
 pub closed-from : (i : ℕ) (ss : List Step) → Closed ss → (p : ℕ) → ends ss ≤ p → Unwritten i p ss
@@ -134,8 +96,3 @@ unfolding job-steps
 unwritten-gates w i p [] f = tt
 unwritten-gates w i zero (o ∷ os) f = unwritten-order w i o (job-steps w os) (f (omega arith))
 unwritten-gates w i (suc p) (o ∷ os) f = skip-order w i p o (job-steps w os) (unwritten-gates w i p os (λ h. f (omega arith)))
-
--- a stage whose steps are those of lists of gates: where no list from list q on writes slot i
-pub gated-from : (w : ℕ) (S : Stage) (os : List (List Gate)) → S .script .steps ≡ job-steps w os → (q i : ℕ)
-    → ((p : ℕ) → q ≤ p → p < length os → Spares i (getD os p [])) → UnwrittenFrom S q i
-gated-from w S os made q i f p l = subst (λ (ss : List Step). Unwritten i p ss) (sym made) (unwritten-gates w i p os (f p l))

@@ -1,13 +1,13 @@
--- "Host 0's preparation writes exactly its deals, in gate order, and gives back its masks of all registers; later words
--- of its buffer keep their content." What the buffer holds, in every run. Assumes nothing.
+-- "Host 0's preparation writes exactly its deals, in gate order, and gives back its masks of all registers; later
+-- words of its buffer keep their content." What the buffer holds, in every run. Assumes nothing.
 use mathlib.Core.Path.{_≡_}
 use mathlib.Core.List.{List, [], _∷_, _++_}
 use Prim.Native.Nat.{ℕ}
 use lib.ListN.{length, drop}
 use Rattle.gates.specs.Steps.{Step, Cursor, origin, past}
-use Rattle.gates.specs.Hosts.{Pair, Triple, of0, act, dealt}
-use Rattle.runs.specs.Runs.{Stage, Spoken, Dealer, idle, ready, Side, World, world, Call, preparation, Begins}
-use Rattle.runs.specs.Runs.{Run, buffer-of}
+use Rattle.gates.specs.Hosts.{Pair, Triple, of0, dealt, act}
+use Rattle.runs.specs.Runs.{Stage, Spoken, idle, ready, Side, World, world, Call, preparation, Begins, Run}
+use Rattle.runs.specs.Runs.{buffer-of}
 use Rattle.runs.specs.Orders.{first}
 use Rattle.runs.specs.Strict.{Calls}
 
@@ -38,6 +38,6 @@ pub record Buffers : Type 0 where
       (h1 h2 : List Spoken)
       → Begins S v → Calls S E v [] [] cs (world (idle r) buf one two) h1 h2 → buf ≡ buffer-of v
   pub after : (S : Stage) (E : List ℕ) (v : World) (cs : List Call) (r : Pair) (t : List Pair) (buf : List ℕ)
-      (one two : Side)
-      (h1 h2 : List Spoken)
-      → Begins S v → Calls S E v [] [] cs (world (ready r t) buf one two) h1 h2 → buf ≡ with-deals S (buffer-of v)
+      (one two : Side) (h1 h2 : List Spoken)
+      → Begins S v → Calls S E v [] [] cs (world (ready r t) buf one two) h1 h2
+      → buf ≡ with-deals S (buffer-of v)

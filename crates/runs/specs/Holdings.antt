@@ -1,33 +1,21 @@
 -- The very words that the hosts hold, wherever they stand in a run: of a slot that the order at hand does not write,
 -- those of the joint walk just before that order; and the masks that the preparation returned. Assumes nothing.
 use mathlib.Core.Path.{_≡_}
-use mathlib.Core.Bool.{false}
 use mathlib.Core.List.{List}
 use Prim.Native.Nat.{ℕ, _<_}
-use lib.Dec.{eqb}
-use lib.ListN.{length}
-use Rattle.shares.specs.Gates.{Share}
 use Rattle.gates.specs.Steps.{at}
 use Rattle.gates.specs.Hosts.{Pair}
-use Rattle.jobs.specs.Job.{orders}
 use Rattle.calls.specs.Scripts.{orders-in, Orderly}
 use Rattle.calls.specs.Calls.{State}
 use Rattle.runs.specs.Runs.{Stage, Setting, staged, Spoken, Dealer, ready, Side, going, world, Call, Run}
-use Rattle.runs.specs.Orders.{slot, before-order, Unwritten, order-of}
-
--- the share in slot i just before order q
-abbrev pub share-before : Stage → (q i : ℕ) → Share ℕ
-share-before S q i = slot (before-order S q) i
-
--- register i is not the target of order q of a job, if there is such an order
-abbrev pub Spared : Setting → (q i : ℕ) → Type 0
-Spared S q i = q < length (orders (S .job)) → eqb i (order-of S q .target) ≡ false
+use Rattle.runs.specs.Orders.{share-before, Unwritten, Untargeted}
 
 pub record Holdings : Type 0 where
   -- "the register keeps that until an order writes it", "host 1 holds m, L1; host 2 holds m, L2": the state that the
   -- last call returned, at whatever place
-  pub host1 : (S : Stage) (cs : List Call) (z : Dealer) (buf : List ℕ) (s : State) (t : List Pair) (said : List Spoken)
-      (two : Side) → Run S cs (world z buf (going s t said) two) → (i : ℕ) → Unwritten i (s .order) (S .script .steps)
+  pub host1 : (S : Stage) (cs : List Call) (z : Dealer) (buf : List ℕ) (s : State) (t : List Pair)
+      (said : List Spoken) (two : Side) → Run S cs (world z buf (going s t said) two) → (i : ℕ)
+      → Unwritten i (s .order) (S .script .steps)
       → (at (s .m) i ≡ share-before S (s .order) i .m) × (at (s .mask) i ≡ share-before S (s .order) i .l1)
   pub host2 : (S : Stage) (cs : List Call) (z : Dealer) (buf : List ℕ) (one : Side) (s : State) (t : List Pair)
       (said : List Spoken) → Run S cs (world z buf one (going s t said)) → (i : ℕ)
@@ -39,13 +27,13 @@ pub record Holdings : Type 0 where
       → (at (r .0) i ≡ share-before S (orders-in (S .script)) i .l1)
       × (at (r .1) i ≡ share-before S (orders-in (S .script)) i .l2)
   -- a job: a register that is not the target of the order at hand
-  pub job-host1 : (S : Setting) (cs : List Call) (z : Dealer) (buf : List ℕ) (s : State) (t : List Pair)
-      (said : List Spoken) (two : Side) → Run (staged 32 S) cs (world z buf (going s t said) two) → (i : ℕ) → i < 16
-      → Spared S (s .order) i
-      → (at (s .m) i ≡ share-before (staged 32 S) (s .order) i .m)
-      × (at (s .mask) i ≡ share-before (staged 32 S) (s .order) i .l1)
-  pub job-host2 : (S : Setting) (cs : List Call) (z : Dealer) (buf : List ℕ) (one : Side) (s : State) (t : List Pair)
-      (said : List Spoken) → Run (staged 32 S) cs (world z buf one (going s t said)) → (i : ℕ) → i < 16
-      → Spared S (s .order) i
-      → (at (s .m) i ≡ share-before (staged 32 S) (s .order) i .m)
-      × (at (s .mask) i ≡ share-before (staged 32 S) (s .order) i .l2)
+  pub job-host1 : (w : ℕ) (S : Setting) (cs : List Call) (z : Dealer) (buf : List ℕ) (s : State) (t : List Pair)
+      (said : List Spoken) (two : Side) → Run (staged w S) cs (world z buf (going s t said) two)
+      → (i : ℕ) → i < 16 → Untargeted S (s .order) i
+      → (at (s .m) i ≡ share-before (staged w S) (s .order) i .m)
+      × (at (s .mask) i ≡ share-before (staged w S) (s .order) i .l1)
+  pub job-host2 : (w : ℕ) (S : Setting) (cs : List Call) (z : Dealer) (buf : List ℕ) (one : Side) (s : State)
+      (t : List Pair) (said : List Spoken) → Run (staged w S) cs (world z buf one (going s t said))
+      → (i : ℕ) → i < 16 → Untargeted S (s .order) i
+      → (at (s .m) i ≡ share-before (staged w S) (s .order) i .m)
+      × (at (s .mask) i ≡ share-before (staged w S) (s .order) i .l2)

@@ -1,20 +1,20 @@
--- "every spoken word is the one defined there", in order and each once: what a host has spoken is the front of what is
--- defined for it, and at the end all of it. Assumes nothing.
+-- "every spoken word is the one defined there", in order and each once: what a host has spoken is the front of what
+-- is defined for it, and at the end all of it. Assumes nothing.
 use mathlib.Core.Path.{_≡_}
 use mathlib.Core.Logic.{_⊎_}
 use mathlib.Core.List.{List, [], _∷_, reverse}
 use Prim.Native.Nat.{ℕ, _<_}
 use lib.ListN.{length, take}
 use Rattle.gates.specs.Steps.{Exchange, Step, local, deal, exchange, end, Cursor, origin, past}
-use Rattle.gates.specs.Hosts.{Pair, Triple, act, joint1, joint2}
+use Rattle.gates.specs.Hosts.{Pair, Triple, joint1, joint2, act}
 use Rattle.calls.specs.Scripts.{orders-in, Orderly}
 use Rattle.calls.specs.Calls.{State}
 use Rattle.runs.specs.Runs.{Stage, Spoken, Among, Dealer, Side, going, world, Call, Run}
 use Rattle.runs.specs.Orders.{first}
 
 -- the words that a host speaks on the joint walk, each at its place, and 0 at the end
-unfoldable pub defined-words : (A B : List ℕ) → (Exchange → Cursor → Triple → ℕ) → List Step → Cursor → Triple
-    → List Spoken
+unfoldable pub defined-words : (A B : List ℕ) → (Exchange → Cursor → Triple → ℕ)
+    → List Step → Cursor → Triple → List Spoken
 defined-words A B say [] c j = (c .order, c .turn, 0) ∷ []
 defined-words A B say (local d m l ∷ ss) c j =
     defined-words A B say ss (past (local d m l) c) (act A B (local d m l) c j)
@@ -40,8 +40,8 @@ Rising (p ∷ l) = ((r : Spoken) → Among r l → Before p r) × Rising l
 
 -- the last word spoken stands in front, so the list is read backwards
 pub record InOrder : Type 0 where
-  pub host1 : (S : Stage) (cs : List Call) (z : Dealer) (buf : List ℕ) (s : State) (t : List Pair) (said : List Spoken)
-      (two : Side)
+  pub host1 : (S : Stage) (cs : List Call) (z : Dealer) (buf : List ℕ) (s : State) (t : List Pair)
+      (said : List Spoken) (two : Side)
       → Run S cs (world z buf (going s t said) two) → reverse said ≡ take (length said) (words-of-1 S)
   pub host2 : (S : Stage) (cs : List Call) (z : Dealer) (buf : List ℕ) (one : Side) (s : State) (t : List Pair)
       (said : List Spoken)
@@ -50,11 +50,10 @@ pub record InOrder : Type 0 where
   pub each-once-2 : (S : Stage) → Rising (words-of-2 S)
   -- a host past every order has spoken them all
   pub all-said-1 : (S : Stage) → Orderly (S .script)
-      → (cs : List Call) (z : Dealer) (buf : List ℕ) (s : State) (t : List Pair)
-      (said : List Spoken) (two : Side) → Run S cs (world z buf (going s t said) two) → s .order ≡ orders-in (S .script)
-      → reverse said ≡ words-of-1 S
+      → (cs : List Call) (z : Dealer) (buf : List ℕ) (s : State) (t : List Pair) (said : List Spoken) (two : Side)
+      → Run S cs (world z buf (going s t said) two)
+      → s .order ≡ orders-in (S .script) → reverse said ≡ words-of-1 S
   pub all-said-2 : (S : Stage) → Orderly (S .script)
-      → (cs : List Call) (z : Dealer) (buf : List ℕ) (one : Side) (s : State)
-      (t : List Pair) (said : List Spoken) → Run S cs (world z buf one (going s t said))
-      → s .order ≡ orders-in (S .script)
-      → reverse said ≡ words-of-2 S
+      → (cs : List Call) (z : Dealer) (buf : List ℕ) (one : Side) (s : State) (t : List Pair) (said : List Spoken)
+      → Run S cs (world z buf one (going s t said))
+      → s .order ≡ orders-in (S .script) → reverse said ≡ words-of-2 S

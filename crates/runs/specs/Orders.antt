@@ -6,10 +6,10 @@ use mathlib.Core.List.{List, [], _∷_}
 use Prim.Native.Nat.{ℕ, zero, suc, _+_, _^_, _<_}
 use lib.Dec.{eqb}
 use lib.IntN.{ℤ}
-use lib.ListN.{getD}
+use lib.ListN.{getD, length}
 use Rattle.words.specs.Words.{add, numbers}
 use Rattle.words.specs.Signed.{signed}
-use Rattle.shares.specs.Gates.{Share, value, mask}
+use Rattle.shares.specs.Gates.{Share, mask, value}
 use Rattle.tables.specs.Table.{rows}
 use Rattle.gates.specs.Steps.{at, Step, local, deal, exchange, end, origin}
 use Rattle.gates.specs.Walk.{whole}
@@ -48,16 +48,22 @@ unfoldable pub before-order : Stage → ℕ → Triple
 before-order S zero = first S
 before-order S (suc q) = after-order S q
 
--- the share in slot i
-abbrev pub slot : Triple → ℕ → Share ℕ
-slot = share
+-- the share in slot i just before order q, and as order q leaves it
+abbrev pub share-before : Stage → (q i : ℕ) → Share ℕ
+share-before S q i = share (before-order S q) i
 
--- what slot i opens just before order q, and its mask there, "L = L1 + L2"
+abbrev pub share-after : Stage → (q i : ℕ) → Share ℕ
+share-after S q i = share (after-order S q) i
+
+-- what slot i opens just before order q, and its mask there, "L = L1 + L2"; and what it opens as order q leaves it
 abbrev pub value-before : (w : ℕ) → Stage → (q i : ℕ) → ℕ
-value-before w S q i = value (numbers w) (slot (before-order S q) i)
+value-before w S q i = value (numbers w) (share-before S q i)
 
 abbrev pub mask-before : (w : ℕ) → Stage → (q i : ℕ) → ℕ
-mask-before w S q i = mask (numbers w) (slot (before-order S q) i)
+mask-before w S q i = mask (numbers w) (share-before S q i)
+
+abbrev pub value-after : (w : ℕ) → Stage → (q i : ℕ) → ℕ
+value-after w S q i = value (numbers w) (share-after S q i)
 
 -- no step of order q has slot i as its target
 abbrev pub Unwritten : (i q : ℕ) → List Step → Type 0
@@ -80,6 +86,10 @@ mask-behind w A B k gs = add w (at A (k .a + program-cost w gs .a)) (at B (k .b 
 -- order q
 unfoldable pub order-of : Setting → ℕ → Order
 order-of S q = order (orders (S .job)) q
+
+-- register i is not the target of order q, if there is such an order
+abbrev pub Untargeted : Setting → (q i : ℕ) → Type 0
+Untargeted S q i = q < length (orders (S .job)) → eqb i (order-of S q .target) ≡ false
 
 -- the counts of the first q of a list of programs
 unfoldable pub first-counts : (w q : ℕ) → List (List Gate) → Cost

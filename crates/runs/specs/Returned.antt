@@ -1,29 +1,20 @@
--- What the three hosts hold after a run: the masks that the preparation returned, and the registers in the states that
--- starting and hearing returned. What opening gives on them. Assumes nothing.
+-- What the three hosts hold after a run: the masks that the preparation returned, and the registers in the states
+-- that starting and hearing returned. What opening gives on them. Assumes nothing.
 use mathlib.Core.Path.{_≡_}
-use mathlib.Core.Bool.{false}
 use mathlib.Core.List.{List}
 use Prim.Native.Nat.{ℕ, suc, _≤_, _<_}
-use lib.Dec.{eqb}
 use lib.IntN.{ℤ}
 use lib.ListN.{length}
 use Rattle.gates.specs.Hosts.{Pair}
 use Rattle.jobs.specs.Job.{orders}
 use Rattle.calls.specs.Scripts.{orders-in, Orderly}
-use Rattle.runs.specs.Runs.{Stage, Setting, staged, Dealer, idle, ready, Side, waiting, going, World, world}
-use Rattle.runs.specs.Runs.{registers, Call, Run, Finished, opened-slot, opened-after}
-use Rattle.runs.specs.Orders.{Words, Unwritten, order-of}
-use Rattle.runs.specs.Orders.{opens, Finishes}
-
--- the masks that host 0 holds
-abbrev pub dealer-holds : Dealer → Pair
-dealer-holds (idle r) = r
-dealer-holds (ready r t) = r
+use Rattle.runs.specs.Runs.{Stage, Setting, staged, Side, dealer-holds, side-state, World, world, registers}
+use Rattle.runs.specs.Runs.{Call, Run, Finished, opened-slot, opened-after}
+use Rattle.runs.specs.Orders.{Words, Unwritten, order-of, Untargeted, Finishes, opens}
 
 -- the first n slots, for a job sixteen registers, in the state that host 1 or 2 holds
 abbrev pub side-holds : (n : ℕ) → Side → Pair
-side-holds n (waiting s) = registers n s
-side-holds n (going s t said) = registers n s
+side-holds n x = registers n (side-state x)
 
 -- what opening gives on slot i of the three hosts as they stand, each with n slots: of the masks and states that the
 -- calls returned, and of nothing else
@@ -40,51 +31,55 @@ UnwrittenFrom S q i = (p : ℕ) → q ≤ p → Unwritten i p (S .script .steps)
 
 -- what slot i opens after the whole script: what the last order that writes it opened, or where none does what was
 -- given
-pub data Holds (S : Stage) (v : World) (i : ℕ) : Type 0 where
-  by-order : (q : ℕ) → q < orders-in (S .script) → (Unwritten i q (S .script .steps) → ⊥) → UnwrittenFrom S (suc q) i
-      → opened-now 32 (S .script .slots) v i ≡ opened-after 32 v q i → Holds S v i
-  by-given : UnwrittenFrom S 0 i → opened-now 32 (S .script .slots) v i ≡ opened-given 32 S i → Holds S v i
+pub data Holds (w : ℕ) (S : Stage) (v : World) (i : ℕ) : Type 0 where
+  by-order : (q : ℕ) → q < orders-in (S .script) → (Unwritten i q (S .script .steps) → ⊥)
+      → UnwrittenFrom S (suc q) i
+      → opened-now w (S .script .slots) v i ≡ opened-after w v q i → Holds w S v i
+  by-given : UnwrittenFrom S 0 i → opened-now w (S .script .slots) v i ≡ opened-given w S i → Holds w S v i
 
 -- ---- of a job
 
 -- no order of the job from order q on writes register i
 abbrev pub UntargetedFrom : Setting → (q i : ℕ) → Type 0
-UntargetedFrom S q i = (p : ℕ) → q ≤ p → p < length (orders (S .job)) → eqb i (order-of S p .target) ≡ false
+UntargetedFrom S q i = (p : ℕ) → q ≤ p → Untargeted S p i
 
 -- what register i opens after the whole job: what the last order that writes it opened, or where none does what was
 -- given
-pub data JobHolds (S : Setting) (v : World) (i : ℕ) : Type 0 where
+pub data JobHolds (w : ℕ) (S : Setting) (v : World) (i : ℕ) : Type 0 where
   of-order : (q : ℕ) → q < length (orders (S .job)) → order-of S q .target ≡ i → UntargetedFrom S (suc q) i
-      → opened-now 32 16 v i ≡ opens 32 S v q → JobHolds S v i
-  of-given : UntargetedFrom S 0 i → opened-now 32 16 v i ≡ opened-given 32 (staged 32 S) i → JobHolds S v i
+      → opened-now w 16 v i ≡ opens w S v q → JobHolds w S v i
+  of-given : UntargetedFrom S 0 i → opened-now w 16 v i ≡ opened-given w (staged w S) i → JobHolds w S v i
 
-pub record Returned : Type 0 where
+-- at every width of w bits
+pub record Returned (w : ℕ) : Type 0 where
   -- "What it opens is what opening gives on the three hosts' shares ..; the register keeps that until an order writes
   -- it": of any script, a slot that no order behind order q writes
-  pub written : (S : Stage) (q : ℕ) (v : World) → Finishes 32 S q v → (i : ℕ) → i < S .script .slots
+  pub written : (S : Stage) (q : ℕ) (v : World) → Finishes w S q v → (i : ℕ) → i < S .script .slots
       → UnwrittenFrom S (suc q) i
-      → opened-now 32 (S .script .slots) v i ≡ opened-after 32 v q i
+      → opened-now w (S .script .slots) v i ≡ opened-after w v q i
   -- a slot that no step writes opens, after every run, what it was given
   pub untouched : (S : Stage) (cs : List Call) (v : World) → Run S cs v → (i : ℕ) → i < S .script .slots
       → UnwrittenFrom S 0 i
-      → opened-now 32 (S .script .slots) v i ≡ opened-given 32 S i
+      → opened-now w (S .script .slots) v i ≡ opened-given w S i
   -- after the last order: all slots that were given
-  pub all-done : (S : Stage) → Orderly (S .script) → (q : ℕ) (v : World) → Finishes 32 S q v
+  pub all-done : (S : Stage) → Orderly (S .script) → (q : ℕ) (v : World) → Finishes w S q v
       → suc q ≡ orders-in (S .script)
-      → (i : ℕ) → i < S .script .slots → opened-now 32 (S .script .slots) v i ≡ opened-after 32 v q i
+      → (i : ℕ) → i < S .script .slots → opened-now w (S .script .slots) v i ≡ opened-after w v q i
   -- a run that has finished every order: each slot that was given, by its last writer
-  pub every-slot : (S : Stage) → Orderly (S .script) → (cs : List Call) (v : World) → Words 32 S → Run S cs v
-      → ((q : ℕ) → q < orders-in (S .script) → Finished v q) → (i : ℕ) → i < S .script .slots → Holds S v i
+  pub every-slot : (S : Stage) → Orderly (S .script) → (cs : List Call) (v : World) → Words w S → Run S cs v
+      → ((q : ℕ) → q < orders-in (S .script) → Finished v q) → (i : ℕ) → i < S .script .slots
+      → Holds w S v i
   -- ---- of a job
   -- a register that no order behind order q has as its target now opens what order q opened in it
-  pub job-written : (S : Setting) (q : ℕ) (v : World) → Finishes 32 (staged 32 S) q v → (i : ℕ) → i < 16
-      → UntargetedFrom S (suc q) i → opened-now 32 16 v i ≡ opened-after 32 v q i
+  pub job-written : (S : Setting) (q : ℕ) (v : World) → Finishes w (staged w S) q v → (i : ℕ) → i < 16
+      → UntargetedFrom S (suc q) i → opened-now w 16 v i ≡ opened-after w v q i
   -- and one that no order has as its target opens, after every run, what was given
-  pub job-untouched : (S : Setting) (cs : List Call) (v : World) → Run (staged 32 S) cs v → (i : ℕ) → i < 16
-      → UntargetedFrom S 0 i → opened-now 32 16 v i ≡ opened-given 32 (staged 32 S) i
+  pub job-untouched : (S : Setting) (cs : List Call) (v : World) → Run (staged w S) cs v → (i : ℕ) → i < 16
+      → UntargetedFrom S 0 i → opened-now w 16 v i ≡ opened-given w (staged w S) i
   -- an order that is the last to write its target: its target now opens what the order opened
-  pub last-writer : (S : Setting) (q : ℕ) (v : World) → Finishes 32 (staged 32 S) q v
-      → UntargetedFrom S (suc q) (order-of S q .target) → opened-now 32 16 v (order-of S q .target) ≡ opens 32 S v q
+  pub last-writer : (S : Setting) (q : ℕ) (v : World) → Finishes w (staged w S) q v
+      → UntargetedFrom S (suc q) (order-of S q .target)
+      → opened-now w 16 v (order-of S q .target) ≡ opens w S v q
   -- a run that has finished every order: each of the sixteen registers, by its last writer
-  pub every-register : (S : Setting) (cs : List Call) (v : World) → Words 32 (staged 32 S) → Run (staged 32 S) cs v
-      → ((q : ℕ) → q < length (orders (S .job)) → Finished v q) → (i : ℕ) → i < 16 → JobHolds S v i
+  pub every-register : (S : Setting) (cs : List Call) (v : World) → Words w (staged w S) → Run (staged w S) cs v
+      → ((q : ℕ) → q < length (orders (S .job)) → Finished v q) → (i : ℕ) → i < 16 → JobHolds w S v i

@@ -10,7 +10,7 @@ use Rattle.gates.specs.Steps.{Lane, at}
 use Rattle.gates.specs.Hosts.{Pair}
 use Rattle.calls.specs.Scripts.{Script, job-script, script-cost}
 use Rattle.calls.specs.Lent.{Lent, worker-of}
-use Rattle.calls.specs.Calls.{State, Prepared, start-walk, start, found-of, hear-walk, hear, prepare-walk, prepare}
+use Rattle.calls.specs.Calls.{State, start-walk, start, hear-walk, found-of, hear, Prepared, prepare-walk, prepare}
 use lib.IntN.{ℤ}
 
 -- what every call of a run is lent, the script and the lists; and the registers that the hosts are given, which open:
@@ -72,12 +72,12 @@ staged w S =
 
 -- ---- what the hosts hold
 
--- a word spoken, with its place
+-- a word spoken, with its place; and the word v with the place of a state
 abbrev pub Spoken : Type 0
 Spoken = ℕ × ℕ × ℕ
 
-abbrev pub utter : State → ℕ → Spoken
-utter s w = (s .order, s .turn, w)
+abbrev pub placed-word : State → (v : ℕ) → Spoken
+placed-word s v = (s .order, s .turn, v)
 
 abbrev pub Among : {T : Type 0} → T → List T → Type 0
 Among p [] = ⊥
@@ -93,6 +93,25 @@ pub data Dealer : Type 0 where
 pub data Side : Type 0 where
   waiting : State → Side
   going : State → List Pair → List Spoken → Side
+
+-- the masks that host 0 holds; and host 0 with other masks, its trail as it was
+abbrev pub dealer-holds : Dealer → Pair
+dealer-holds (idle r) = r
+dealer-holds (ready r t) = r
+
+abbrev pub with-masks : Dealer → Pair → Dealer
+with-masks (idle r) r′ = idle r′
+with-masks (ready r t) r′ = ready r′ t
+
+-- the state that host 1 or 2 holds; and the host with another, its trail and the words that it has spoken as they
+-- were
+abbrev pub side-state : Side → State
+side-state (waiting s) = s
+side-state (going s t said) = s
+
+abbrev pub with-state : Side → State → Side
+with-state (waiting s) s′ = waiting s′
+with-state (going s t said) s′ = going s′ t said
 
 -- the three hosts, and the buffer that the deals are written to
 pub data World : Type 0 where
@@ -112,34 +131,28 @@ with-registers n s r =
 pub data Turned (n : ℕ) : State → State → Type 0 where
   at-start : {s : State} (loan : Lent) → start loan (registers n s) .number ≢ 0
       → Turned n s (with-registers n s (registers n (start loan (registers n s) .state)))
-  at-hearing : {s : State} (loan : Lent) (v : ℕ) → hear loan s v .number ≢ 0 → Turned n s (hear loan s v .state)
+  at-hearing : {s : State} (loan : Lent) (v : ℕ) → hear loan s v .number ≢ 0
+      → Turned n s (hear loan s v .state)
 
+-- whatever the host holds: a refused call of host 0 leaves its trail, one of host 1 or 2 its trail and the words that
+-- it has spoken
 pub data Refuses (n : ℕ) : World → World → Type 0 where
   -- a preparation, lent the run's buffer
-  dealer : {r : Pair} {buf : List ℕ} {one two : Side} (σ : Script) (A B : List ℕ) → prepare σ A B buf r .number ≢ 0
-      → Refuses n (world (idle r) buf one two)
-      (world (idle (prepare σ A B buf r .masks)) (prepare σ A B buf r .buffer) one two)
-  dealer-later : {r : Pair} {t : List Pair} {buf : List ℕ} {one two : Side} (σ : Script) (A B : List ℕ)
-      → prepare σ A B buf r .number ≢ 0
-      → Refuses n (world (ready r t) buf one two)
-      (world (ready (prepare σ A B buf r .masks) t) (prepare σ A B buf r .buffer) one two)
+  refuses0 : {z : Dealer} {buf : List ℕ} {one two : Side} (σ : Script) (A B : List ℕ)
+      → prepare σ A B buf (dealer-holds z) .number ≢ 0
+      → Refuses n (world z buf one two)
+      (world (with-masks z (prepare σ A B buf (dealer-holds z) .masks)) (prepare σ A B buf (dealer-holds z) .buffer)
+      one two)
   -- or another buffer
-  dealer-elsewhere : {r : Pair} {buf : List ℕ} {one two : Side} (σ : Script) (A B other : List ℕ)
-      → prepare σ A B other r .number ≢ 0
-      → Refuses n (world (idle r) buf one two) (world (idle (prepare σ A B other r .masks)) buf one two)
-  dealer-later-elsewhere : {r : Pair} {t : List Pair} {buf : List ℕ} {one two : Side} (σ : Script) (A B other : List ℕ)
-      → prepare σ A B other r .number ≢ 0
-      → Refuses n (world (ready r t) buf one two) (world (ready (prepare σ A B other r .masks) t) buf one two)
-  one-waiting : {z : Dealer} {buf : List ℕ} {s s′ : State} {two : Side} → Turned n s s′
-      → Refuses n (world z buf (waiting s) two) (world z buf (waiting s′) two)
-  two-waiting : {z : Dealer} {buf : List ℕ} {s s′ : State} {one : Side} → Turned n s s′
-      → Refuses n (world z buf one (waiting s)) (world z buf one (waiting s′))
-  one-going : {z : Dealer} {buf : List ℕ} {s s′ : State} {t : List Pair} {said : List Spoken} {two : Side}
-      → Turned n s s′
-      → Refuses n (world z buf (going s t said) two) (world z buf (going s′ t said) two)
-  two-going : {z : Dealer} {buf : List ℕ} {s s′ : State} {t : List Pair} {said : List Spoken} {one : Side}
-      → Turned n s s′
-      → Refuses n (world z buf one (going s t said)) (world z buf one (going s′ t said))
+  refuses0-elsewhere : {z : Dealer} {buf : List ℕ} {one two : Side} (σ : Script) (A B other : List ℕ)
+      → prepare σ A B other (dealer-holds z) .number ≢ 0
+      → Refuses n (world z buf one two)
+      (world (with-masks z (prepare σ A B other (dealer-holds z) .masks)) buf one two)
+  -- a starting or hearing
+  refuses1 : {z : Dealer} {buf : List ℕ} {one two : Side} {s : State} → Turned n (side-state one) s
+      → Refuses n (world z buf one two) (world z buf (with-state one s) two)
+  refuses2 : {z : Dealer} {buf : List ℕ} {one two : Side} {s : State} → Turned n (side-state two) s
+      → Refuses n (world z buf one two) (world z buf one (with-state two s))
 
 -- ---- calls that complete, of the run's own script
 
@@ -170,19 +183,20 @@ module _ (S : Stage) where
   abbrev pub started : Lent → State → Side
   started loan s =
       going (start loan (held s) .state) (start-walk loan (held s) .trail)
-      (utter (start loan (held s) .state) (start loan (held s) .word) ∷ [])
+      (placed-word (start loan (held s) .state) (start loan (held s) .word) ∷ [])
 
   abbrev pub stepped : Lent → State → (v : ℕ) → List Pair → List Spoken → Side
   stepped loan s v t said =
       going (hear loan s v .state) (t ++ hear-walk (worker-of loan) s v (found-of loan s) .trail)
-      (utter (hear loan s v .state) (hear loan s v .word) ∷ said)
+      (placed-word (hear loan s v .state) (hear loan s v .word) ∷ said)
 
   pub data Completes : Call → World → World → Type 0 where
     prepares : {r : Pair} {buf : List ℕ} {one two : Side} → preparation buf r .number ≡ 0
         → Completes preparing (world (idle r) buf one two)
         (world (ready (preparation buf r .masks) (prepare-walk (S .script) (S .A) (S .B) r .trail))
         (preparation buf r .buffer) one two)
-    starts1 : {z : Dealer} {buf : List ℕ} {s : State} {two : Side} (D : List ℕ) → start (lent1 D) (held s) .number ≡ 0
+    starts1 : {z : Dealer} {buf : List ℕ} {s : State} {two : Side} (D : List ℕ)
+        → start (lent1 D) (held s) .number ≡ 0
         → Completes starting1 (world z buf (waiting s) two) (world z buf (started (lent1 D) s) two)
     -- "starting host 2 after the preparation"
     starts2 : {r : Pair} {t₀ : List Pair} {buf : List ℕ} {s : State} {one : Side} (D : List ℕ) → Dealt buf D
@@ -192,11 +206,11 @@ module _ (S : Stage) where
     -- "the word the other host spoke at that same place"
     hears1 : {z : Dealer} {buf : List ℕ} {s s2 : State} {t t2 : List Pair} {said said2 : List Spoken} (D : List ℕ)
         (v : ℕ)
-        → Among (s .order, s .turn, v) said2 → hear (lent1 D) s v .number ≡ 0
+        → Among (placed-word s v) said2 → hear (lent1 D) s v .number ≡ 0
         → Completes (hearing1 v) (world z buf (going s t said) (going s2 t2 said2))
         (world z buf (stepped (lent1 D) s v t said) (going s2 t2 said2))
     hears2 : {z : Dealer} {buf : List ℕ} {s s1 : State} {t t1 : List Pair} {said said1 : List Spoken} (D : List ℕ)
-        → Dealt buf D → (v : ℕ) → Among (s .order, s .turn, v) said1 → hear (lent2 D) s v .number ≡ 0
+        → Dealt buf D → (v : ℕ) → Among (placed-word s v) said1 → hear (lent2 D) s v .number ≡ 0
         → Completes (hearing2 v) (world z buf (going s1 t1 said1) (going s t said))
         (world z buf (going s1 t1 said1) (stepped (lent2 D) s v t said))
 
@@ -209,8 +223,10 @@ module _ (S : Stage) where
   -- a run and its calls, the last in front
   pub data Run : List Call → World → Type 0 where
     begin : {v : World} → Begins v → Run [] v
-    complete : {cs : List Call} {c : Call} {v v′ : World} → Run cs v → Completes c v v′ → Run (c ∷ cs) v′
-    refuse : {cs : List Call} {v v′ : World} → Run cs v → Refuses (S .script .slots) v v′ → Run (turned-down ∷ cs) v′
+    complete : {cs : List Call} {c : Call} {v v′ : World} → Run cs v → Completes c v v′
+        → Run (c ∷ cs) v′
+    refuse : {cs : List Call} {v v′ : World} → Run cs v → Refuses (S .script .slots) v v′
+        → Run (turned-down ∷ cs) v′
 
 -- ---- what a world shows
 
@@ -260,8 +276,8 @@ six p0 p1 p2 i =
 abbrev pub opened-slot : (w : ℕ) (p0 p1 p2 : Pair) → ℕ → ℕ × ℤ
 opened-slot w p0 p1 p2 i = reconstruction w (six p0 p1 p2 i)
 
--- "What it opens is what opening gives on the three hosts' shares of its target as the order leaves them": slot i after
--- order q
+-- "What it opens is what opening gives on the three hosts' shares of its target as the order leaves them": slot i
+-- after order q
 unfoldable pub opened-after : (w : ℕ) → World → (q i : ℕ) → ℕ × ℤ
 opened-after w v q i =
     opened-slot w (getD (trail0 v) q ([], [])) (getD (trail1 v) q ([], [])) (getD (trail2 v) q ([], [])) i

@@ -12,10 +12,10 @@ use Rattle.gates.specs.declared.Gate.{Gate}
 use Rattle.gates.specs.Steps.{Step, Cursor, origin, past}
 use Rattle.gates.specs.Meaning.{meaning, order-steps, job-steps}
 use Rattle.gates.specs.Walk.{Conf, whole}
-use Rattle.gates.specs.Hosts.{Pair, Triple, of1, of2, act}
+use Rattle.gates.specs.Hosts.{Pair, Triple, of1, of2, act, share}
 use Rattle.calls.specs.Scripts.{script-cost}
 use Rattle.runs.specs.Runs.{Stage, ready, opened-slot}
-use Rattle.runs.specs.Orders.{slot, after-order, trail, first}
+use Rattle.runs.specs.Orders.{after-order, trail, first}
 use Rattle.runs.proofs.Chain.{mark-gate}
 use Rattle.demands.proofs.Demand2.{demand2}
 use Rattle.runs.proofs.Kept.{DealerOk, dealt-all, prepares-ok}
@@ -63,11 +63,11 @@ module _ (S : Stage) (buf : List ℕ) (done : P S buf .number ≡ 0) where
   -- opening never meets 10
   pub register-opens : (w i : ℕ) → i < S .script .slots
       → opened-slot w (over .masks) (over .one .state .m, over .one .state .mask) (over .two .state .m, over .two .state .mask) i
-      ≡ (0, signed w (value (numbers w) (slot end-state i)))
+      ≡ (0, signed w (value (numbers w) (share end-state i)))
   unfolding end-answer
   register-opens w i h =
       rw (over-is, masks-are, getD-take (S .script .slots) (end-state .1) i 0 h, getD-take (S .script .slots) (end-state .2) i 0 h)
-      (share-opens w (slot end-state i))
+      (share-opens w (share end-state i))
 
   pub words-spoken : (over .one .spoken ≡ script-cost (S .script) .b) × (over .two .spoken ≡ script-cost (S .script) .b)
   unfolding end-answer
