@@ -1,7 +1,6 @@
 -- What a finished order opens after a run: its kind's value; of a curve, the curve's value of its reading. Assumes nothing.
 use mathlib.Core.Path.{_≡_, ap, _∙_}
-use Prim.Native.Nat.{ℕ, suc, _^_, _≤_, _<_}
-use native.Mathlib.Omega.{arith}
+use Prim.Native.Nat.{ℕ, suc, _^_, _<_}
 use lib.Dec.{T, lit<}
 use lib.IntN.{ℤ, pos, _+ℤ_}
 use lib.ListN.{getD}
@@ -11,7 +10,7 @@ use Rattle.words.proofs.Words.{add-lt, sub-lt}
 use Rattle.tables.specs.Table.{rows, keeps-rules}
 use Rattle.programs.specs.Opens.{curve-value, values, order-value}
 use Rattle.programs.proofs.Calibration.{Promised, exact-curve, one-bit-curve}
-use Rattle.jobs.proofs.Accepted.{Good, accepted-orders, curve-ruled}
+use Rattle.jobs.proofs.Accepted.{curve-ruled}
 use Rattle.runs.specs.Runs.{Setting, staged, World}
 use Rattle.runs.specs.Orders.{order-of, refresh-mask, source-value, source-mask, second-value, reading, opens, Finishes}
 use Rattle.demands.specs.Demand3.{Y-of}

@@ -1,24 +1,19 @@
 -- Demand 2, proved for every run. Assumes nothing.
-use mathlib.Core.Path.{_≡_, refl, sym, ap, _∙_, subst}
-use mathlib.Core.Bool.{false}
+use mathlib.Core.Path.{_≡_, refl, sym, ap, _∙_}
 use mathlib.Core.List.{List}
-use Prim.Native.Nat.{ℕ, zero, suc, _*_, _<_}
+use Prim.Native.Nat.{ℕ, zero, suc, _*_}
 use native.Mathlib.Omega.{arith}
-use lib.Dec.{eqb}
-use lib.ListN.{length}
-use Rattle.tables.specs.Table.{rows}
 use Rattle.gates.specs.Steps.{Exchange, Step, Cursor, origin}
 use Rattle.gates.specs.Hosts.{Pair, Triple, of1, of2, joint1, joint2, Supplied}
 use Rattle.gates.proofs.Seen.{Always}
 use Rattle.gates.proofs.Needs.{deals-length}
 use Rattle.programs.specs.Opens.{order-value}
-use Rattle.jobs.specs.Job.{Fault, orders}
+use Rattle.jobs.specs.Job.{Fault}
 use Rattle.calls.specs.Scripts.{script-cost, Closed}
 use Rattle.calls.specs.Lent.{Worker, worker1, worker2, dealer-fault}
 use Rattle.calls.specs.Calls.{State, Answer, fresh2, script-deals, prepared, prepare}
-use Rattle.calls.proofs.Scripts.{job-made}
-use Rattle.runs.specs.Runs.{Stage, Setting, staged, Spoken, Among, Dealer, ready, Side, waiting, going, world, registers, Dealt}
-use Rattle.runs.specs.Orders.{share-before, share-after, Unwritten, order-of}
+use Rattle.runs.specs.Runs.{Stage, Spoken, Among, Dealer, ready, Side, waiting, going, world, registers, Dealt}
+use Rattle.runs.specs.Orders.{order-of}
 use Rattle.runs.specs.InOrder.{words-of-1, words-of-2}
 use Rattle.demands.specs.Demand2.{Counted, Demand2}
 use Rattle.runs.proofs.Ties.{Shadow, shadow1, shadow2, Tied, Answered}
@@ -26,9 +21,7 @@ use Rattle.runs.proofs.Kept.{all, j₀, supplied, not-yet, dealt-all, wait1, go
 use Rattle.runs.proofs.Answers.{Answered1, start1-answered, hear1-answered, Answered2, start2-answered, hear2-answered}
 use Rattle.runs.proofs.Chain.{job-orders, job-orderly}
 use Rattle.runs.proofs.Spared.{slot-kept}
-use Rattle.runs.proofs.Opened.{gates, gates-is}
-use Rattle.runs.proofs.Unwritten.{unwritten-gates}
-use Rattle.runs.proofs.Written.{spares-program}
+use Rattle.runs.proofs.Opened.{order-keeps}
 use Rattle.runs.proofs.Opening.{finished-opens}
 use Rattle.runs.proofs.InJob.{in-job}
 use Rattle.demands.proofs.Curves.{of-kind}
@@ -95,14 +88,6 @@ module _ (S : Stage) where
   speaks2 (ok z one (go2 Y) a) p m =
       let f = Y .heard .only p m in rw (f .2) (among-defined (S .A) (S .B) (all S) (j₀ S) (joint2 (S .A) (S .B)) (f .0) (f .1))
 
--- no step of a job's order writes a register but its target
-register-kept : (w : ℕ) (S : Setting) (q i : ℕ) → q < length (orders (S .job)) → i < 16 → eqb i (order-of S q .target) ≡ false
-    → share-after (staged w S) q i ≡ share-before (staged w S) q i
-register-kept w S q i hq hi e =
-    slot-kept (staged w S) q i (rw (job-orders w (S .job) (S .table)) hq)
-    (subst (λ (ss : List Step). Unwritten i q ss) (sym (job-made w (S .job) (S .table)))
-    (unwritten-gates w i q (gates w S) (λ h. rw (gates-is w S q hq) (spares-program w (rows (S .table)) (order-of S q) i hi e))))
-
 pub demand2 : Demand2
 unfolding prepare order-value
 demand2 =
@@ -110,7 +95,7 @@ demand2 =
       order-opens = λ w wide S q v F. of-kind w wide S q v F (order-of S q .kind) refl;
       shares-agree = λ w S q i v F. finished-opens S w v (F .run) q i (F .finished);
       slot-kept = slot-kept;
-      register-kept = λ w S q i v F hi e. register-kept w S q i (in-job w S q v F) hi e;
+      register-kept = λ w S q i v F hi e. order-keeps w S q (in-job w S q v F) i hi e;
       host1-speaks = λ S cs z buf s t said two r. speaks1 S (kept S r);
       host2-speaks = λ S cs z buf one s t said r. speaks2 S (kept S r);
       deals-counted = λ S buf r. let f = dealer-fault (S .script) (S .A) (S .B) buf in prepared-count (f .0) f S buf r refl;

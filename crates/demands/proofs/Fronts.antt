@@ -9,7 +9,7 @@ use Rattle.words.specs.Signed.{signed}
 use Rattle.shares.specs.Gates.{value}
 use Rattle.tables.specs.Table.{rows}
 use Rattle.gates.specs.declared.Gate.{Gate}
-use Rattle.gates.specs.Steps.{Step, end, origin}
+use Rattle.gates.specs.Steps.{Step, origin}
 use Rattle.gates.specs.Meaning.{meaning, order-steps, job-steps}
 use Rattle.gates.specs.Walk.{Conf, whole}
 use Rattle.gates.specs.Hosts.{Triple, act, share}

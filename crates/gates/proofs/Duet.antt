@@ -1,16 +1,12 @@
 -- Hosts 1 and 2, walking side by side on the deals of host 0, hold the lanes of the joint walk and speak its words. Assumes nothing.
-use mathlib.Core.Path.{_≡_, refl, sym, ap, ap₂, _∙_}
+use mathlib.Core.Path.{_≡_, refl, ap, ap₂, _∙_}
 use mathlib.Core.List.{List, [], _∷_, map}
-use Prim.Native.Nat.{ℕ, zero, suc, _+_}
-use native.Mathlib.Nat.{zero-add}
-use native.Mathlib.Omega.{arith}
-use lib.ListN.{length}
-use Rattle.gates.specs.Steps.{Exchange, product, refresh, Step, local, deal, exchange, end, Cursor, past}
+use Prim.Native.Nat.{ℕ}
+use Rattle.gates.specs.Steps.{Exchange, Step, local, deal, exchange, end, Cursor, past}
 use Rattle.gates.specs.Walk.{whole}
-use Rattle.gates.specs.Hosts.{Pair, Triple, of0, of1, of2, on-m, on-mask, act0, deals, act1, word-of1, act2, word-of2, joint1, joint2}
+use Rattle.gates.specs.Hosts.{Pair, Triple, of0, act0, word-of1, word-of2, joint1, joint2}
 use Rattle.gates.specs.Hosts.{act, Supplied}
 use Rattle.gates.specs.Duet.{duet, utter, words, words1, words2, of12}
-use Rattle.gates.specs.Costs.{Cost, cost, step-cost, plus}
 use Rattle.gates.proofs.Seen.{through, Seen, Any, see-whole}
 use Rattle.gates.proofs.Lanes.{seen0, seen1, seen2, says1, says2, hears1, hears2}
 

@@ -4,7 +4,6 @@ use Prim.Native.Nat.{ℕ, suc, _+_, _-_, _*_, _/_, _%_, _^_, _≤_, _<_}
 use native.Mathlib.Nat.{mul-mod-left, mul-assoc, one-mul, mod-eq-of-lt, div-eq-of-lt, div-le-self, lt-of-lt-of-le, lt-of-le-of-lt}
 use native.Mathlib.Omega.{arith}
 use lib.Bits.{bitAnd, and-mask}
-use lib.IntN.{pos, negsuc}
 use lib.Pow.{pow-pos, pow-add, pow-mono, pow-lt}
 use Rattle.words.specs.Words.{shl, shr}
 use Rattle.words.specs.Signed.{floor, wrap, shr-signed}

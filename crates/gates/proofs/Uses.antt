@@ -1,6 +1,6 @@
 -- What is used at a step, as the code has it in hand: where the cursor stands behind the step, and that it is little. Assumes nothing.
 use mathlib.Core.Path.{_≡_, sym, ap, subst, _∙_}
-use Prim.Native.Nat.{ℕ, _+_, _≤_}
+use Prim.Native.Nat.{_+_, _≤_}
 use native.Mathlib.Omega.{arith}
 use Rattle.gates.specs.declared.Used.{Used}
 use Rattle.gates.specs.Steps.{product, refresh, Step, local, deal, exchange, end, Cursor, past}

@@ -3,8 +3,7 @@
 use mathlib.Core.List.{List, [], _∷_}
 use Prim.Native.Nat.{ℕ}
 use Rattle.gates.specs.Steps.{Exchange, Step, local, deal, exchange, end, Cursor, past}
-use Rattle.gates.specs.Hosts.{Pair, Triple, of1, of2, act1, word-of1, hear1, act2, word-of2, hear2, joint1}
-use Rattle.gates.specs.Hosts.{joint2, act}
+use Rattle.gates.specs.Hosts.{Pair, Triple, of1, of2, act1, word-of1, hear1, act2, word-of2, hear2}
 
 module _ (A B D : List ℕ) where
   unfoldable pub duet : Step → Cursor → Pair × Pair → Pair × Pair
