@@ -14,9 +14,8 @@ use Rattle.jobs.specs.Job.{Fault}
 use Rattle.calls.specs.Scripts.{Script, script-cost}
 use Rattle.calls.specs.Lent.{dealer-fault}
 use Rattle.calls.specs.Calls.{fresh, fresh2, Prepared, prepare-walk, script-deals, prepared, prepare}
-use Rattle.dealer_gate.specs.Dealings.{Dealer}
-use Rattle.dealer.specs.Preparation.{outset, deal-all, Room}
-use Rattle.dealer.proofs.Dealers.{stands, dealt-whole}
+use Rattle.walks.specs.Dealers.{Dealer, outset, deal-all, Room}
+use Rattle.walks.proofs.Preparing.{stands, dealt-whole}
 use Rattle.dealer.proofs.Checks.{Enough, accepted}
 
 module _ (σ : Script) (A B buf : List ℕ) where

@@ -1,5 +1,4 @@
-pub mod Dealers
 pub mod Programs
-pub mod Turns
+pub mod Orders
 pub mod Checks
 pub mod Answers

@@ -7,8 +7,9 @@ ghost use Rattle.programs.specs.Orders.{program};
 ghost use Rattle.jobs.specs.Job.{job-gates};
 ghost use Rattle.worker.specs.Answers.{answer-of};
 ghost use Rattle.calls.specs.Lent.{worker-with};
-ghost use Rattle.worker_gate.specs.Exchanges.{cursor};
-ghost use Rattle.worker.specs.Walks.{steps-from, reported, Walked, Sized};
+ghost use Rattle.walks.specs.Workers.{cursor};
+ghost use Rattle.walks.specs.Halts.{reported, steps-from, Walked};
+ghost use Rattle.worker.specs.Jobs.{Sized};
 use crate::Answer;
 use crate::State;
 use crate::answering::answered;
@@ -75,7 +76,7 @@ pub(crate) fn advance(
     from: Reach,
     b: usize,
 ) -> Answer
-    requires { ⌜ Sized (now job) (now table) × (from .gate ≤ 1000) × (from .a < 2 ^ 40) × (from .deals < 2 ^ 40) × (b < 2 ^ 31) ⌝ }
+    requires { ⌜ Sized 32 (now job) (now table) × (from .gate ≤ 1000) × (from .a < 2 ^ 40) × (from .deals < 2 ^ 40) × (b < 2 ^ 31) ⌝ }
     ensures { λ r.
         ⌜ answer-of r
         ≡ reported (worker-with host (now (masks .entry)) (now (deals .entry)))

@@ -6,7 +6,7 @@ ghost use Rattle.gates.specs.Meaning.{meaning};
 ghost use Rattle.gates.specs.Hosts.{on-m, on-mask};
 ghost use Rattle.calls.specs.Calls.{word-at};
 ghost use Rattle.calls.specs.Lent.{worker-with};
-ghost use Rattle.worker_gate.specs.Exchanges.{cursor, deal-taken, new-mask, sum-of, heard-at};
+ghost use Rattle.walks.specs.Workers.{cursor, deal-taken, new-mask, sum-of, heard-at};
 use gates::Gate;
 use gates::Shape;
 use gate_local::step_m;

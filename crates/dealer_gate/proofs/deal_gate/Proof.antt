@@ -3,8 +3,8 @@ use denote.Ref.{now}
 use Rattle.gates.specs.Meaning.{meaning}
 use Rattle.gates.specs.declared.Shape.{Shape}
 use Rattle.gates.specs.declared.Shape.the-variants.{Local, Dealing, Product, Refreshing}
-use Rattle.dealer_gate.specs.Dealings.{dealer, dealing}
-use Rattle.dealer_gate.proofs.Shapes.{Has, finished, by-shape}
+use Rattle.walks.specs.Dealers.{dealer, dealing}
+use Rattle.walks.proofs.Dealers.{Has, finished, by-shape}
 use borrow.Author.Needs.{needs}
 use Rattle.dealer_gate.proofs.deal_gate.Statement.{statement}
 use Rattle.dealer_gate.proofs.deal_gate.Tie as tie

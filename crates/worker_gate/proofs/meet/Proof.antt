@@ -3,8 +3,8 @@ use denote.Ref.{now}
 use Rattle.gates.specs.Meaning.{meaning}
 use Rattle.gates.specs.declared.Shape.{Shape}
 use Rattle.gates.specs.declared.Shape.the-variants.{Local, Dealing, Product, Refreshing}
-use Rattle.worker_gate.specs.Exchanges.{cursor, heard-at}
-use Rattle.worker_gate.proofs.Shapes.{heard-by, hears}
+use Rattle.walks.specs.Workers.{cursor, heard-at}
+use Rattle.walks.proofs.Workers.{heard-by, hears}
 use borrow.Author.Needs.{needs}
 use Rattle.worker_gate.proofs.meet.Statement.{statement}
 use Rattle.worker_gate.proofs.meet.Tie as tie

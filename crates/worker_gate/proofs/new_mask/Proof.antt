@@ -1,5 +1,5 @@
 use mathlib.Core.Path.{_∙_}
-use Rattle.worker_gate.proofs.Shapes.{mask-after, mask-next, mask-of-b}
+use Rattle.walks.proofs.Workers.{mask-after, mask-next, mask-of-b}
 use borrow.Author.Needs.{needs}
 use Rattle.worker_gate.proofs.new_mask.Statement.{statement}
 use Rattle.worker_gate.proofs.new_mask.Tie as tie

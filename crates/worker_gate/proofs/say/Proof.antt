@@ -1,7 +1,7 @@
 use mathlib.Core.Path.{_∙_}
 use denote.Ref.{now}
 use Rattle.gates.specs.Meaning.{meaning}
-use Rattle.worker_gate.proofs.Shapes.{says-1, says-2}
+use Rattle.walks.proofs.Workers.{says-1, says-2}
 use borrow.Author.Needs.{needs}
 use Rattle.worker_gate.proofs.say.Statement.{statement}
 use Rattle.worker_gate.proofs.say.Tie as tie

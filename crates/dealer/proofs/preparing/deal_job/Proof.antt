@@ -5,9 +5,9 @@ use borrow.Author.Needs.{needs}
 use denote.Ref.{now}
 use lib.ListN.{length}
 use Rattle.jobs.specs.Job.{steps-of}
-use Rattle.dealer_gate.specs.Dealings.{dealer}
-use Rattle.dealer.specs.Preparation.{outset}
-use Rattle.dealer.proofs.Turns.{Going, begins, orders-left, order-room, order-done, job-done}
+use Rattle.walks.specs.Dealers.{dealer, outset}
+use Rattle.walks.proofs.Preparing.{Going, begins}
+use Rattle.dealer.proofs.Orders.{orders-left, order-room, order-done, job-done}
 use Rattle.dealer.proofs.preparing.deal_job.Statement.{statement}
 use Rattle.dealer.proofs.preparing.deal_job.Tie as tie
 

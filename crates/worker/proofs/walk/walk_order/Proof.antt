@@ -6,7 +6,8 @@ use Rattle.tables.specs.Table.{rows}
 use Rattle.programs.specs.Orders.{program}
 use Rattle.gates.specs.Meaning.{meaning}
 use Rattle.gates.proofs.Uses.{few-used}
-use Rattle.worker.proofs.Turns.{Going, going-from, ran-out, at-exchange, passed}
+use Rattle.walks.specs.Halts.{Going}
+use Rattle.walks.proofs.Within.{going-from, ran-out, at-exchange, passed}
 use Rattle.worker.proofs.walk.walk_order.Statement.{statement}
 use Rattle.worker.proofs.walk.walk_order.Tie as tie
 use Rattle.calls.specs.Lent.{worker-with}
@@ -19,7 +20,7 @@ abbrev μ-loop : tie.MeasureT-loop
 μ-loop host o table masks deals m₀ mask₀ at₀ m mask at = 1001 - at .gate
 
 loop-holds : tie.Need-loop-holds Inv-loop μ-loop
-loop-holds c = going-from 32 _ _ _ _ _ _ (c .before .before .before .pre .1)
+loop-holds c = going-from 32 _ _ _ _ _ _
 
 fetch-requires : tie.Need-fetch-requires Inv-loop μ-loop
 fetch-requires c κs = search needs
@@ -59,10 +60,14 @@ behind-requires c κs =
     let l = f .before .loop .inv in
     let p = f .before .before .before .before .before .pre in
     let n = few-used (meaning 32 (w .before .before .g .given .0 .0)) _ (w .used-by .ensures) in
-    (omega (arith, n), omega (arith, n), omega (arith, l .few), omega (arith, l .few, l .few-a, p), omega (arith, l .few, l .few-deals, p))
+    let k = l .few 1000 (p .1) (p .0) in
+    (omega (arith, n), omega (arith, n), omega (arith, k), omega (arith, k, l .few-a, p), omega (arith, k, l .few-deals, p))
 
 loop-less : tie.Need-loop-less Inv-loop μ-loop
-loop-less c = omega (arith, c .behind .ensures .0, c .before .before .before .before .before .before .before .before .before .before .before .loop .inv .few)
+loop-less c =
+    let l = c .before .before .before .before .before .before .before .before .before .before .before in
+    let p = l .before .before .before .before .pre in
+    omega (arith, c .behind .ensures .0, l .loop .inv .few 1000 (p .1) (p .0))
 
 loop-again : tie.Need-loop-again Inv-loop μ-loop
 loop-again c =
@@ -72,7 +77,7 @@ loop-again c =
     let s = f .before .before .before .before .before in
     let a = s .args in
     passed 32 (a .host) (now (a .masks)) (now (a .deals)) (program 32 (rows (now (a .table))) (a .o)) (a .from .gate) (a .from .a) (a .from .deals) (now (a .m), now (a .mask)) (l .at .gate) (l .at .a) (l .at .deals) (l .m) (l .mask) (l .inv)
-    _ (f .fetch .ensures) _ (w .before .before .g .given .1) _ (w .used-by .ensures) (c .before .before .before .before .if1 .left) (s .pre .0) _ _ (c .before .step .ensures .0) (c .before .step .ensures .1) _ _ _ (c .behind .ensures .0) (c .behind .ensures .1) (c .behind .ensures .2)
+    _ (f .fetch .ensures) _ (w .before .before .g .given .1) _ (w .used-by .ensures) (c .before .before .before .before .if1 .left) _ _ (c .before .step .ensures .0) (c .before .step .ensures .1) _ _ _ (c .behind .ensures .0) (c .behind .ensures .1) (c .behind .ensures .2)
 
 pub walk-order-spec : {M : Type 1} → statement M
 walk-order-spec =

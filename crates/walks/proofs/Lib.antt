@@ -1,0 +1,10 @@
+pub mod Gates
+pub mod Halts
+pub mod Workers
+pub mod Within
+pub mod Programs
+pub mod Seeking
+pub mod Before
+pub mod Scripts
+pub mod Dealers
+pub mod Preparing
