@@ -15,26 +15,37 @@ use Rattle.calls.specs.Lent.{lent, or-else, lists-fault, lent-fault, dea
 
 -- ---- from the job's verdict, whatever number the lists have
 
-module _ (J T : List ℕ) where
-  pub or-refused : (x n i : ℕ) → refusal (n, i) ≡ check-job 32 J T → (n ≡ 0 → ⊥) → (n, i) ≡ or-else (job-fault 32 J T) x
+module _ (w : ℕ) (job table : List ℕ) where
+  -- it is accepted, with these counts
+  abbrev pub Accepts : Cost → Type 0
+  Accepts k = record { accepted = true; number = 0; index = 0; counts = k } ≡ check-job w job table
+
+  pub or-refused : (x n i : ℕ) → refusal (n, i) ≡ check-job w job table → (n ≡ 0 → ⊥) → (n, i) ≡ or-else (job-fault w job table) x
   unfolding check-job judged or-else
-  or-refused x n i e ne = go (job-fault 32 J T .0) (job-fault 32 J T) refl e
+  or-refused x n i e ne = go (job-fault w job table .0) (job-fault w job table) refl e
     where
-      go : (m : ℕ) (f : Fault) → f .0 ≡ m → refusal (n, i) ≡ judged m f (job-cost 32 J T) → (n, i) ≡ cond (eqb (f .0) 0) (x, 0) f
+      go : (m : ℕ) (f : Fault) → f .0 ≡ m → refusal (n, i) ≡ judged m f (job-cost w job table) → (n, i) ≡ cond (eqb (f .0) 0) (x, 0) f
       go zero f q p = absurd (ne (ap (λ (v : Verdict). v .number) p))
       go (suc m) f q p = rw (ne-eqb (f .0) 0 (λ z. omega arith)) (λ t. (p t .number, p t .index))
 
-  pub accepted-tells : (k : Cost) → record { accepted = true; number = 0; index = 0; counts = k } ≡ check-job 32 J T → (job-fault 32 J T .0 ≡ 0) × (job-cost 32 J T ≡ k)
+  pub accepted-tells : (k : Cost) → Accepts k → (job-fault w job table .0 ≡ 0) × (job-cost w job table ≡ k)
   unfolding check-job judged
-  accepted-tells k e = go (job-fault 32 J T .0) (job-fault 32 J T) refl e
+  accepted-tells k e = go (job-fault w job table .0) (job-fault w job table) refl e
     where
-      go : (m : ℕ) (f : Fault) → f .0 ≡ m → record { accepted = true; number = 0; index = 0; counts = k } ≡ judged m f (job-cost 32 J T) → (m ≡ 0) × (job-cost 32 J T ≡ k)
+      go : (m : ℕ) (f : Fault) → f .0 ≡ m
+          → record { accepted = true; number = 0; index = 0; counts = k } ≡ judged m f (job-cost w job table)
+          → (m ≡ 0) × (job-cost w job table ≡ k)
       go zero f q p = (refl, sym (ap (λ (v : Verdict). v .counts) p))
       go (suc m) f q p = let z : 0 ≡ f .0 = ap (λ (v : Verdict). v .number) p in absurd (omega arith)
 
-  pub or-accepted : (x : ℕ) → job-fault 32 J T .0 ≡ 0 → (x, 0) ≡ or-else (job-fault 32 J T) x
+  pub or-accepted : (x : ℕ) → job-fault w job table .0 ≡ 0 → (x, 0) ≡ or-else (job-fault w job table) x
   unfolding or-else
-  or-accepted x e = rw (eq-eqb (job-fault 32 J T .0) 0 e)
+  or-accepted x e = rw (eq-eqb (job-fault w job table .0) 0 e)
+
+  pub counts-passed : (place : ℕ) (k : Cost) → Accepts k → counts-before w job table place ≡ job-cost w (take (place * 4) job) table
+  unfolding counts-before judged
+  counts-passed place k e =
+      ap (λ (m : ℕ). judged m (job-fault w job table) (job-cost w (take (place * 4) job) table) .counts) (accepted-tells k e .0)
 
 -- ---- the counts of the orders before a place
 
@@ -51,11 +62,6 @@ no-fault-passed (suc n) k e = absurd (omega arith)
 pub all-passed : (k : Cost) → k ≡ passed 0 k
 unfolding passed
 all-passed k = refl
-
-pub counts-passed : (J T : List ℕ) (place : ℕ) (k : Cost) → record { accepted = true; number = 0; index = 0; counts = k } ≡ check-job 32 J T
-    → counts-before 32 J T place ≡ job-cost 32 (take (place * 4) J) T
-unfolding counts-before judged
-counts-passed J T place k e = ap (λ (m : ℕ). judged m (job-fault 32 J T) (job-cost 32 (take (place * 4) J) T) .counts) (accepted-tells J T k e .0)
 
 -- ---- the lists
 
