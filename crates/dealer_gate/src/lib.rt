@@ -13,8 +13,9 @@ use word_lists::put_word;
 use word_lists::word_after;
 use word_lists::word_at;
 
-// What host 0 writes at a gate, with so many words and deals used before it. x is the first mask of a deal or a refresh, and
-// g1 of a product, whose new masks come from A after it and from B. Host 2 knows a deal's second mask from the deal alone.
+// What host 0 writes at a gate, with so many words and deals used before it. x is the first mask of a deal or a refresh,
+// and g1 of a product, whose new masks come from A after it and from B. Host 2 knows a deal's second mask from the deal
+// alone.
 pub fn deal_gate(
     g: Gate,
     a: &[u32],
@@ -26,7 +27,8 @@ pub fn deal_gate(
 )
     ensures { λ r.
         ⌜ Holds
-        (dealing (now (a .entry)) (now (b .entry)) (meaning 32 g) (dealer used (now (l1 .entry)) (now (l2 .entry)) (now (deals .entry))))
+        (dealing (now (a .entry)) (now (b .entry)) (meaning 32 g)
+        (dealer used (now (l1 .entry)) (now (l2 .entry)) (now (deals .entry))))
         (now (l1 .exit)) (now (l2 .exit)) (now (deals .exit)) ⌝ }
 {
     let x = word_at(a, used.a);

@@ -38,8 +38,8 @@ Halting w (At g) = Exchanging (meaning w g ∷ [])
 -- A walk on its way through the program gs, from gate i with the lanes s to gate j with the lanes t: whatever stands
 -- behind the program, the answer is the same from there. It stays among the gates, and the words of A and the deals
 -- that are used on the way are at most as many as the gates.
-pub record Going (w : ℕ) (P : Worker) (gs : List Gate) (i a dealt : ℕ) (s : Pair) (j a′ dealt′ : ℕ) (t : Pair) : Type 0
-    where
+pub record Going (w : ℕ) (P : Worker) (gs : List Gate) (i a dealt : ℕ) (s : Pair)
+    (j a′ dealt′ : ℕ) (t : Pair) : Type 0 where
   pub same : (ss : List Step) (o x b : ℕ)
       → reported P (order-steps w (drop i gs) ss) (cursor o x a b dealt) s
       ≡ reported P (order-steps w (drop j gs) ss) (cursor o x a′ b dealt′) t
@@ -48,7 +48,7 @@ pub record Going (w : ℕ) (P : Worker) (gs : List Gate) (i a dealt : ℕ) (s : 
   pub few-deals : dealt′ + i ≤ dealt + j
 
 -- the same where it halts
-pub record Walked (w : ℕ) (P : Worker) (gs : List Gate) (i a dealt : ℕ) (s : Pair) (j a′ dealt′ : ℕ) (t : Pair)
-    : Type 0 where
+pub record Walked (w : ℕ) (P : Worker) (gs : List Gate) (i a dealt : ℕ) (s : Pair)
+    (j a′ dealt′ : ℕ) (t : Pair) : Type 0 where
   pub going : Going w P gs i a dealt s j a′ dealt′ t
   pub halts : Halting w (fetched gs j)

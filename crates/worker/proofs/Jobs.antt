@@ -125,7 +125,7 @@ module _ (w : ℕ) (job table : List ℕ) (e : job-fault w job table .0 ≡ 0) w
       rules table .0 (subst T (sym (curve-ruled w (keeps-rules table) (order-at job o) (order-good o h) k .1)) tt)
 
   -- where the programs of the width are short
-  sized-by : ((o : Order) → (o .kind ≡ 10 → length (rows table) ≤ 16) → length (program w (rows table) o) ≤ 1000) → Sized w job table
+  pub sized-by : ((o : Order) → (o .kind ≡ 10 → length (rows table) ≤ 16) → length (program w (rows table) o) ≤ 1000) → Sized w job table
   sized-by short =
       let p = Conditions.sized job well-sized in
       record {

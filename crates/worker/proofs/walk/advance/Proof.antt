@@ -19,8 +19,10 @@ use Rattle.calls.specs.Lent.{worker-with}
 abbrev Inv-loop : tie.InvT-loop
 Inv-loop host job table masks deals b n m₀ mask₀ order₀ turn₀ at₀ m mask order turn at =
     (n ≡ length job / 4) × (at .gate ≤ 1000) × (order < 2 ^ 32) × (at .a ≤ 2 ^ 40 + 1000 * order) × (at .deals ≤ 2 ^ 40 + 1000 * order)
-    × (reported (worker-with host masks deals) (steps-from 32 (at .gate) (drop order (job-gates 32 job table))) (cursor order turn (at .a) b (at .deals)) (m, mask)
-    ≡ reported (worker-with host masks deals) (steps-from 32 (at₀ .gate) (drop order₀ (job-gates 32 job table))) (cursor order₀ turn₀ (at₀ .a) b (at₀ .deals)) (m₀, mask₀))
+    × (reported (worker-with host masks deals) (steps-from 32 (at .gate) (drop order (job-gates 32 job table)))
+    (cursor order turn (at .a) b (at .deals)) (m, mask)
+    ≡ reported (worker-with host masks deals) (steps-from 32 (at₀ .gate) (drop order₀ (job-gates 32 job table)))
+    (cursor order₀ turn₀ (at₀ .a) b (at₀ .deals)) (m₀, mask₀))
 
 abbrev μ-loop : tie.MeasureT-loop
 μ-loop host job table masks deals b n m₀ mask₀ order₀ turn₀ at₀ m mask order turn at = n - order
@@ -61,10 +63,11 @@ say-requires c κs =
     let l = t .loop in
     let a = t .before .before .before .before .before .before .before .before .args in
     let p = t .before .before .before .before .before .before .before .before .pre in
-    let w = c .before .before .before .before .before .before .walk-order .ensures .going in
-    let h : l .order < length (now (a .job)) / 4 = omega (arith, c .before .before .before .before .before .before .before .before .before .before .loop-test .taken, l .inv .0) in
-    let k = w .few 1000 (l .inv .1) (short-order 32 (now (a .job)) (now (a .table)) (p .0) (l .order) h _ (c .before .before .before .before .before .before .before .before .before .order-at .ensures)) in
-    omega (arith, h, k, w .few-a, l .inv .3, p .0 .few-words)
+    let d = c .before .before .before .before .before .before in
+    let q = d .walk-order .ensures .going in
+    let h : l .order < length (now (a .job)) / 4 = omega (arith, d .before .before .before .before .loop-test .taken, l .inv .0) in
+    let short = short-order 32 (now (a .job)) (now (a .table)) (p .0) (l .order) h _ (d .before .before .before .order-at .ensures) in
+    omega (arith, h, q .few 1000 (l .inv .1) short, q .few-a, l .inv .3, p .0 .few-words)
 
 cast-answered : tie.Need-cast-answered Inv-loop μ-loop
 cast-answered c =
@@ -95,10 +98,16 @@ returns c =
     let l = t .loop in
     let a = t .before .before .before .before .before .before .before .before .args in
     let p = t .before .before .before .before .before .before .before .before .pre in
-    let w = c .before .before .before .before .before .before .before in
-    let h : l .order < length (now (a .job)) / 4 = omega (arith, c .before .before .before .before .before .before .before .before .before .before .before .before .loop-test .taken, l .inv .0) in
+    let J = now (a .job) in
+    let T = now (a .table) in
+    let f = c .before .before .before .before .before .before .before in
+    let h : l .order < length J / 4 = omega (arith, f .before .before .before .before .before .loop-test .taken, l .inv .0) in
+    let there = order-there 32 J T (l .order) h _ (f .before .before .before .before .order-at .ensures) in
     c .answered .ensures
-    ∙ sym (halted 32 (a .host) (now (a .masks)) (now (a .deals)) (job-gates 32 (now (a .job)) (now (a .table))) (l .order) (l .turn) (l .at .gate) (l .at .a) (a .b) (l .at .deals) (l .m, l .mask) _ (order-there 32 (now (a .job)) (now (a .table)) (l .order) h _ (w .before .before .before .before .order-at .ensures)) _ _ _ _ _ (w .before .walk-order .ensures) _ (w .fetch .ensures) _ _ (c .before .before .before .before .before .g .given .1) (c .before .say .ensures)) ∙ l .inv .5
+    ∙ sym (halted 32 (a .host) (now (a .masks)) (now (a .deals)) (job-gates 32 J T) (l .order) (l .turn) (l .at .gate) (l .at .a) (a .b)
+    (l .at .deals) (l .m, l .mask) _ there _ _ _ _ _ (f .before .walk-order .ensures) _ (f .fetch .ensures) _ _
+    (c .before .before .before .before .before .g .given .1) (c .before .say .ensures))
+    ∙ l .inv .5
 
 enum-told : tie.Need-enum-told Inv-loop μ-loop
 enum-told c = search needs
@@ -115,15 +124,23 @@ loop-again c =
     let l = t .loop in
     let a = t .before .before .before .before .before .before .before .before .args in
     let p = t .before .before .before .before .before .before .before .before .pre in
-    let w = c .before .before .before .walk-order .ensures in
-    let h : l .order < length (now (a .job)) / 4 = omega (arith, c .before .before .before .before .before .before .before .loop-test .taken, l .inv .0) in
-    let k = w .going .few 1000 (l .inv .1) (short-order 32 (now (a .job)) (now (a .table)) (p .0) (l .order) h _ (c .before .before .before .before .before .before .order-at .ensures)) in (
+    let J = now (a .job) in
+    let T = now (a .table) in
+    let d = c .before .before .before in
+    let q = d .walk-order .ensures in
+    let eo = d .before .before .before .order-at .ensures in
+    let h : l .order < length J / 4 = omega (arith, d .before .before .before .before .loop-test .taken, l .inv .0) in
+    let few = q .going .few 1000 (l .inv .1) (short-order 32 J T (p .0) (l .order) h _ eo) in
+    let next =
+    next-program 32 (a .host) (now (a .masks)) (now (a .deals)) (job-gates 32 J T) (l .order) (l .turn) (l .at .gate) (l .at .a) (a .b)
+    (l .at .deals) (l .m, l .mask) _ (order-there 32 J T (l .order) h _ eo) _ _ _ _ _ q _ (c .before .before .fetch .ensures)
+    (c .enum-told .given .1) in (
       l .inv .0,
       omega arith,
       omega (arith, h, p .0 .few-words),
-      omega (arith, k, w .going .few-a, l .inv .3),
-      omega (arith, k, w .going .few-deals, l .inv .4),
-      sym (next-program 32 (a .host) (now (a .masks)) (now (a .deals)) (job-gates 32 (now (a .job)) (now (a .table))) (l .order) (l .turn) (l .at .gate) (l .at .a) (a .b) (l .at .deals) (l .m, l .mask) _ (order-there 32 (now (a .job)) (now (a .table)) (l .order) h _ (c .before .before .before .before .before .before .order-at .ensures)) _ _ _ _ _ w _ (c .before .before .fetch .ensures) (c .enum-told .given .1)) ∙ l .inv .5,
+      omega (arith, few, q .going .few-a, l .inv .3),
+      omega (arith, few, q .going .few-deals, l .inv .4),
+      sym next ∙ l .inv .5,
     )
 
 cast-answered-3 : tie.Need-cast-answered-3 Inv-loop μ-loop
@@ -145,7 +162,13 @@ returns-2 c =
     let l = t .loop in
     let a = t .before .before .before .before .before .before .before .before .args in
     let p = t .before .before .before .before .before .before .before .before .pre in
-    c .answered2 .ensures ∙ sym (finished 32 (a .host) (now (a .masks)) (now (a .deals)) (job-gates 32 (now (a .job)) (now (a .table))) (l .order) (l .turn) (l .at .gate) (l .at .a) (a .b) (l .at .deals) (l .m, l .mask) (gates-over 32 (now (a .job)) (now (a .table)) (l .order) (omega (arith, c .before .loop-test .left, l .inv .0)))) ∙ l .inv .5
+    let J = now (a .job) in
+    let T = now (a .table) in
+    let over = gates-over 32 J T (l .order) (omega (arith, c .before .loop-test .left, l .inv .0)) in
+    c .answered2 .ensures
+    ∙ sym (finished 32 (a .host) (now (a .masks)) (now (a .deals)) (job-gates 32 J T) (l .order) (l .turn) (l .at .gate) (l .at .a) (a .b)
+    (l .at .deals) (l .m, l .mask) over)
+    ∙ l .inv .5
 
 pub advance-spec : {M : Type 1} → statement M
 advance-spec =
