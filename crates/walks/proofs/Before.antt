@@ -137,7 +137,8 @@ module _ (w : ℕ) (programs : List (List Gate)) (o x : ℕ) where
         let e : seek o x (job-steps w (drop o programs)) (p .0 .cur) ≡ found left (r .cur) = rw (drop-cons programs o [] h) (r .is) in
         p .0 .same ∙ e
         ∙ ap (λ (c : Cursor). found left c)
-        (cursor-path (omega (arith, p .0 .in-order, r .in-order)) (omega (arith, p .0 .at-turn, r .at-turn)) (omega (arith, u .a, r .used-a))
+        (cursor-path (omega (arith, p .0 .in-order, r .in-order)) (omega (arith, p .0 .at-turn, r .at-turn))
+        (omega (arith, u .a, r .used-a))
         (omega (arith, u .b, r .used-b))
         (omega (arith, u .deals, r .used-deals)))
 
@@ -159,7 +160,8 @@ one-step end = omega arith
 
 program-below : (w : ℕ) (gs : List Gate) (ss : List Step) (n : ℕ) → Below (cost ss) n → Below (cost (order-steps w gs ss)) (length gs + n)
 unfolding order-steps cost plus step-cost
-program-below w [] ss n h = record { few-a = omega (arith, h .few-a); few-b = omega (arith, h .few-b); few-deals = omega (arith, h .few-deals) }
+program-below w [] ss n h =
+    record { few-a = omega (arith, h .few-a); few-b = omega (arith, h .few-b); few-deals = omega (arith, h .few-deals) }
 program-below w (g ∷ gs) ss n h =
     let p = one-step (meaning w g) in
     let q = program-below w gs ss n h in

@@ -86,7 +86,8 @@ module _ (w : ℕ) (g : Gate) (gs : List Gate) (ss : List Step) (i a dealt i′ 
   -- at a gate that is passed, the law of the gates behind it
   further : (n m b l : ℕ) → Placed w gs ss m (suc i) b l i′ a′ dealt′ → n ≤ suc m → b ≤ a + 2 → l ≤ suc dealt
       → ((o x : ℕ) (c : Cursor) → c .order ≡ o → x ≡ c .turn + n → (q : Placed w gs ss m (suc i) b l i′ a′ dealt′)
-      → Reached (seek o x (meaning w g ∷ order-steps w gs ss) c) (meaning w (q .gate) ∷ order-steps w (drop (suc (q .j)) gs) ss) c n a dealt a′ dealt′)
+      → Reached (seek o x (meaning w g ∷ order-steps w gs ss) c) (meaning w (q .gate) ∷ order-steps w (drop (suc (q .j)) gs) ss) c
+      n a dealt a′ dealt′)
       → Placed w (g ∷ gs) ss n i a dealt i′ a′ dealt′
   unfolding fetched order-steps
   further n m b l p hn ha hk r =
@@ -104,12 +105,13 @@ module _ (w : ℕ) (g : Gate) (gs : List Gate) (ss : List Step) (i a dealt i′ 
       }
 
   -- at the gate that is sought
-  arrived : (d : ℕ) (e : Exchange) → meaning w g ≡ exchange d e → Sought.Found i a dealt ≡ Sought.Found i′ a′ dealt′ → Placed w (g ∷ gs) ss 0 i a dealt i′ a′ dealt′
+  arrived : (d : ℕ) (e : Exchange) → meaning w g ≡ exchange d e → Sought.Found i a dealt ≡ Sought.Found i′ a′ dealt′
+      → Placed w (g ∷ gs) ss 0 i a dealt i′ a′ dealt′
   unfolding fetched order-steps seek
   arrived d e m f =
       let ei : i ≡ i′ = cc in
       let ea : a ≡ a′ = cc in
-      let ek : dealt ≡ dealt′ = cc in
+      let ed : dealt ≡ dealt′ = cc in
       record {
         j = 0;
         gate = g;
@@ -132,7 +134,9 @@ module _ (w : ℕ) (g : Gate) (gs : List Gate) (ss : List Step) (i a dealt i′ 
       }
 
   -- an exchange before it
-  before : (d : ℕ) (e : Exchange) (n : ℕ) → meaning w g ≡ exchange d e → Placed w gs ss n (suc i) (suc (new-at e a)) (past-deal e dealt) i′ a′ dealt′ → Placed w (g ∷ gs) ss (suc n) i a dealt i′ a′ dealt′
+  before : (d : ℕ) (e : Exchange) (n : ℕ) → meaning w g ≡ exchange d e
+      → Placed w gs ss n (suc i) (suc (new-at e a)) (past-deal e dealt) i′ a′ dealt′
+      → Placed w (g ∷ gs) ss (suc n) i a dealt i′ a′ dealt′
   unfolding seek past
   before d e n m z =
       let t = takes e a dealt in
@@ -150,14 +154,24 @@ module _ (w : ℕ) (g : Gate) (gs : List Gate) (ss : List Step) (i a dealt i′ 
       })
 
   passed : ((m j b l : ℕ) → sought w gs m j b l ≡ Sought.Found i′ a′ dealt′ → Placed w gs ss m j b l i′ a′ dealt′)
-      → (y : Step) (n : ℕ) → meaning w g ≡ y → OfGate y → sought-at (shape y) n i a dealt (sought w gs) ≡ Sought.Found i′ a′ dealt′ → Placed w (g ∷ gs) ss n i a dealt i′ a′ dealt′
+      → (y : Step) (n : ℕ) → meaning w g ≡ y → OfGate y → sought-at (shape y) n i a dealt (sought w gs) ≡ Sought.Found i′ a′ dealt′
+      → Placed w (g ∷ gs) ss n i a dealt i′ a′ dealt′
   unfolding sought-at shape seek past new-at past-deal
   passed ih (local d m l) n e h f =
-      further n n a dealt (ih n (suc i) a dealt f) (omega arith) (omega arith) (omega arith) (λ o x c ho hx q. rw e (q .reached o x c ho hx))
+      further n n a dealt (ih n (suc i) a dealt f) (omega arith) (omega arith) (omega arith)
+      (λ o x c ho hx q. rw e (q .reached o x c ho hx))
   passed ih (deal d m) n e h f =
       further n n (suc a) (suc dealt) (ih n (suc i) (suc a) (suc dealt) f) (omega arith) (omega arith) (omega arith) (λ o x c ho hx q.
       let r = q .reached o x (past (deal d m) c) ho hx in
-      record { cur = r .cur; is = rw e (r .is); in-order = r .in-order; at-turn = r .at-turn; used-a = omega (arith, r .used-a); used-b = r .used-b; used-deals = omega (arith, r .used-deals) })
+      record {
+        cur = r .cur;
+        is = rw e (r .is);
+        in-order = r .in-order;
+        at-turn = r .at-turn;
+        used-a = omega (arith, r .used-a);
+        used-b = r .used-b;
+        used-deals = omega (arith, r .used-deals);
+      })
   passed ih (exchange d (product O p q)) zero e h f = arrived d (product O p q) e f
   passed ih (exchange d (product O p q)) (suc n) e h f =
       let two : 2 + a ≡ suc (suc a) = omega arith in
@@ -166,26 +180,33 @@ module _ (w : ℕ) (g : Gate) (gs : List Gate) (ss : List Step) (i a dealt i′ 
   passed ih (exchange d (refresh O p)) (suc n) e h f = before d (refresh O p) n e (ih n (suc i) (suc a) dealt f)
   passed ih end n e h f = absurd h
 
-pub placed : (w : ℕ) (gs : List Gate) (ss : List Step) (n i a dealt i′ a′ dealt′ : ℕ) → sought w gs n i a dealt ≡ Sought.Found i′ a′ dealt′ → Placed w gs ss n i a dealt i′ a′ dealt′
+pub placed : (w : ℕ) (gs : List Gate) (ss : List Step) (n i a dealt i′ a′ dealt′ : ℕ)
+    → sought w gs n i a dealt ≡ Sought.Found i′ a′ dealt′
+    → Placed w gs ss n i a dealt i′ a′ dealt′
 unfolding sought
 placed w [] ss n i a dealt i′ a′ dealt′ e = never (cc)
 placed w (g ∷ gs) ss n i a dealt i′ a′ dealt′ e =
     passed w g gs ss i a dealt i′ a′ dealt′ (λ m j b l f. placed w gs ss m j b l i′ a′ dealt′ f) (meaning w g) n refl (of-gate w g) e
 
 -- where there is no n-th product or refresh in the order o, there is no such place
-pub not-placed : (w : ℕ) (gs : List Gate) (ss : List Step) (n i a dealt o x : ℕ) (c : Cursor) → sought w gs n i a dealt ≡ Nowhere → c .order ≡ o → x ≡ c .turn + n
+pub not-placed : (w : ℕ) (gs : List Gate) (ss : List Step) (n i a dealt o x : ℕ) (c : Cursor)
+    → sought w gs n i a dealt ≡ Nowhere → c .order ≡ o → x ≡ c .turn + n
     → seek o x (order-steps w gs ss) c ≡ nowhere
 unfolding sought sought-at shape order-steps seek past
 not-placed w [] ss n i a dealt o x c e ho hx = gone o x ss _ (omega arith)
-not-placed w (g ∷ gs) ss n i a dealt o x c e ho hx = go (λ m j b l d f p q. not-placed w gs ss m j b l o x d f p q) (meaning w g) n refl (of-gate w g) e hx
+not-placed w (g ∷ gs) ss n i a dealt o x c e ho hx =
+    go (λ m j b l d f p q. not-placed w gs ss m j b l o x d f p q) (meaning w g) n refl (of-gate w g) e hx
   where
-    go : ((m j b l : ℕ) (d : Cursor) → sought w gs m j b l ≡ Nowhere → d .order ≡ o → x ≡ d .turn + m → seek o x (order-steps w gs ss) d ≡ nowhere)
+    go : ((m j b l : ℕ) (d : Cursor) → sought w gs m j b l ≡ Nowhere → d .order ≡ o → x ≡ d .turn + m
+        → seek o x (order-steps w gs ss) d ≡ nowhere)
         → (y : Step) (m : ℕ) → meaning w g ≡ y → OfGate y → sought-at (shape y) m i a dealt (sought w gs) ≡ Nowhere → x ≡ c .turn + m
         → seek o x (meaning w g ∷ order-steps w gs ss) c ≡ nowhere
     go ih (local d l r) m p h f hm = rw p (ih m (suc i) a dealt _ f ho hm)
     go ih (deal d r) m p h f hm = rw p (ih m (suc i) (suc a) (suc dealt) _ f ho hm)
     go ih (exchange d (product O s t)) zero p h f hm = never (cc)
-    go ih (exchange d (product O s t)) (suc m) p h f hm = rw (p, not-yet o x c (λ z. omega arith)) (ih m (suc i) (2 + a) (suc dealt) _ f ho (omega arith))
+    go ih (exchange d (product O s t)) (suc m) p h f hm =
+        rw (p, not-yet o x c (λ z. omega arith)) (ih m (suc i) (2 + a) (suc dealt) _ f ho (omega arith))
     go ih (exchange d (refresh O s)) zero p h f hm = never (cc)
-    go ih (exchange d (refresh O s)) (suc m) p h f hm = rw (p, not-yet o x c (λ z. omega arith)) (ih m (suc i) (suc a) dealt _ f ho (omega arith))
+    go ih (exchange d (refresh O s)) (suc m) p h f hm =
+        rw (p, not-yet o x c (λ z. omega arith)) (ih m (suc i) (suc a) dealt _ f ho (omega arith))
     go ih end m p h f hm = absurd h

@@ -45,7 +45,8 @@ orders-drop (k ∷ []) o h = absurd (omega arith)
 orders-drop (k ∷ d ∷ []) o h = absurd (omega arith)
 orders-drop (k ∷ d ∷ a ∷ []) o h = absurd (omega arith)
 orders-drop (k ∷ d ∷ a ∷ c ∷ ws) zero h = refl
-orders-drop (k ∷ d ∷ a ∷ c ∷ ws) (suc o) h = orders-drop ws o (omega arith) ∙ ap (λ (x : Order). x ∷ drop (suc o) (orders ws)) (sym (next-order k d a c ws o))
+orders-drop (k ∷ d ∷ a ∷ c ∷ ws) (suc o) h =
+    orders-drop ws o (omega arith) ∙ ap (λ (x : Order). x ∷ drop (suc o) (orders ws)) (sym (next-order k d a c ws o))
 
 pub orders-take : (ws : List ℕ) (o : ℕ) → o ≤ length ws / 4 → orders (take (o * 4) ws) ≡ take o (orders ws)
 unfolding orders
@@ -82,15 +83,18 @@ module _ (w : ℕ) (job table : List ℕ) where
   gates-count = length-map (orders job) (program w (rows table)) ∙ order-count job
 
   module _ (o : ℕ) where
-    pub gates-drop : o < length job / 4 → drop o (job-gates w job table) ≡ program w (rows table) (order-at job o) ∷ drop (suc o) (job-gates w job table)
+    pub gates-drop : o < length job / 4
+        → drop o (job-gates w job table) ≡ program w (rows table) (order-at job o) ∷ drop (suc o) (job-gates w job table)
     unfolding job-gates
     gates-drop h =
         drop-map (program w (rows table)) o (orders job)
         ∙ ap (map (program w (rows table))) (orders-drop job o h)
-        ∙ ap (λ (z : List (List Gate)). program w (rows table) (order-at job o) ∷ z) (sym (drop-map (program w (rows table)) (suc o) (orders job)))
+        ∙ ap (λ (z : List (List Gate)). program w (rows table) (order-at job o) ∷ z)
+        (sym (drop-map (program w (rows table)) (suc o) (orders job)))
 
     -- the order at o as the code has it
-    pub order-there : o < length job / 4 → (ord : Order) → ord ≡ order-at job o → drop o (job-gates w job table) ≡ program w (rows table) ord ∷ drop (suc o) (job-gates w job table)
+    pub order-there : o < length job / 4 → (ord : Order) → ord ≡ order-at job o
+        → drop o (job-gates w job table) ≡ program w (rows table) ord ∷ drop (suc o) (job-gates w job table)
     order-there h ord e = rw e (gates-drop h)
 
     pub gates-at : o < length job / 4 → getD (job-gates w job table) o [] ≡ program w (rows table) (order-at job o)

@@ -115,7 +115,8 @@ module _ (w : ℕ) (job table : List ℕ) where
       none-there p = nowhere-here o x l (sym sought-there ∙ p)
 
       pub found-there : Sized w job table → (g a dealt : ℕ) → f ≡ Sought.Found g a dealt
-          → (u : Cost) → u ≡ passed n (job-cost w (take (o * 4) job) table) → There w job table o x g (u .a + a) (u .b + x) (u .deals + dealt)
+          → (u : Cost) → u ≡ passed n (job-cost w (take (o * 4) job) table)
+          → There w job table o x g (u .a + a) (u .b + x) (u .deals + dealt)
       unfolding passed
       found-there Z g a dealt p u eu =
           let H = found-here o x l Z g a dealt (sym sought-there ∙ p) in

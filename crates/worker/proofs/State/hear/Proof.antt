@@ -21,7 +21,8 @@ there : (c : tie.After-used)
     let a = k .before .before .before .before .before .before .before .before .args in
     let f = c .before .before .gate .given .0 in
     let u = k .before .before .check-lent .result .counts in
-    There 32 (now (a .job)) (now (a .table)) (a .self .order) (a .self .turn) (f .0) (u .a + f .1 .0) (u .b + a .self .turn) (u .deals + f .1 .1 .0)
+    There 32 (now (a .job)) (now (a .table)) (a .self .order) (a .self .turn) (f .0)
+    (u .a + f .1 .0) (u .b + a .self .turn) (u .deals + f .1 .1 .0)
 there c =
     let q = c .before .before .before .before in
     let k = q .before .before .before .before in

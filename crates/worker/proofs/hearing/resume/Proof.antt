@@ -39,7 +39,8 @@ returns c =
     let f = c .before .before .before in
     let a = f .before .before .before .before .before .before .before .args in
     let p = f .before .before .before .before .before .before .before .pre in
-    not-past 32 (now (a .job)) (now (a .table)) (a .s .order) (a .at .gate) (p .1) _ (f .before .order-at .ensures) _ (f .fetch .ensures) (c .before .enum-told .given .1)
+    not-past 32 (now (a .job)) (now (a .table)) (a .s .order) (a .at .gate) (p .1) _ (f .before .order-at .ensures) _ (f .fetch .ensures)
+    (c .before .enum-told .given .1)
 
 meet-requires : tie.Need-meet-requires
 meet-requires c κs = search needs
@@ -54,15 +55,19 @@ few c =
 
 behind-requires : tie.Need-behind-requires
 behind-requires c κs =
-    let p = c .before .before .before .before .before .before .before .before .before .before .before .before .before .before .before .before .pre in
+    let x = c .before .before .before .before .before .before .before .before .before .before in
+    let p = x .before .before .before .before .before .before .pre in
     (few c .0, few c .1, omega (arith, p .2), omega (arith, p .4), omega (arith, p .5))
 
 add-advance : tie.Need-add-advance
-add-advance c = omega (arith, c .before .before .before .before .before .before .before .before .before .before .before .before .before .before .before .before .before .pre .6)
+add-advance c =
+    let x = c .before .before .before .before .before .before .before .before .before .before in
+    omega (arith, x .before .before .before .before .before .before .before .pre .6)
 
 advance-requires : tie.Need-advance-requires
 advance-requires c κs =
-    let p = c .before .before .before .before .before .before .before .before .before .before .before .before .before .before .before .before .before .pre in
+    let x = c .before .before .before .before .before .before .before .before .before .before in
+    let p = x .before .before .before .before .before .before .before .pre in
     let b = c .behind .ensures in
     let q = few (c .before) in
     (p .0, omega (arith, b .0, p .2), omega (arith, b .1, q .0, p .4), omega (arith, b .2, q .1, p .5), omega (arith, p .6))
