@@ -67,7 +67,8 @@ module _ (σ : Script) (A B buf : List ℕ) where
       dealt-count = ap (λ (x : Dealer). x .deals) ended ∙ counted ∙ as-many
 
       pub finished : (k1 k2 : List ℕ) → k1 ≡ take (σ .slots) (s .l1) → k2 ≡ take (σ .slots) (s .l2)
-          → _≡_ {A = Prepared} (record { number = 0; index = 0; deals = s .deals; masks = (k1, k2); buffer = s .buffer }) (prepare σ A B buf r)
+          → _≡_ {A = Prepared} (record { number = 0; index = 0; deals = s .deals; masks = (k1, k2); buffer = s .buffer })
+          (prepare σ A B buf r)
       unfolding prepare prepared
       finished k1 k2 e1 e2 =
           let q : Enough (script-cost σ) A B buf = accepted σ A B buf e in

@@ -21,7 +21,8 @@ pub record Enough (k : Cost) (A B D : List ℕ) : Type 0 where
   pub b : k .b ≤ length B
   pub deals : k .deals ≤ length D
 
-enough-by : (k : Cost) (A B D : List ℕ) (p q r : Bool) → ltb (length A) (k .a) ≡ p → ltb (length B) (k .b) ≡ q → ltb (length D) (k .deals) ≡ r
+enough-by : (k : Cost) (A B D : List ℕ) (p q r : Bool)
+    → ltb (length A) (k .a) ≡ p → ltb (length B) (k .b) ≡ q → ltb (length D) (k .deals) ≡ r
     → _≡_ {A = ℕ} (cond (p || q) 6 (cond r 7 0)) 0 → Enough k A B D
 enough-by k A B D true q r f g h e = absurd (omega arith)
 enough-by k A B D false true r f g h e = absurd (omega arith)

@@ -14,16 +14,16 @@ ghost use Rattle.walks.specs.Dealers.{dealer, outset, Counts, dealing, deal-all
 ghost use Rattle.dealer.specs.Answers.{answer};
 use crate::Masks;
 use crate::Prepared;
-use programs::Order;
-use dealer_gate::deal_gate;
-use gates::Gate;
-use gates::Used;
 use call_check::check_dealer;
 use call_check::fresh;
+use dealer_gate::deal_gate;
+use gate_shape::used_by;
+use gates::Gate;
+use gates::Used;
+use job_order::order_at;
 use program_fetch::Fetched;
 use program_fetch::fetch;
-use job_order::order_at;
-use gate_shape::used_by;
+use programs::Order;
 
 // ---- the lanes: the registers, with temporaries behind them that are 0 at first
 

@@ -3,19 +3,19 @@ ghost use mathlib.Core.Path.{_≡_};
 ghost use Rattle.gates.specs.Meaning.{meaning};
 ghost use Rattle.walks.specs.Dealers.{dealer, Holds, dealing};
 use gate_deal::deal_word;
+use gate_local::step_mask;
+use gate_shape::shape_of;
 use gates::Gate;
 use gates::Shape;
 use gates::Used;
-use gate_local::step_mask;
-use gate_shape::shape_of;
 use word_lists::put;
 use word_lists::put_word;
 use word_lists::word_after;
 use word_lists::word_at;
 
-// What host 0 writes at a gate, with so many words and deals used before it. x is the first mask of a deal or a refresh,
-// and g1 of a product, whose new masks come from A after it and from B. Host 2 knows a deal's second mask from the deal
-// alone.
+// What host 0 writes at a gate, with so many words and deals used before it. x is the first mask of a deal or a
+// refresh, and g1 of a product, whose new masks come from A after it and from B. Host 2 knows a deal's second mask from
+// the deal alone.
 pub fn deal_gate(
     g: Gate,
     a: &[u32],

@@ -51,8 +51,7 @@ module _ (w o x : ℕ) where
           let r = ih (past (deal d f) c) h in
           (record { cur = r .0 .cur; same = rw p (r .0 .same); in-order = r .0 .in-order; at-turn = r .0 .at-turn }, λ ts. rw p (r .1 ts))
       go (exchange d e) p q ih =
-          let r = ih (past (exchange d e) c) h in
-          (
+          let r = ih (past (exchange d e) c) h in (
             record {
               cur = r .0 .cur;
               same = rw (p, not-here o x c (λ z. omega arith)) (r .0 .same);
@@ -71,8 +70,7 @@ module _ (w o x : ℕ) where
   skip-all (suc n) [] c h l t = absurd (omega arith)
   skip-all (suc n) (gs ∷ os) c h l t =
       let p = skip gs (job-steps w os) c (omega arith) in
-      let q = skip-all n os (p .0 .cur) (omega (arith, p .0 .in-order)) (omega arith) (p .0 .at-turn) in
-      (
+      let q = skip-all n os (p .0 .cur) (omega (arith, p .0 .in-order)) (omega arith) (p .0 .at-turn) in (
         record {
           cur = q .0 .cur;
           same = p .0 .same ∙ q .0 .same;

@@ -71,7 +71,7 @@ module _ (w h : ℕ) (M D : List ℕ) (gs : List Gate) (i a dealt : ℕ) (s : Pa
                 ∙ rw (
                   at-gate w gs j ss g (sym ef ∙ eg),
                   passes (worker-with h M D) (order-steps w (drop (suc j) gs) ss) o x a′ b dealt′ (m, l) y (of-gate w g)
-                  (sym (used-b y u eu) ∙ no),
+                      (sym (used-b y u eu) ∙ no),
                   lanes o x b,
                   ej,
                   ea,

@@ -18,15 +18,15 @@ use crate::State;
 use crate::answering::refused;
 use crate::walk::advance;
 use crate::walk::behind;
-use worker_gate::Reach;
-use worker_gate::meet;
 use call_check::check_lent;
+use gate_shape::used_by;
+use job_order::order_at;
 use program_fetch::Fetched;
 use program_fetch::fetch;
-use job_order::order_at;
 use program_seek::Sought;
 use program_seek::seek;
-use gate_shape::used_by;
+use worker_gate::Reach;
+use worker_gate::meet;
 
 // Conditions 8 and 9 past the last order: the end is the number of orders and 0.
 fn end_fault(order: usize, n: usize, turn: u32) -> u32
@@ -121,7 +121,11 @@ impl State {
         }
         match seek(order_at(job, order), table, s.turn) {
             Sought::Nowhere => refused(8, 0, s),
-            Sought::Found { gate, a, deals: dealt } => {
+            Sought::Found {
+                gate,
+                a,
+                deals: dealt,
+            } => {
                 let used = lent.counts;
                 let at = Reach {
                     gate,

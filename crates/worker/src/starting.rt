@@ -9,9 +9,9 @@ use crate::Registers;
 use crate::State;
 use crate::answering::refused;
 use crate::walk::advance;
-use worker_gate::Reach;
 use call_check::check_lent;
 use call_check::fresh;
+use worker_gate::Reach;
 
 // Checks 1 to 7 come first, and a refusal gives the registers back.
 pub fn start(

@@ -13,15 +13,15 @@ ghost use Rattle.worker.specs.Jobs.{Sized};
 use crate::Answer;
 use crate::State;
 use crate::answering::answered;
+use gate_shape::used_by;
+use gates::Used;
+use job_order::order_at;
+use program_fetch::Fetched;
+use program_fetch::fetch;
 use programs::Order;
 use worker_gate::Reach;
 use worker_gate::say;
 use worker_gate::step;
-use gates::Used;
-use program_fetch::Fetched;
-use program_fetch::fetch;
-use job_order::order_at;
-use gate_shape::used_by;
 
 // Behind a gate at which so much is used.
 pub(crate) fn behind(used: Used, at: Reach) -> Reach
@@ -106,7 +106,11 @@ pub(crate) fn advance(
         }
         let a = at.a;
         let dealt = at.deals;
-        at = Reach { gate: 0, a, deals: dealt };
+        at = Reach {
+            gate: 0,
+            a,
+            deals: dealt,
+        };
         order += 1;
         turn = 0;
     }

@@ -7,18 +7,18 @@ ghost use Rattle.gates.specs.Hosts.{on-m, on-mask};
 ghost use Rattle.calls.specs.Calls.{word-at};
 ghost use Rattle.calls.specs.Lent.{worker-with};
 ghost use Rattle.walks.specs.Workers.{cursor, deal-taken, new-mask, sum-of, heard-at};
-use gates::Gate;
-use gates::Shape;
 use gate_local::step_m;
 use gate_local::step_mask;
 use gate_shape::shape_of;
 use gate_shape::used_by;
-use word_lists::put;
-use word_lists::word_after;
-use word_lists::word_at;
 use gate_speak::met_word;
 use gate_speak::word1;
 use gate_speak::word2;
+use gates::Gate;
+use gates::Shape;
+use word_lists::put;
+use word_lists::word_after;
+use word_lists::word_at;
 
 // Where a walk stands in an order: at a gate, with so many words of A and deals used.
 pub struct Reach {

@@ -18,8 +18,7 @@ returns c =
 
 returns-2 : tie.Need-returns-2
 returns-2 c =
-    let t = c .turned-down .ensures in
-    (
+    let t = c .turned-down .ensures in (
       t .0 ∙ other-host _ _ _ _ (λ l u. ⊎-elim (λ z. omega arith) (λ z. omega arith) (c .before .if1 .came)),
       none-counted _ _ _ _ t (λ z. omega arith),
     )
