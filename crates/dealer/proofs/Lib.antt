@@ -1,4 +1,2 @@
 pub mod Programs
 pub mod Orders
-pub mod Checks
-pub mod Answers

@@ -13,14 +13,14 @@ use Rattle.jobs.specs.Job.{job-gates, steps-of}
 use Rattle.jobs.specs.Walk.{order-at}
 use Rattle.jobs.proofs.Orders.{orders-from, no-more}
 use Rattle.walks.specs.Dealers.{Dealer, deal-all, Room}
-use Rattle.walks.proofs.Preparing.{Going, done, program-room, program-done}
+use Rattle.walks.proofs.Preparing.{Midway, done, program-room, program-done}
 
 module _ (w : ℕ) (A B job table : List ℕ) (i : ℕ) where
   -- the steps of the orders from i on
   abbrev pub orders-left : List Step
   orders-left = steps-of w (drop (i * 4) job) table
 
-  module _ (s₀ s : Dealer) (h : Going A B (steps-of w job table) orders-left s₀ s) where
+  module _ (s₀ s : Dealer) (h : Midway A B (steps-of w job table) orders-left s₀ s) where
     module _ (fit : i * 4 + 4 ≤ length job) (o : Order) (eo : o ≡ order-at job i) where
       -- the order's own program, and those behind it
       abbrev own : List Gate
@@ -29,7 +29,7 @@ module _ (w : ℕ) (A B job table : List ℕ) (i : ℕ) where
       abbrev behind : List (List Gate)
       behind = job-gates w (drop ((i + 1) * 4) job) table
 
-      next : Going A B (steps-of w job table) (job-steps w (own ∷ behind)) s₀ s
+      next : Midway A B (steps-of w job table) (job-steps w (own ∷ behind)) s₀ s
       unfolding steps-of job-gates
       next = rw (orders-from job i fit, ← eo) at h
 
@@ -37,7 +37,7 @@ module _ (w : ℕ) (A B job table : List ℕ) (i : ℕ) where
       order-room = program-room w A B (steps-of w job table) s₀ s own behind next
 
       pub order-done : (t : Dealer) → t ≡ deal-all A B (order-steps w own []) s
-          → Going A B (steps-of w job table) (steps-of w (drop ((i + 1) * 4) job) table) s₀ t
+          → Midway A B (steps-of w job table) (steps-of w (drop ((i + 1) * 4) job) table) s₀ t
       unfolding steps-of
       order-done t e = program-done w A B (steps-of w job table) s₀ s own behind next t e
 
@@ -47,4 +47,4 @@ module _ (w : ℕ) (A B job table : List ℕ) (i : ℕ) where
 
     pub job-done : length job / 4 ≤ i → s ≡ deal-all A B (steps-of w job table) s₀
     job-done l =
-        done A B (steps-of w job table) s₀ s (subst (λ (ss : List Step). Going A B (steps-of w job table) ss s₀ s) (none-left l) h)
+        done A B (steps-of w job table) s₀ s (subst (λ (ss : List Step). Midway A B (steps-of w job table) ss s₀ s) (none-left l) h)

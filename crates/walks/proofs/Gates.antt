@@ -1,5 +1,5 @@
 -- The gate at an index of a program, and the program's steps from there on. Assumes nothing.
-use mathlib.Core.Path.{_≡_, refl, ap}
+use mathlib.Core.Path.{_≡_, refl, ap, _∙_}
 use mathlib.Core.List.{List, [], _∷_, _++_}
 use Prim.Native.Nat.{ℕ, zero, suc, _+_, _<_}
 use native.Mathlib.Numerals.{add-one}
@@ -66,10 +66,10 @@ inside (x ∷ gs) (suc i) g e = omega (arith, inside gs i g e)
 -- ---- the steps of a program
 
 -- they stand before those behind it
-pub steps-append : (w : ℕ) (gs : List Gate) (ss : List Step) → order-steps w gs ss ≡ order-steps w gs [] ++ ss
+pub steps-append : (w : ℕ) (gs : List Gate) (ss ts : List Step) → order-steps w gs (ss ++ ts) ≡ order-steps w gs ss ++ ts
 unfolding order-steps
-steps-append w [] ss = refl
-steps-append w (g ∷ gs) ss = ap (λ (xs : List Step). meaning w g ∷ xs) (steps-append w gs ss)
+steps-append w [] ss ts = refl
+steps-append w (g ∷ gs) ss ts = ap (λ (xs : List Step). meaning w g ∷ xs) (steps-append w gs ss ts)
 
 module _ (w : ℕ) (gs : List Gate) (i : ℕ) (ss : List Step) where
   pub at-gate : (g : Gate) → fetched gs i ≡ At g
@@ -87,6 +87,13 @@ pub first-gate : (w : ℕ) (programs : List (List Gate)) → job-steps w program
 unfolding steps-from job-steps
 first-gate w [] = refl
 first-gate w (gs ∷ rest) = refl
+
+-- some of them after others
+pub programs-append : (w : ℕ) (ps qs : List (List Gate)) → job-steps w (ps ++ qs) ≡ job-steps w ps ++ job-steps w qs
+unfolding job-steps
+programs-append w [] qs = refl
+programs-append w (gs ∷ ps) qs =
+    ap (order-steps w gs) (programs-append w ps qs) ∙ steps-append w gs (job-steps w ps) (job-steps w qs)
 
 -- from a gate of one of them on
 module _ (w : ℕ) (programs : List (List Gate)) (o i : ℕ) (gs : List Gate) (e : drop o programs ≡ gs ∷ drop (suc o) programs)

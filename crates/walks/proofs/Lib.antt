@@ -5,6 +5,7 @@ pub mod Within
 pub mod Programs
 pub mod Seeking
 pub mod Before
-pub mod Scripts
+pub mod Answers
 pub mod Dealers
 pub mod Preparing
+pub mod Prepared

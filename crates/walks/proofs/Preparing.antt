@@ -77,36 +77,36 @@ module _ (A B : List ℕ) where
   -- ---- steps and then others
 
   -- at the head, with the steps ss left of the steps ss₀ that began at s₀
-  pub record Going (ss₀ ss : List Step) (s₀ s : Dealer) : Type 0 where
+  pub record Midway (ss₀ ss : List Step) (s₀ s : Dealer) : Type 0 where
     pub same : deal-all A B ss s ≡ deal-all A B ss₀ s₀
     pub room : Room A B ss s
     pub size : length (s .buffer) ≡ length (s₀ .buffer)
 
-  pub begins : (ss : List Step) (s : Dealer) → Room A B ss s → Going ss ss s s
+  pub begins : (ss : List Step) (s : Dealer) → Room A B ss s → Midway ss ss s s
   begins ss s h = record { same = refl; room = h; size = refl }
 
   module _ (ss₀ : List Step) (s₀ s : Dealer) where
-    pub done : Going ss₀ [] s₀ s → s ≡ deal-all A B ss₀ s₀
+    pub done : Midway ss₀ [] s₀ s → s ≡ deal-all A B ss₀ s₀
     unfolding deal-all
     done h = h .same
 
     -- the steps ts come first, then us
-    module _ (ss ts us : List Step) (e : ss ≡ ts ++ us) (h : Going ss₀ ss s₀ s) where
+    module _ (ss ts us : List Step) (e : ss ≡ ts ++ us) (h : Midway ss₀ ss s₀ s) where
       pub room-now : Room A B ts s
       room-now = room-first ts us s (rw e at (h .room))
 
-      pub further : (t : Dealer) → t ≡ deal-all A B ts s → Going ss₀ us s₀ t
+      pub further : (t : Dealer) → t ≡ deal-all A B ts s → Midway ss₀ us s₀ t
       further t et =
           let p : deal-all A B (ts ++ us) s ≡ deal-all A B ss₀ s₀ = rw e at (h .same) in
           let q : Room A B (ts ++ us) s = rw e at (h .room) in
-          let g : Going ss₀ us s₀ (deal-all A B ts s) =
+          let g : Midway ss₀ us s₀ (deal-all A B ts s) =
           record { same = sym (deal-append ts us s) ∙ p; room = room-after ts us s q; size = sizes-kept ts s ∙ h .size } in
           rw et g
 
 -- ---- the gates of a program
 
 module _ (w : ℕ) (A B : List ℕ) (ss₀ : List Step) (s₀ s : Dealer) where
-  module _ (gs : List Gate) (i : ℕ) (h : Going A B ss₀ (order-steps w (drop i gs) []) s₀ s) (f : Fetched) (ef : f ≡ fetched gs i) where
+  module _ (gs : List Gate) (i : ℕ) (h : Midway A B ss₀ (order-steps w (drop i gs) []) s₀ s) (f : Fetched) (ef : f ≡ fetched gs i) where
     module _ (g : Gate) (eg : f ≡ At g) where
       next-gate : order-steps w (drop i gs) [] ≡ (meaning w g ∷ []) ++ order-steps w (drop (i + 1) gs) []
       next-gate = rw (add-one i) (at-gate w gs i [] g (sym ef ∙ eg))
@@ -114,7 +114,7 @@ module _ (w : ℕ) (A B : List ℕ) (ss₀ : List Step) (s₀ s : Dealer) where
       pub gate-room : Room A B (meaning w g ∷ []) s
       gate-room = room-now A B ss₀ s₀ s _ (meaning w g ∷ []) (order-steps w (drop (i + 1) gs) []) next-gate h
 
-      pub gate-done : (t : Dealer) → t ≡ dealing A B (meaning w g) s → Going A B ss₀ (order-steps w (drop (i + 1) gs) []) s₀ t
+      pub gate-done : (t : Dealer) → t ≡ dealing A B (meaning w g) s → Midway A B ss₀ (order-steps w (drop (i + 1) gs) []) s₀ t
       unfolding deal-all
       gate-done t e = further A B ss₀ s₀ s _ (meaning w g ∷ []) (order-steps w (drop (i + 1) gs) []) next-gate h t e
 
@@ -124,13 +124,13 @@ module _ (w : ℕ) (A B : List ℕ) (ss₀ : List Step) (s₀ s : Dealer) where
 
   -- ---- a list of programs
 
-  module _ (gs : List Gate) (rest : List (List Gate)) (h : Going A B ss₀ (job-steps w (gs ∷ rest)) s₀ s) where
+  module _ (gs : List Gate) (rest : List (List Gate)) (h : Midway A B ss₀ (job-steps w (gs ∷ rest)) s₀ s) where
     next-program : job-steps w (gs ∷ rest) ≡ order-steps w gs [] ++ job-steps w rest
     unfolding job-steps
-    next-program = steps-append w gs (job-steps w rest)
+    next-program = steps-append w gs [] (job-steps w rest)
 
     pub program-room : Room A B (order-steps w gs []) s
     program-room = room-now A B ss₀ s₀ s _ (order-steps w gs []) (job-steps w rest) next-program h
 
-    pub program-done : (t : Dealer) → t ≡ deal-all A B (order-steps w gs []) s → Going A B ss₀ (job-steps w rest) s₀ t
+    pub program-done : (t : Dealer) → t ≡ deal-all A B (order-steps w gs []) s → Midway A B ss₀ (job-steps w rest) s₀ t
     program-done t e = further A B ss₀ s₀ s _ (order-steps w gs []) (job-steps w rest) next-program h t e

@@ -6,7 +6,7 @@ use denote.Ref.{now}
 use lib.ListN.{length}
 use Rattle.jobs.specs.Job.{steps-of}
 use Rattle.walks.specs.Dealers.{dealer, outset}
-use Rattle.walks.proofs.Preparing.{Going, begins}
+use Rattle.walks.proofs.Preparing.{Midway, begins}
 use Rattle.dealer.proofs.Orders.{orders-left, order-room, order-done, job-done}
 use Rattle.dealer.proofs.preparing.deal_job.Statement.{statement}
 use Rattle.dealer.proofs.preparing.deal_job.Tie as tie
@@ -14,7 +14,7 @@ use Rattle.dealer.proofs.preparing.deal_job.Tie as tie
 abbrev Inv-loop : tie.InvT-loop
 Inv-loop job table a b l1₀ l2₀ deals₀ n used₀ o₀ l1 l2 deals used o =
     (n ≡ length job / 4)
-    × Going a b (steps-of 32 job table) (orders-left 32 a b job table o) (outset l1₀ l2₀ deals₀) (dealer used l1 l2 deals)
+    × Midway a b (steps-of 32 job table) (orders-left 32 a b job table o) (outset l1₀ l2₀ deals₀) (dealer used l1 l2 deals)
 
 abbrev μ-loop : tie.MeasureT-loop
 μ-loop job table a b l1₀ l2₀ deals₀ n used₀ o₀ l1 l2 deals used o = n - o

@@ -11,7 +11,7 @@ use Rattle.programs.specs.Orders.{program}
 use Rattle.walks.specs.Dealers.{dealer, dealing, Room}
 use Rattle.walks.proofs.Gates.{inside}
 use Rattle.walks.proofs.Dealers.{joined}
-use Rattle.walks.proofs.Preparing.{Going, begins, gate-room, gate-done, gates-done}
+use Rattle.walks.proofs.Preparing.{Midway, begins, gate-room, gate-done, gates-done}
 use Rattle.dealer.proofs.Programs.{few}
 use Rattle.dealer.proofs.preparing.deal_order.Statement.{statement}
 use Rattle.dealer.proofs.preparing.deal_order.Tie as tie
@@ -19,7 +19,7 @@ use Rattle.dealer.proofs.preparing.deal_order.Tie as tie
 abbrev Inv-loop : tie.InvT-loop
 Inv-loop o table a b l1₀ l2₀ deals₀ at₀ i₀ l1 l2 deals at i =
     let gs = program 32 (rows table) o in
-    Going a b (order-steps 32 gs []) (order-steps 32 (drop i gs) []) (dealer at₀ l1₀ l2₀ deals₀) (dealer at l1 l2 deals)
+    Midway a b (order-steps 32 gs []) (order-steps 32 (drop i gs) []) (dealer at₀ l1₀ l2₀ deals₀) (dealer at l1 l2 deals)
 
 abbrev μ-loop : tie.MeasureT-loop
 μ-loop o table a b l1₀ l2₀ deals₀ at₀ i₀ l1 l2 deals at i = length (program 32 (rows table) o) - i

@@ -5,7 +5,7 @@ use Rattle.gates.specs.Costs.{Cost}
 use Rattle.jobs.specs.Job.{Fault, job-cost}
 use Rattle.calls.specs.Scripts.{job-script}
 use Rattle.calls.proofs.Faults.{no-fault-passed}
-use Rattle.dealer.proofs.Answers.{room-outset, refused, dealt-count, finished}
+use Rattle.walks.proofs.Prepared.{room-outset, refused, dealt-count, finished}
 use borrow.Author.Needs.{needs}
 use Rattle.dealer.proofs.preparing.prepare.Statement.{statement}
 use Rattle.dealer.proofs.preparing.prepare.Tie as tie

@@ -9,7 +9,7 @@ use Rattle.calls.proofs.Scripts.{job-made}
 use Rattle.worker.specs.Answers.{state-of}
 use Rattle.worker.proofs.Jobs.{gates-count, gates-drop, sized}
 use Rattle.walks.proofs.Gates.{steps-at}
-use Rattle.walks.proofs.Scripts.{hear-refused, at-nowhere, at-exchange, past-programs}
+use Rattle.walks.proofs.Answers.{hear-refused, at-nowhere, at-exchange, past-programs}
 use Rattle.worker.proofs.Places.{There, accepted, none-there, found-there}
 use borrow.Author.Needs.{needs}
 use Rattle.worker.proofs.State.hear.Statement.{statement}

@@ -7,7 +7,7 @@ use Rattle.calls.proofs.Scripts.{job-made}
 use Rattle.worker.specs.Answers.{lanes-of}
 use Rattle.calls.proofs.Faults.{no-fault}
 use Rattle.worker.proofs.Jobs.{sized}
-use Rattle.walks.proofs.Scripts.{start-refused, started}
+use Rattle.walks.proofs.Answers.{start-refused, started}
 use borrow.Author.Needs.{needs}
 use Rattle.worker.proofs.starting.start.Statement.{statement}
 use Rattle.worker.proofs.starting.start.Tie as tie
