@@ -1,6 +1,6 @@
 -- Preparation's walk over the orders of a job: a turn, and the end. Assumes nothing.
-use mathlib.Core.Path.{_≡_, ap, subst, _∙_}
-use mathlib.Core.List.{List, [], _∷_, map}
+use mathlib.Core.Path.{_≡_, subst}
+use mathlib.Core.List.{List, [], _∷_}
 use Prim.Native.Nat.{ℕ, _+_, _*_, _/_, _≤_}
 use lib.ListN.{length, drop}
 use Rattle.gates.specs.declared.Gate.{Gate}

@@ -1,8 +1,8 @@
 // Host 0's preparation of a job: its deals, in gate order, and its masks of all registers.
 ghost use mathlib.Core.Path.{_≡_};
-ghost use mathlib.Core.List.{List, [], _∷_};
+ghost use mathlib.Core.List.{List, []};
 ghost use Prim.Native.Nat.{ℕ, _^_, _<_};
-ghost use lib.ListN.{length, take};
+ghost use lib.ListN.{take};
 ghost use Rattle.gates.specs.Meaning.{meaning, order-steps};
 ghost use Rattle.tables.specs.Table.{rows};
 ghost use Rattle.programs.specs.Orders.{program};

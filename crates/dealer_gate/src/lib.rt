@@ -1,5 +1,4 @@
 // Host 0 at one gate: its lanes are written in place, and a deal goes into the buffer behind those written before.
-ghost use mathlib.Core.Path.{_≡_};
 ghost use Rattle.gates.specs.Meaning.{meaning};
 ghost use Rattle.walks.specs.Dealers.{dealer, Holds, dealing};
 use gate_deal::deal_word;

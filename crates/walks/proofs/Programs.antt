@@ -1,6 +1,6 @@
 -- The walk of host 1 or 2 over a list of programs, a program at a time, and on from a product or refresh where the
 -- other's word was heard; on plain values. Assumes nothing.
-use mathlib.Core.Path.{_≡_, refl, sym, ap, subst, _∙_}
+use mathlib.Core.Path.{_≡_, sym, ap, subst, _∙_}
 use mathlib.Core.List.{List, [], _∷_}
 use Prim.Native.Nat.{ℕ, suc, _+_}
 use native.Mathlib.Numerals.{add-one}

@@ -1,12 +1,9 @@
-use mathlib.Core.Path.{_≡_, refl, sym, subst, _∙_}
+use mathlib.Core.Path.{_≡_, refl, sym, _∙_}
 use denote.Ref.{now}
 use borrow.Author.Needs.{needs}
 use native.Mathlib.Omega.{arith}
 use Prim.Native.Nat.{_*_, _/_, _+_, _-_, _^_, _<_, _≤_}
 use lib.ListN.{length, drop}
-use Rattle.tables.specs.Table.{rows}
-use Rattle.programs.specs.Orders.{program}
-use Rattle.programs.specs.declared.Order.{Order}
 use Rattle.jobs.specs.Job.{job-gates}
 use Rattle.walks.specs.Workers.{cursor}
 use Rattle.walks.specs.Halts.{steps-from, reported}
