@@ -22,7 +22,7 @@ use Rattle.calls.specs.Calls.{hear-walk, place-fault, found-of, resume, hear}
 use Rattle.walks.specs.Workers.{cursor}
 use Rattle.walks.specs.Halts.{reported, steps-from}
 use Rattle.walks.proofs.Gates.{first-gate}
-use Rattle.walks.proofs.Before.{past-end, at-end, no-turn}
+use Rattle.walks.proofs.Places.{past-end, at-end, no-turn}
 
 -- ---- the fault's refusal, or the answer
 

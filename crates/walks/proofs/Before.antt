@@ -1,36 +1,28 @@
--- A place in a list of programs: the programs before it are passed, with the sums of their counts, which are small where the
--- programs are short. Assumes nothing.
-use mathlib.Core.Path.{_≡_, refl, sym, ap, subst, _∙_}
+-- The programs before a place in a list of programs: the search for the place passes them, with the sums of their counts, which are
+-- small where the programs are short. Assumes nothing.
+use mathlib.Core.Path.{_≡_, refl, _∙_}
 use mathlib.Core.List.{List, [], _∷_}
 use Prim.Native.Nat.{ℕ, zero, suc, _+_, _*_, _≤_, _<_}
 use native.Mathlib.Nat.{mul-suc}
 use native.Mathlib.Omega.{arith}
 use lib.ListN.{length, getD, take, drop}
-use lib.Seq.{drop-length, drop-cons}
 use Rattle.gates.specs.declared.Gate.{Gate}
-use Rattle.gates.specs.Steps.{product, refresh, Step, local, deal, exchange, end, Cursor, origin, past}
+use Rattle.gates.specs.Steps.{product, refresh, Step, local, deal, exchange, end, Cursor, past}
 use Rattle.gates.specs.Meaning.{meaning, order-steps, job-steps}
 use Rattle.gates.specs.Walk.{far}
 use Rattle.gates.specs.Costs.{Cost, plus, step-cost, cost}
-use Rattle.gates.proofs.Needs.{Further, far-used}
-use Rattle.program_seek.specs.declared.Sought.the-variants.{Nowhere}
-use Rattle.program_seek.specs.Seek.{sought}
-use Rattle.calls.specs.Places.{nowhere, found, seek}
-use Rattle.walks.specs.Workers.{cursor}
+use Rattle.calls.specs.Places.{seek}
 use Rattle.walks.proofs.Gates.{OfGate, of-gate}
-use Rattle.walks.proofs.Seeking.{not-here, just-here, not-yet, Placed, not-placed}
-
-cursor-path : {c d : Cursor} → c .order ≡ d .order → c .turn ≡ d .turn → c .a ≡ d .a → c .b ≡ d .b → c .deals ≡ d .deals → c ≡ d
-cursor-path p q r s t = λ i. record { order = p i; turn = q i; a = r i; b = s i; deals = t i }
+use Rattle.walks.proofs.Seeking.{not-here}
 
 -- ---- the programs before a place are passed
 
 -- what seeks the place (o, x) from c on seeks it from cur on, with the steps left
-record Passed (o x : ℕ) (c : Cursor) (from left : List Step) (orders : ℕ) : Type 0 where
-  cur : Cursor
-  same : seek o x from c ≡ seek o x left cur
-  in-order : cur .order ≡ c .order + orders
-  at-turn : cur .turn ≡ 0
+pub record Passed (o x : ℕ) (c : Cursor) (from left : List Step) (orders : ℕ) : Type 0 where
+  pub cur : Cursor
+  pub same : seek o x from c ≡ seek o x left cur
+  pub in-order : cur .order ≡ c .order + orders
+  pub at-turn : cur .turn ≡ 0
 
 module _ (w o x : ℕ) where
   -- what is passed with the program gs, whatever stands behind it
@@ -63,7 +55,7 @@ module _ (w o x : ℕ) where
       go end p q ih = absurd q
 
   -- n programs
-  skip-all : (n : ℕ) (programs : List (List Gate)) (c : Cursor) → c .order + n ≤ o → n ≤ length programs → c .turn ≡ 0
+  pub skip-all : (n : ℕ) (programs : List (List Gate)) (c : Cursor) → c .order + n ≤ o → n ≤ length programs → c .turn ≡ 0
       → (p : Passed o x c (job-steps w programs) (job-steps w (drop n programs)) n) × (far (job-steps w (take n programs)) c ≡ p .cur)
   unfolding job-steps far
   skip-all zero os c h l t = (record { cur = c; same = refl; in-order = omega arith; at-turn = t }, refl)
@@ -80,67 +72,11 @@ module _ (w o x : ℕ) where
         p .1 (job-steps w (take n os)) ∙ q .1,
       )
 
--- ---- the places
+-- ---- their counts, which are small where the programs are short
 
 -- the counts of the programs before the one at o
 abbrev pub before : (w : ℕ) → (programs : List (List Gate)) → (o : ℕ) → Cost
 before w os o = cost (job-steps w (take o os))
-
-module _ (w : ℕ) (programs : List (List Gate)) (o x : ℕ) where
-  pub past-end : length programs < o → seek o x (job-steps w programs) origin ≡ nowhere
-  unfolding seek job-steps
-  past-end h =
-      let p = skip-all w o x (length programs) programs origin (omega arith) (omega arith) refl in
-      p .0 .same ∙ rw (drop-length programs, not-here o x (p .0 .cur) (λ e. omega (arith, p .0 .in-order)))
-
-  pub at-end : o ≡ length programs → x ≡ 0 → (c : Cursor) × (seek o x (job-steps w programs) origin ≡ found [] c)
-  unfolding seek job-steps
-  at-end h z =
-      let p = skip-all w o x (length programs) programs origin (omega arith) (omega arith) refl in
-      let here = just-here o x (p .0 .cur) (omega (arith, p .0 .in-order)) (omega (arith, p .0 .at-turn)) in
-      (p .0 .cur, p .0 .same ∙ rw (drop-length programs, here))
-
-  pub no-turn : o ≡ length programs → (x ≡ 0 → ⊥) → seek o x (job-steps w programs) origin ≡ nowhere
-  unfolding seek job-steps
-  no-turn h z =
-      let p = skip-all w o x (length programs) programs origin (omega arith) (omega arith) refl in
-      p .0 .same ∙ rw (drop-length programs, not-yet o x (p .0 .cur) (λ e. z (sym e ∙ p .0 .at-turn)))
-
-  module _ (h : o < length programs) where
-    -- the program at o, and the steps behind it
-    abbrev own : List Gate
-    own = getD programs o []
-
-    abbrev later : List Step
-    later = job-steps w (drop (suc o) programs)
-
-    pub no-place : sought w own x 0 0 0 ≡ Nowhere → seek o x (job-steps w programs) origin ≡ nowhere
-    unfolding job-steps
-    no-place e =
-        let p = skip-all w o x o programs origin (omega arith) (omega arith) refl in
-        let none = not-placed w own later x 0 0 0 o x (p .0 .cur) e (omega (arith, p .0 .in-order)) (omega (arith, p .0 .at-turn)) in
-        p .0 .same ∙ rw (drop-cons programs o [] h) none
-
-    pub at-place : (i a dealt : ℕ) (q : Placed w own later x 0 0 0 i a dealt)
-        → seek o x (job-steps w programs) origin
-        ≡ found (meaning w (q .gate) ∷ order-steps w (drop (suc (q .j)) own) later)
-        (cursor o x (before w programs o .a + a) (before w programs o .b + x) (before w programs o .deals + dealt))
-    unfolding job-steps
-    at-place i a dealt q =
-        let p = skip-all w o x o programs origin (omega arith) (omega arith) refl in
-        let u : Further origin (before w programs o) (p .0 .cur) =
-        subst (λ (c : Cursor). Further origin (before w programs o) c) (p .1) (far-used (job-steps w (take o programs)) origin) in
-        let r = q .reached o x (p .0 .cur) (omega (arith, p .0 .in-order)) (omega (arith, p .0 .at-turn)) in
-        let left = meaning w (q .gate) ∷ order-steps w (drop (suc (q .j)) own) later in
-        let e : seek o x (job-steps w (drop o programs)) (p .0 .cur) ≡ found left (r .cur) = rw (drop-cons programs o [] h) (r .is) in
-        p .0 .same ∙ e
-        ∙ ap (λ (c : Cursor). found left c)
-        (cursor-path (omega (arith, p .0 .in-order, r .in-order)) (omega (arith, p .0 .at-turn, r .at-turn))
-        (omega (arith, u .a, r .used-a))
-        (omega (arith, u .b, r .used-b))
-        (omega (arith, u .deals, r .used-deals)))
-
--- ---- the counts of short programs are small
 
 -- at most two words of A and one of B and a deal for each of n gates
 pub record Below (k : Cost) (n : ℕ) : Type 0 where

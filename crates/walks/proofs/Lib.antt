@@ -5,6 +5,7 @@ pub mod Within
 pub mod Programs
 pub mod Seeking
 pub mod Before
+pub mod Places
 pub mod Answers
 pub mod Dealers
 pub mod Preparing

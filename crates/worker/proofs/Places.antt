@@ -1,14 +1,13 @@
 -- A state's place in its job, as the code finds it: which gate stands there, and what is used before it. Assumes nothing.
 use mathlib.Core.Path.{_≡_, sym, ap, subst, _∙_}
 use mathlib.Core.List.{List, [], _∷_}
-use Prim.Native.Nat.{ℕ, suc, _+_, _*_, _/_, _^_, _≤_, _<_}
-use native.Mathlib.Nat.{zero-add}
+use Prim.Native.Nat.{ℕ, _+_, _*_, _/_, _^_, _≤_, _<_}
 use native.Mathlib.Omega.{arith}
 use lib.ListN.{length, getD, take, drop}
 use Rattle.tables.specs.Table.{rows}
 use Rattle.gates.specs.declared.Gate.{Gate}
-use Rattle.gates.specs.Steps.{Step, origin}
-use Rattle.gates.specs.Meaning.{meaning, order-steps, job-steps}
+use Rattle.gates.specs.Steps.{origin}
+use Rattle.gates.specs.Meaning.{meaning, job-steps}
 use Rattle.gates.specs.Walk.{Exchanging}
 use Rattle.gates.specs.Costs.{Cost}
 use Rattle.programs.specs.declared.Order.{Order}
@@ -28,11 +27,11 @@ use Rattle.calls.specs.Places.{nowhere, found, seek}
 use Rattle.calls.proofs.Faults.{no-fault}
 use Rattle.walks.specs.Workers.{cursor}
 use Rattle.walks.specs.Halts.{steps-from}
-use Rattle.walks.proofs.Gates.{never, inside, steps-there}
-use Rattle.walks.proofs.Seeking.{Placed, placed}
-use Rattle.walks.proofs.Before.{before, no-place, at-place, Below, before-below}
+use Rattle.walks.proofs.Gates.{never}
+use Rattle.walks.proofs.Before.{before}
+use Rattle.walks.proofs.Places.{no-place, found-at}
 use Rattle.worker.specs.Jobs.{Sized, Standing}
-use Rattle.worker.proofs.Jobs.{gates-count, gates-drop, gates-at, cost-before}
+use Rattle.worker.proofs.Jobs.{gates-count, gates-at, cost-before}
 
 -- a state stands there, all its numbers are small, and it is what `seek` finds: the gate i, with a words of A, b of B and so many
 -- deals used before it
@@ -46,59 +45,39 @@ pub record There (w : ℕ) (job table : List ℕ) (o x i a b dealt : ℕ) : Type
   pub is : seek o x (job-steps w (job-gates w job table)) origin
       ≡ found (steps-from w i (drop o (job-gates w job table))) (cursor o x a b dealt)
 
--- ---- the order's program at the place
-
 module _ (w : ℕ) (job table : List ℕ) where
+  -- the program of the order at o
   abbrev own : ℕ → List Gate
   own o = program w (rows table) (order-at job o)
 
-  abbrev behind : ℕ → List Step
-  behind o = job-steps w (drop (suc o) (job-gates w job table))
-
-  -- the counts of the orders before, and then those in the order
-  abbrev Here : (o x i a dealt : ℕ) → Type 0
-  Here o x i a n =
-      let k = before w (job-gates w job table) o in
-      There w job table o x i (k .a + a) (k .b + x) (k .deals + n)
-
   module _ (o x : ℕ) (e : o < length job / 4) where
-    -- the steps behind the gate that was sought
-    steps : {i a dealt : ℕ} {gs : List Gate} (p : Placed w gs (behind o) x 0 0 0 i a dealt) → i ≡ p .j → gs ≡ own o
-        → fetched (own o) i ≡ At (p .gate)
-        → meaning w (p .gate) ∷ order-steps w (drop (suc (p .j)) gs) (behind o) ≡ steps-from w i (drop o (job-gates w job table))
-    steps p ei eg at =
-        rw (← ei, eg) (sym (steps-there w (job-gates w job table) o _ _ (gates-drop w job table o e) (p .gate) at))
+    in-gates : o < length (job-gates w job table)
+    in-gates = omega (arith, gates-count w job table)
 
-    pub found-here : Sized w job table → (i a dealt : ℕ) → sought w (own o) x 0 0 0 ≡ Sought.Found i a dealt → Here o x i a dealt
+    sought-own : sought w (getD (job-gates w job table) o []) x 0 0 0 ≡ sought w (own o) x 0 0 0
+    sought-own = ap (λ (gs : List Gate). sought w gs x 0 0 0) (gates-at w job table o e)
+
+    pub found-here : Sized w job table → (i a dealt : ℕ) → sought w (own o) x 0 0 0 ≡ Sought.Found i a dealt
+        → let k = before w (job-gates w job table) o in
+        There w job table o x i (k .a + a) (k .b + x) (k .deals + dealt)
     found-here Z i a n s =
         let os = job-gates w job table in
-        let k = before w os o in
-        let eg : getD os o [] ≡ own o = gates-at w job table o e in
-        let p : Placed w (getD os o []) (behind o) x 0 0 0 i a n =
-        placed w (getD os o []) _ x 0 0 0 i a n (ap (λ (z : List Gate). sought w z x 0 0 0) eg ∙ s) in
-        let ei : i ≡ p .j = p .on ∙ zero-add (p .j) in
-        let at : fetched (own o) i ≡ At (p .gate) =
-        ap (λ (n : ℕ). fetched (own o) n) ei ∙ ap (λ (z : List Gate). fetched z (p .j)) (sym eg) ∙ p .there in
-        let l : i < length (own o) = inside (own o) i (p .gate) at in
-        let f : length (own o) ≤ 1000 = Z .few-gates o e in
-        let short : (q : ℕ) → q < o → length (getD os q []) ≤ 1000 =
+        let short : (q : ℕ) → q ≤ o → length (getD os q []) ≤ 1000 =
         λ q h. subst (λ (z : List Gate). length z ≤ 1000) (sym (gates-at w job table q (omega arith))) (Z .few-gates q (omega arith)) in
-        let b : Below k (1000 * o) = before-below w 1000 os o short in
+        let p = found-at w os o x in-gates 1000 short i a n (sought-own ∙ s) in
+        let at : fetched (own o) i ≡ At (p .gate) = ap (λ (z : List Gate). fetched z i) (sym (gates-at w job table o e)) ∙ p .there in
         record {
           standing = record { in-job = e; held = p .gate; there = at; speaks = p .speaks };
-          few-gates = omega arith;
-          few-turns = omega (arith, p .turns);
-          few-a = omega (arith, p .few-a, b .few-a, Z .few-words);
-          few-b = omega (arith, p .turns, b .few-b, Z .few-words);
-          few-deals = omega (arith, p .few-deals, b .few-deals, Z .few-words);
-          is = at-place w os o x (omega (arith, gates-count w job table)) i a n p
-              ∙ ap (λ (ss : List Step). found ss (cursor o x (k .a + a) (k .b + x) (k .deals + n))) (steps p ei eg at);
+          few-gates = p .few-gates;
+          few-turns = omega (arith, p .few-gates, p .few-turns);
+          few-a = omega (arith, p .few-gates, p .few-a, Z .few-words);
+          few-b = omega (arith, p .few-gates, p .few-b, Z .few-words);
+          few-deals = omega (arith, p .few-gates, p .few-deals, Z .few-words);
+          is = p .is;
         }
 
     pub nowhere-here : sought w (own o) x 0 0 0 ≡ Nowhere → seek o x (job-steps w (job-gates w job table)) origin ≡ nowhere
-    nowhere-here s =
-        no-place w (job-gates w job table) o x (omega (arith, gates-count w job table))
-        (ap (λ (gs : List Gate). sought w gs x 0 0 0) (gates-at w job table o e) ∙ s)
+    nowhere-here s = no-place w (job-gates w job table) o x in-gates (sought-own ∙ s)
 
   -- ---- what the code has in hand: its lists are checked, the order and its place in it are found, and the orders before are counted
 
