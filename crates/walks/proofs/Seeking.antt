@@ -84,13 +84,13 @@ takes (refresh O p) a dealt = omega arith
 
 module _ (w : ℕ) (g : Gate) (gs : List Gate) (ss : List Step) (i a dealt i′ a′ dealt′ : ℕ) where
   -- at a gate that is passed, the law of the gates behind it
-  further : (n m b l : ℕ) → Placed w gs ss m (suc i) b l i′ a′ dealt′ → n ≤ suc m → b ≤ a + 2 → l ≤ suc dealt
-      → ((o x : ℕ) (c : Cursor) → c .order ≡ o → x ≡ c .turn + n → (q : Placed w gs ss m (suc i) b l i′ a′ dealt′)
+  further : (n m a₁ dealt₁ : ℕ) → Placed w gs ss m (suc i) a₁ dealt₁ i′ a′ dealt′ → n ≤ suc m → a₁ ≤ a + 2 → dealt₁ ≤ suc dealt
+      → ((o x : ℕ) (c : Cursor) → c .order ≡ o → x ≡ c .turn + n → (q : Placed w gs ss m (suc i) a₁ dealt₁ i′ a′ dealt′)
       → Reached (seek o x (meaning w g ∷ order-steps w gs ss) c) (meaning w (q .gate) ∷ order-steps w (drop (suc (q .j)) gs) ss) c
       n a dealt a′ dealt′)
       → Placed w (g ∷ gs) ss n i a dealt i′ a′ dealt′
   unfolding fetched order-steps
-  further n m b l p hn ha hk r =
+  further n m a₁ dealt₁ p hn ha hk r =
       record {
         j = suc (p .j);
         gate = p .gate;
@@ -153,7 +153,7 @@ module _ (w : ℕ) (g : Gate) (gs : List Gate) (ss : List Step) (i a dealt i′ 
         used-deals = omega (arith, r .used-deals);
       })
 
-  passed : ((m j b l : ℕ) → sought w gs m j b l ≡ Sought.Found i′ a′ dealt′ → Placed w gs ss m j b l i′ a′ dealt′)
+  passed : ((m j a₁ dealt₁ : ℕ) → sought w gs m j a₁ dealt₁ ≡ Sought.Found i′ a′ dealt′ → Placed w gs ss m j a₁ dealt₁ i′ a′ dealt′)
       → (y : Step) (n : ℕ) → meaning w g ≡ y → OfGate y → sought-at (shape y) n i a dealt (sought w gs) ≡ Sought.Found i′ a′ dealt′
       → Placed w (g ∷ gs) ss n i a dealt i′ a′ dealt′
   unfolding sought-at shape seek past new-at past-deal
@@ -186,7 +186,8 @@ pub placed : (w : ℕ) (gs : List Gate) (ss : List Step) (n i a dealt i′ a′ 
 unfolding sought
 placed w [] ss n i a dealt i′ a′ dealt′ e = never (cc)
 placed w (g ∷ gs) ss n i a dealt i′ a′ dealt′ e =
-    passed w g gs ss i a dealt i′ a′ dealt′ (λ m j b l f. placed w gs ss m j b l i′ a′ dealt′ f) (meaning w g) n refl (of-gate w g) e
+    passed w g gs ss i a dealt i′ a′ dealt′ (λ m j a₁ dealt₁ f. placed w gs ss m j a₁ dealt₁ i′ a′ dealt′ f) (meaning w g) n refl
+    (of-gate w g) e
 
 -- where there is no n-th product or refresh in the order o, there is no such place
 pub not-placed : (w : ℕ) (gs : List Gate) (ss : List Step) (n i a dealt o x : ℕ) (c : Cursor)
@@ -195,9 +196,9 @@ pub not-placed : (w : ℕ) (gs : List Gate) (ss : List Step) (n i a dealt o x : 
 unfolding sought sought-at shape order-steps seek past
 not-placed w [] ss n i a dealt o x c e ho hx = gone o x ss _ (omega arith)
 not-placed w (g ∷ gs) ss n i a dealt o x c e ho hx =
-    go (λ m j b l d f p q. not-placed w gs ss m j b l o x d f p q) (meaning w g) n refl (of-gate w g) e hx
+    go (λ m j a₁ dealt₁ d f p q. not-placed w gs ss m j a₁ dealt₁ o x d f p q) (meaning w g) n refl (of-gate w g) e hx
   where
-    go : ((m j b l : ℕ) (d : Cursor) → sought w gs m j b l ≡ Nowhere → d .order ≡ o → x ≡ d .turn + m
+    go : ((m j a₁ dealt₁ : ℕ) (d : Cursor) → sought w gs m j a₁ dealt₁ ≡ Nowhere → d .order ≡ o → x ≡ d .turn + m
         → seek o x (order-steps w gs ss) d ≡ nowhere)
         → (y : Step) (m : ℕ) → meaning w g ≡ y → OfGate y → sought-at (shape y) m i a dealt (sought w gs) ≡ Nowhere → x ≡ c .turn + m
         → seek o x (meaning w g ∷ order-steps w gs ss) c ≡ nowhere
