@@ -125,8 +125,8 @@ module _ (w : ℕ) (job table : List ℕ) (e : job-fault w job table .0 ≡ 0) w
       (accepted-orders w job table e o (omega (arith, order-count job)) (order-at job o))
 
   rules-kept : (o : ℕ) → o < length job / 4 → order-at job o .kind ≡ 10 → Rules table
-  rules-kept o h k =
-      rules table .0 (subst T (sym (curve-ruled w (keeps-rules table) (order-at job o) (order-good o h) k .1)) tt)
+  rules-kept o h c =
+      rules table .0 (subst T (sym (curve-ruled w (keeps-rules table) (order-at job o) (order-good o h) c .1)) tt)
 
   -- where the programs of the width are short
   pub sized-by : ((o : Order) → (o .kind ≡ 10 → length (rows table) ≤ 16) → length (program w (rows table) o) ≤ 1000) → Sized w job table
@@ -135,8 +135,8 @@ module _ (w : ℕ) (job table : List ℕ) (e : job-fault w job table .0 ≡ 0) w
       record {
         few-words = p .0;
         whole-orders = omega (arith, p .1);
-        few-gates = λ o h. short (order-at job o) (λ k. rules-kept o h k .at-most);
-        short-table = λ o h k. let u = rules-kept o h k in omega (arith, u .at-most, u .whole-rows);
+        few-gates = λ o h. short (order-at job o) (λ c. rules-kept o h c .at-most);
+        short-table = λ o h c. let u = rules-kept o h c in omega (arith, u .at-most, u .whole-rows);
       }
 
 pub sized : (job table : List ℕ) → job-fault 32 job table .0 ≡ 0 → Sized 32 job table
