@@ -11,19 +11,20 @@ use lib.Seq.{take-all}
 use Rattle.gates.specs.Costs.{Cost, cost-of}
 use Rattle.jobs.specs.Job.{Fault, job-fault, job-cost, short-a, short-b, short-deals}
 use Rattle.jobs.specs.Walk.{counted}
-use Rattle.jobs.specs.Answers.{check-job}
 use Rattle.calls.specs.Scripts.{Script, job-script}
 use Rattle.calls.specs.Lent.{lent, or-else, lists-fault, lent-fault, passed, dealer-lists-fault}
-use Rattle.calls.proofs.Faults.{accepted-tells, or-accepted, no-host, none-passed}
+use Rattle.calls.proofs.Faults.{Accepts, accepted-tells, or-accepted, no-host, none-passed}
 use Rattle.call_check.specs.declared.lending.Lending.{Lending}
 use Rattle.call_check.specs.Faults.{fault-of, needs-of}
 
 -- an accepted job has the lists' number
-pub lists-tell : (J T A B D : List ℕ) (h x : ℕ) (k need : Cost) → record { accepted = true; number = 0; index = 0; counts = k } ≡ check-job 32 J T → need ≡ needs-of h k
-    → x ≡ dealer-lists-fault need A B D → (x, 0) ≡ or-else (job-fault 32 J T) (dealer-lists-fault (needs-of h (job-cost 32 J T)) A B D)
-lists-tell J T A B D h x k need e en ex =
-    let t = accepted-tells J T k e in
-    ap {B = Fault} (λ (y : ℕ). (y, 0)) (ex ∙ ap (λ (q : Cost). dealer-lists-fault q A B D) (en ∙ ap (needs-of h) (sym (t .1)))) ∙ or-accepted J T _ (t .0)
+pub lists-tell : (w : ℕ) (job table A B D : List ℕ) (h x : ℕ) (k need : Cost) → Accepts w job table k → need ≡ needs-of h k
+    → x ≡ dealer-lists-fault need A B D
+    → (x, 0) ≡ or-else (job-fault w job table) (dealer-lists-fault (needs-of h (job-cost w job table)) A B D)
+lists-tell w job table A B D h x k need e en ex =
+    let t = accepted-tells w job table k e in
+    let n = ex ∙ ap (λ (q : Cost). dealer-lists-fault q A B D) (en ∙ ap (needs-of h) (sym (t .1))) in
+    ap {B = Fault} (λ (y : ℕ). (y, 0)) n ∙ or-accepted w job table _ (t .0)
 
 -- host 1 needs nothing of B and no deals, host 2 nothing of A
 module _ (σ : Script) (k : Cost) (M D : List ℕ) where
@@ -39,21 +40,27 @@ module _ (σ : Script) (k : Cost) (M D : List ℕ) where
   unfolding dealer-lists-fault needs-of lists-fault short-a short-b short-deals
   lists-2 = rw (le-ltb (length M) 0 (omega arith))
 
-pub of-host : (h : ℕ) (J T M D : List ℕ) (f : Fault) → 1 ≤ h → h < 3 → f ≡ or-else (job-fault 32 J T) (dealer-lists-fault (needs-of h (job-cost 32 J T)) M M D)
-    → f ≡ lent-fault (lent h (job-script 32 J T) M D)
-unfolding lent-fault lists-fault job-cost
-of-host zero J T M D f l u e = absurd (omega arith)
-of-host (suc zero) J T M D f l u e = e ∙ ap (or-else (job-fault 32 J T)) (lists-1 (job-script 32 J T) (job-cost 32 J T) M D)
-of-host (suc (suc zero)) J T M D f l u e = e ∙ ap (or-else (job-fault 32 J T)) (lists-2 (job-script 32 J T) (job-cost 32 J T) M D)
-of-host (suc (suc (suc h))) J T M D f l u e = absurd (omega arith)
+module _ (w : ℕ) (job table : List ℕ) where
+  pub of-host : (h : ℕ) (M D : List ℕ) (f : Fault) → 1 ≤ h → h < 3
+      → f ≡ or-else (job-fault w job table) (dealer-lists-fault (needs-of h (job-cost w job table)) M M D)
+      → f ≡ lent-fault (lent h (job-script w job table) M D)
+  unfolding lent-fault lists-fault job-cost
+  of-host zero M D f l u e = absurd (omega arith)
+  of-host (suc zero) M D f l u e =
+      e ∙ ap (or-else (job-fault w job table)) (lists-1 (job-script w job table) (job-cost w job table) M D)
+  of-host (suc (suc zero)) M D f l u e =
+      e ∙ ap (or-else (job-fault w job table)) (lists-2 (job-script w job table) (job-cost w job table) M D)
+  of-host (suc (suc (suc h))) M D f l u e = absurd (omega arith)
 
-pub other-host : (h : ℕ) (J T M D : List ℕ) → (1 ≤ h → h < 3 → ⊥) → (1, 0) ≡ lent-fault (lent h (job-script 32 J T) M D)
-other-host h J T M D n = no-host h (job-script 32 J T) M D (λ (z : h ≡ 1). n (omega arith) (omega arith)) (λ (z : h ≡ 2). n (omega arith) (omega arith))
+  -- no order stands after as many places as the job has words
+  pub all-before : (n : ℕ) → passed n (job-cost w (take (length job * 4) job) table) ≡ passed n (job-cost w job table)
+  all-before n = ap (λ (l : List ℕ). passed n (job-cost w l table)) (take-all (length job * 4) job (omega arith))
+
+pub other-host : (h : ℕ) (σ : Script) (M D : List ℕ) → (1 ≤ h → h < 3 → ⊥) → (1, 0) ≡ lent-fault (lent h σ M D)
+other-host h σ M D n =
+    no-host h σ M D (λ (z : h ≡ 1). n (omega arith) (omega arith)) (λ (z : h ≡ 2). n (omega arith) (omega arith))
 
 -- a call that is turned down has no counts
-pub none-counted : (r : Lending) (n i : ℕ) (k : Cost) → (fault-of r ≡ (n, i)) × (counted (r .counts) ≡ cost-of 0 0 0 0) → (n ≡ 0 → ⊥) → counted (r .counts) ≡ passed (r .number) k
+pub none-counted : (r : Lending) (n i : ℕ) (k : Cost) → (fault-of r ≡ (n, i)) × (counted (r .counts) ≡ cost-of 0 0 0 0)
+    → (n ≡ 0 → ⊥) → counted (r .counts) ≡ passed (r .number) k
 none-counted r n i k t ne = t .1 ∙ none-passed (r .number) k (λ z. ne (sym (ap (λ (f : Fault). f .0) (t .0)) ∙ z))
-
--- no order stands after as many places as the job has words
-pub all-before : (n : ℕ) (J T : List ℕ) → passed n (job-cost 32 (take (length J * 4) J) T) ≡ passed n (job-cost 32 J T)
-all-before n J T = ap (λ (l : List ℕ). passed n (job-cost 32 l T)) (take-all (length J * 4) J (omega arith))

@@ -57,7 +57,8 @@ fn needs_of(host: u32, whole: Counts) -> Counts
 
 // Conditions 6 and 7.
 fn lists_fault(need: Counts, a: &[u32], b: &[u32], deals: &[u32]) -> u32
-    ensures { λ r. ⌜ r ≡ dealer-lists-fault (counted need) (now (a .entry)) (now (b .entry)) (now (deals .entry)) ⌝ }
+    ensures { λ r. ⌜ r
+        ≡ dealer-lists-fault (counted need) (now (a .entry)) (now (b .entry)) (now (deals .entry)) ⌝ }
 {
     if a.len() < need.a as usize {
         return 6;

@@ -1,4 +1,5 @@
-// What preparation, starting and hearing begin with: the checks of what each host is lent, and the lane of its registers.
+// What preparation, starting and hearing begin with: the checks of what each host is lent, and the lane of its
+// registers.
 ghost use mathlib.Core.Path.{_≡_};
 ghost use Rattle.calls.specs.Calls as Calls;
 

@@ -1,5 +1,2 @@
-pub mod Dealers
 pub mod Programs
-pub mod Turns
-pub mod Checks
-pub mod Answers
+pub mod Orders

@@ -1,56 +1,22 @@
--- The gates of an order one after another, as a walk fetches them, and a bound on their number. Assumes nothing.
+-- A bound on the number of an order's gates. Assumes nothing.
 use mathlib.Core.Path.{_≡_, refl, ap}
-use mathlib.Core.List.{List, [], _∷_, _++_}
-use Prim.Native.Nat.{ℕ, zero, suc, _+_, _*_, _≤_, _<_}
-use native.Mathlib.Numerals.{add-one}
+use mathlib.Core.List.{List, [], _∷_}
+use Prim.Native.Nat.{ℕ, zero, suc, _+_, _*_, _≤_}
 use native.Mathlib.Omega.{arith}
 use lib.IntN.{ℤ, pos}
-use lib.ListN.{length, getD, drop, length-append}
+use lib.ListN.{length, getD, length-append}
 use Rattle.truncations.specs.Adder.{doubled, distances, updates}
 use Rattle.gates.specs.declared.Gate.{Gate}
 use Rattle.gates.specs.declared.Gate.the-variants.{Refresh}
-use Rattle.gates.specs.Steps.{Step}
-use Rattle.gates.specs.Meaning.{meaning, order-steps}
+use Rattle.gates.specs.Meaning.{order-steps}
 use Rattle.gates.specs.Costs.{Cost, cost}
 use Rattle.tables.specs.Table.{Row}
 use Rattle.curves.specs.Curve.{slope-after, coefficient}
 use Rattle.programs.specs.declared.Order.{Order}
-use Rattle.program_fetch.specs.declared.Fetched.the-variants.{At, Past}
 use Rattle.programs.specs.Programs.{update-gates, rounds, adder, to-number, relu-program, slack-program, one-bit-program, exact-program, row-program, rows-program, sum-program, curve-exact, curve-one-bit}
 use Rattle.programs.specs.Orders.{curve-program, kinds, program}
 use Rattle.programs.specs.Costs.{program-cost}
-use Rattle.program_fetch.specs.Fetch.{fetched}
 use Rattle.programs.proofs.Costs.{curve-exact-cost, curve-one-bit-cost}
-
--- ---- the gate fetched is the first of those left
-
-first-left : (gs : List Gate) (i : ℕ) (g : Gate) → fetched gs i ≡ At g → drop i gs ≡ g ∷ drop (suc i) gs
-unfolding fetched
-first-left [] i g e = let z : _≡_ {A = ℕ} 0 1 = cc in absurd (omega arith)
-first-left (x ∷ gs) zero g e = let z : x ≡ g = cc in rw z
-first-left (x ∷ gs) (suc i) g e = first-left gs i g e
-
-pub gate-left : (gs : List Gate) (i : ℕ) (g : Gate) → fetched gs i ≡ At g → drop i gs ≡ g ∷ drop (i + 1) gs
-gate-left gs i g e = rw add-one (first-left gs i g e)
-
-pub gate-inside : (gs : List Gate) (i : ℕ) (g : Gate) → fetched gs i ≡ At g → i < length gs
-unfolding fetched
-gate-inside [] i g e = let z : _≡_ {A = ℕ} 0 1 = cc in absurd (omega arith)
-gate-inside (x ∷ gs) zero g e = omega arith
-gate-inside (x ∷ gs) (suc i) g e = omega (arith, gate-inside gs i g e)
-
-pub none-left : (gs : List Gate) (i : ℕ) → fetched gs i ≡ Past → drop i gs ≡ []
-unfolding fetched
-none-left [] zero e = refl
-none-left [] (suc i) e = refl
-none-left (x ∷ gs) zero e = let z : _≡_ {A = ℕ} 0 1 = cc in absurd (omega arith)
-none-left (x ∷ gs) (suc i) e = none-left gs i e
-
--- an order's steps stand before those behind it
-pub steps-append : (w : ℕ) (gs : List Gate) (ss : List Step) → order-steps w gs ss ≡ order-steps w gs [] ++ ss
-unfolding order-steps
-steps-append w [] ss = refl
-steps-append w (g ∷ gs) ss = ap (λ (xs : List Step). meaning w g ∷ xs) (steps-append w gs ss)
 
 -- ---- a program has few gates beside those that take a word of A
 

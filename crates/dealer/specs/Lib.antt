@@ -1,1 +1,1 @@
-pub mod Preparation
+pub mod Answers

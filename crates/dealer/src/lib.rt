@@ -10,7 +10,8 @@ pub struct Masks {
     pub l2: [u32; 16],
 }
 
-// Preparation's answer: the number, 0 for none, and the order's index; the deals written, and the masks as the job leaves them.
+// Preparation's answer: the number, 0 for none, and the order's index; the deals written, and the masks as the job
+// leaves them.
 pub struct Prepared {
     pub number: u32,
     pub index: u32,

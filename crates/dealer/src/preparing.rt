@@ -1,8 +1,8 @@
 // Host 0's preparation of a job: its deals, in gate order, and its masks of all registers.
 ghost use mathlib.Core.Path.{_≡_};
-ghost use mathlib.Core.List.{List, [], _∷_};
+ghost use mathlib.Core.List.{List, []};
 ghost use Prim.Native.Nat.{ℕ, _^_, _<_};
-ghost use lib.ListN.{length, take};
+ghost use lib.ListN.{take};
 ghost use Rattle.gates.specs.Meaning.{meaning, order-steps};
 ghost use Rattle.tables.specs.Table.{rows};
 ghost use Rattle.programs.specs.Orders.{program};
@@ -10,8 +10,8 @@ ghost use Rattle.jobs.specs.Job.{steps-of};
 ghost use Rattle.calls.specs.Scripts.{job-script};
 ghost use Rattle.calls.specs.Calls as Calls;
 ghost use Rattle.gates.specs.Steps.{Lane};
-ghost use Rattle.dealer_gate.specs.Dealings.{dealer, dealing};
-ghost use Rattle.dealer.specs.Preparation.{answer, outset, Counts, deal-all, Room};
+ghost use Rattle.walks.specs.Dealers.{dealer, outset, Counts, dealing, deal-all, Room};
+ghost use Rattle.dealer.specs.Answers.{answer};
 use crate::Masks;
 use crate::Prepared;
 use call_check::check_dealer;

@@ -1,7 +1,6 @@
 // Host 0 at one gate: its lanes are written in place, and a deal goes into the buffer behind those written before.
-ghost use mathlib.Core.Path.{_≡_};
 ghost use Rattle.gates.specs.Meaning.{meaning};
-ghost use Rattle.dealer_gate.specs.Dealings.{dealer, Holds, dealing};
+ghost use Rattle.walks.specs.Dealers.{dealer, Holds, dealing};
 use gate_deal::deal_word;
 use gate_local::step_mask;
 use gate_shape::shape_of;
@@ -13,8 +12,9 @@ use word_lists::put_word;
 use word_lists::word_after;
 use word_lists::word_at;
 
-// What host 0 writes at a gate, with so many words and deals used before it. x is the first mask of a deal or a refresh, and
-// g1 of a product, whose new masks come from A after it and from B. Host 2 knows a deal's second mask from the deal alone.
+// What host 0 writes at a gate, with so many words and deals used before it. x is the first mask of a deal or a
+// refresh, and g1 of a product, whose new masks come from A after it and from B. Host 2 knows a deal's second mask from
+// the deal alone.
 pub fn deal_gate(
     g: Gate,
     a: &[u32],
@@ -26,7 +26,8 @@ pub fn deal_gate(
 )
     ensures { λ r.
         ⌜ Holds
-        (dealing (now (a .entry)) (now (b .entry)) (meaning 32 g) (dealer used (now (l1 .entry)) (now (l2 .entry)) (now (deals .entry))))
+        (dealing (now (a .entry)) (now (b .entry)) (meaning 32 g)
+        (dealer used (now (l1 .entry)) (now (l2 .entry)) (now (deals .entry))))
         (now (l1 .exit)) (now (l2 .exit)) (now (deals .exit)) ⌝ }
 {
     let x = word_at(a, used.a);

@@ -17,7 +17,7 @@ use Rattle.jobs.specs.Job.{orders, ill-sized, orders-fault, job-fault, job-gate
 use Rattle.jobs.proofs.Accepted.{Good, accepted-orders, curve-ruled}
 use Rattle.jobs.proofs.Conditions as Conditions
 use Rattle.jobs.specs.Walk.{order-at}
-use Rattle.worker.specs.Walks.{Sized}
+use Rattle.worker.specs.Jobs.{Sized}
 use Rattle.worker.proofs.Sizes.{few-gates}
 
 -- ---- orders by index
@@ -45,7 +45,8 @@ orders-drop (k ∷ []) o h = absurd (omega arith)
 orders-drop (k ∷ d ∷ []) o h = absurd (omega arith)
 orders-drop (k ∷ d ∷ a ∷ []) o h = absurd (omega arith)
 orders-drop (k ∷ d ∷ a ∷ c ∷ ws) zero h = refl
-orders-drop (k ∷ d ∷ a ∷ c ∷ ws) (suc o) h = orders-drop ws o (omega arith) ∙ ap (λ (x : Order). x ∷ drop (suc o) (orders ws)) (sym (next-order k d a c ws o))
+orders-drop (k ∷ d ∷ a ∷ c ∷ ws) (suc o) h =
+    orders-drop ws o (omega arith) ∙ ap (λ (x : Order). x ∷ drop (suc o) (orders ws)) (sym (next-order k d a c ws o))
 
 pub orders-take : (ws : List ℕ) (o : ℕ) → o ≤ length ws / 4 → orders (take (o * 4) ws) ≡ take o (orders ws)
 unfolding orders
@@ -82,15 +83,18 @@ module _ (w : ℕ) (job table : List ℕ) where
   gates-count = length-map (orders job) (program w (rows table)) ∙ order-count job
 
   module _ (o : ℕ) where
-    pub gates-drop : o < length job / 4 → drop o (job-gates w job table) ≡ program w (rows table) (order-at job o) ∷ drop (suc o) (job-gates w job table)
+    pub gates-drop : o < length job / 4
+        → drop o (job-gates w job table) ≡ program w (rows table) (order-at job o) ∷ drop (suc o) (job-gates w job table)
     unfolding job-gates
     gates-drop h =
         drop-map (program w (rows table)) o (orders job)
         ∙ ap (map (program w (rows table))) (orders-drop job o h)
-        ∙ ap (λ (z : List (List Gate)). program w (rows table) (order-at job o) ∷ z) (sym (drop-map (program w (rows table)) (suc o) (orders job)))
+        ∙ ap (λ (z : List (List Gate)). program w (rows table) (order-at job o) ∷ z)
+        (sym (drop-map (program w (rows table)) (suc o) (orders job)))
 
     -- the order at o as the code has it
-    pub order-there : o < length job / 4 → (ord : Order) → ord ≡ order-at job o → drop o (job-gates w job table) ≡ program w (rows table) ord ∷ drop (suc o) (job-gates w job table)
+    pub order-there : o < length job / 4 → (ord : Order) → ord ≡ order-at job o
+        → drop o (job-gates w job table) ≡ program w (rows table) ord ∷ drop (suc o) (job-gates w job table)
     order-there h ord e = rw e (gates-drop h)
 
     pub gates-at : o < length job / 4 → getD (job-gates w job table) o [] ≡ program w (rows table) (order-at job o)
@@ -106,29 +110,39 @@ module _ (w : ℕ) (job table : List ℕ) where
 
 -- ---- an accepted job is small
 
-module _ (job table : List ℕ) (e : job-fault 32 job table .0 ≡ 0) where
+module _ (w : ℕ) (job table : List ℕ) (e : job-fault w job table .0 ≡ 0) where
   well-sized : ill-sized job ≡ false
   unfolding job-fault
   well-sized = go (ill-sized job) refl e
     where
-      go : (b : Bool) → ill-sized job ≡ b → cond b (2, 0) (orders-fault 32 (keeps-rules table) (orders job) 0) .0 ≡ 0 → ill-sized job ≡ false
+      go : (b : Bool) → ill-sized job ≡ b → cond b (2, 0) (orders-fault w (keeps-rules table) (orders job) 0) .0 ≡ 0 → ill-sized job ≡ false
       go true p q = absurd (omega arith)
       go false p q = p
 
-  order-good : (o : ℕ) → o < length job / 4 → Good 32 (keeps-rules table) (order-at job o)
+  order-good : (o : ℕ) → o < length job / 4 → Good w (keeps-rules table) (order-at job o)
   order-good o h =
-      subst (λ (x : Order). Good 32 (keeps-rules table) x) (head-of (orders job) o (order-at job o) (order-at job o) _ (orders-drop job o h))
-      (accepted-orders 32 job table e o (omega (arith, order-count job)) (order-at job o))
+      subst (λ (x : Order). Good w (keeps-rules table) x) (head-of (orders job) o (order-at job o) (order-at job o) _ (orders-drop job o h))
+      (accepted-orders w job table e o (omega (arith, order-count job)) (order-at job o))
 
   rules-kept : (o : ℕ) → o < length job / 4 → order-at job o .kind ≡ 10 → Rules table
-  rules-kept o h k = rules table .0 (subst T (sym (curve-ruled 32 (keeps-rules table) (order-at job o) (order-good o h) k .1)) tt)
+  rules-kept o h c =
+      rules table .0 (subst T (sym (curve-ruled w (keeps-rules table) (order-at job o) (order-good o h) c .1)) tt)
 
-  pub sized : Sized job table
-  sized =
+  -- where the programs of the width are short
+  pub sized-by : ((o : Order) → (o .kind ≡ 10 → length (rows table) ≤ 16) → length (program w (rows table) o) ≤ 1000) → Sized w job table
+  sized-by short =
       let p = Conditions.sized job well-sized in
       record {
         few-words = p .0;
         whole-orders = omega (arith, p .1);
-        few-gates = λ o h. few-gates (rows table) (order-at job o) (λ k. rules-kept o h k .at-most);
-        short-table = λ o h k. let u = rules-kept o h k in omega (arith, u .at-most, u .whole-rows);
+        few-gates = λ o h. short (order-at job o) (λ c. rules-kept o h c .at-most);
+        short-table = λ o h c. let u = rules-kept o h c in omega (arith, u .at-most, u .whole-rows);
       }
+
+pub sized : (job table : List ℕ) → job-fault 32 job table .0 ≡ 0 → Sized 32 job table
+sized job table e = sized-by 32 job table e (few-gates (rows table))
+
+-- the order at o, as the code has it, is short
+pub short-order : (w : ℕ) (job table : List ℕ) → Sized w job table → (o : ℕ) → o < length job / 4
+    → (ord : Order) → ord ≡ order-at job o → length (program w (rows table) ord) ≤ 1000
+short-order w job table Z o h ord e = subst (λ (x : Order). length (program w (rows table) x) ≤ 1000) (sym e) (Z .few-gates o h)

@@ -1,11 +1,3 @@
-pub mod Walking
-pub mod Seeking
-pub mod Orders
 pub mod Sizes
-pub mod Turns
 pub mod Jobs
-pub mod Advancing
-pub mod Answered
-pub mod Heard
-pub mod Bounds
-pub mod Finding
+pub mod Places

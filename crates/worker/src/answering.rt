@@ -1,7 +1,8 @@
 // The answers of starting and hearing.
 ghost use mathlib.Core.Path.{_≡_};
 ghost use Rattle.calls.specs.Calls as Calls;
-ghost use Rattle.worker.specs.Answers.{answer-of, state-of, going-on};
+ghost use Rattle.walks.specs.Halts.{going-on};
+ghost use Rattle.worker.specs.Answers.{answer-of, state-of};
 use crate::Answer;
 use crate::State;
 

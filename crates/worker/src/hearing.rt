@@ -10,8 +10,9 @@ ghost use Rattle.calls.specs.Calls as Calls;
 ghost use Rattle.calls.specs.Scripts.{job-script};
 ghost use Rattle.calls.specs.Lent.{lent, worker-with};
 ghost use Rattle.worker.specs.Answers.{answer-of, state-of};
-ghost use Rattle.worker_gate.specs.Exchanges.{cursor};
-ghost use Rattle.worker.specs.Walks.{steps-from, Sized, Standing};
+ghost use Rattle.walks.specs.Workers.{cursor};
+ghost use Rattle.walks.specs.Halts.{steps-from};
+ghost use Rattle.worker.specs.Jobs.{Sized, Standing};
 use crate::Answer;
 use crate::State;
 use crate::answering::refused;
@@ -52,8 +53,8 @@ fn resume(
     at: Reach,
     b: usize,
 ) -> Answer
-    requires { ⌜ Sized (now job) (now table) × Standing (now job) (now table) (s .order) (at .gate) × (at .gate < 1000)
-        × (s .turn < 1000)
+    requires { ⌜ Sized 32 (now job) (now table) × Standing 32 (now job) (now table) (s .order) (at .gate)
+        × (at .gate < 1000) × (s .turn < 1000)
         × (at .a < 2 ^ 30) × (at .deals < 2 ^ 30) × (b < 2 ^ 30) ⌝ }
     ensures { λ r.
         ⌜ answer-of r

@@ -7,8 +7,9 @@ ghost use Rattle.programs.specs.Orders.{program};
 ghost use Rattle.jobs.specs.Job.{job-gates};
 ghost use Rattle.worker.specs.Answers.{answer-of};
 ghost use Rattle.calls.specs.Lent.{worker-with};
-ghost use Rattle.worker_gate.specs.Exchanges.{cursor};
-ghost use Rattle.worker.specs.Walks.{steps-from, reported, Walked, Sized};
+ghost use Rattle.walks.specs.Workers.{cursor};
+ghost use Rattle.walks.specs.Halts.{reported, steps-from, Walked};
+ghost use Rattle.worker.specs.Jobs.{Sized};
 use crate::Answer;
 use crate::State;
 use crate::answering::answered;
@@ -24,8 +25,10 @@ use worker_gate::step;
 
 // Behind a gate at which so much is used.
 pub(crate) fn behind(used: Used, at: Reach) -> Reach
-    requires { ⌜ (used .a ≤ 2) × (used .deals ≤ 1) × (at .gate < 2 ^ 62) × (at .a < 2 ^ 62) × (at .deals < 2 ^ 62) ⌝ }
-    ensures { λ r. ⌜ (r .gate ≡ at .gate + 1) × (r .a ≡ at .a + used .a) × (r .deals ≡ at .deals + used .deals) ⌝ }
+    requires { ⌜ (used .a ≤ 2) × (used .deals ≤ 1)
+        × (at .gate < 2 ^ 62) × (at .a < 2 ^ 62) × (at .deals < 2 ^ 62) ⌝ }
+    ensures { λ r. ⌜ (r .gate ≡ at .gate + 1) × (r .a ≡ at .a + used .a)
+        × (r .deals ≡ at .deals + used .deals) ⌝ }
 {
     Reach {
         gate: at.gate + 1,
@@ -34,7 +37,8 @@ pub(crate) fn behind(used: Used, at: Reach) -> Reach
     }
 }
 
-// Up to the order's next product or refresh, where alone a mask of B is used, or past its last gate. Each gate writes its one slot in place.
+// Up to the order's next product or refresh, where alone a mask of B is used, or past its last gate. Each gate writes
+// its one slot in place.
 fn walk_order(
     host: u32,
     o: Order,
@@ -45,10 +49,13 @@ fn walk_order(
     m: &mut [u32; 24],
     mask: &mut [u32; 24],
 ) -> Reach
-    requires { ⌜ (length (program 32 (rows (now table)) o) ≤ 1000) × (from .gate ≤ 1000) × (from .a < 2 ^ 61) × (from .deals < 2 ^ 61) ⌝ }
+    requires { ⌜ (length (program 32 (rows (now table)) o) ≤ 1000) × (from .gate ≤ 1000)
+        × (from .a < 2 ^ 61) × (from .deals < 2 ^ 61) ⌝ }
     ensures { λ r.
-        ⌜ Walked 32 (worker-with host (now (masks .entry)) (now (deals .entry))) (program 32 (rows (now (table .entry))) o)
-        (from .gate) (from .a) (from .deals) (now (m .entry), now (mask .entry)) (r .gate) (r .a) (r .deals) (now (m .exit), now (mask .exit)) ⌝ }
+        ⌜ Walked 32 (worker-with host (now (masks .entry)) (now (deals .entry)))
+        (program 32 (rows (now (table .entry))) o)
+        (from .gate) (from .a) (from .deals) (now (m .entry), now (mask .entry))
+        (r .gate) (r .a) (r .deals) (now (m .exit), now (mask .exit)) ⌝ }
 {
     let mut at = from;
     loop {
@@ -64,7 +71,8 @@ fn walk_order(
     }
 }
 
-// From a place of an accepted job to the next product or refresh, or to the end: the answer there, with b words spoken before.
+// From a place of an accepted job to the next product or refresh, or to the end: the answer there, with b words spoken
+// before.
 pub(crate) fn advance(
     host: u32,
     job: &[u32],
@@ -75,7 +83,8 @@ pub(crate) fn advance(
     from: Reach,
     b: usize,
 ) -> Answer
-    requires { ⌜ Sized (now job) (now table) × (from .gate ≤ 1000) × (from .a < 2 ^ 40) × (from .deals < 2 ^ 40) × (b < 2 ^ 31) ⌝ }
+    requires { ⌜ Sized 32 (now job) (now table) × (from .gate ≤ 1000)
+        × (from .a < 2 ^ 40) × (from .deals < 2 ^ 40) × (b < 2 ^ 31) ⌝ }
     ensures { λ r.
         ⌜ answer-of r
         ≡ reported (worker-with host (now (masks .entry)) (now (deals .entry)))

@@ -6,7 +6,7 @@ ghost use Rattle.gates.specs.Meaning.{meaning};
 ghost use Rattle.gates.specs.Hosts.{on-m, on-mask};
 ghost use Rattle.calls.specs.Calls.{word-at};
 ghost use Rattle.calls.specs.Lent.{worker-with};
-ghost use Rattle.worker_gate.specs.Exchanges.{cursor, deal-taken, new-mask, sum-of, heard-at};
+ghost use Rattle.walks.specs.Workers.{cursor, deal-taken, new-mask, sum-of, heard-at};
 use gate_local::step_m;
 use gate_local::step_mask;
 use gate_shape::shape_of;
@@ -52,7 +52,8 @@ pub fn step(
     ensures { λ r.
         ⌜ (now (m .exit) ≡ on-m (meaning 32 g) (now (m .entry)))
         × (now (mask .exit)
-        ≡ on-mask (meaning 32 g) (deal-taken host (now (masks .entry)) (now (deals .entry)) a dealt) (now (mask .entry))) ⌝ }
+        ≡ on-mask (meaning 32 g) (deal-taken host (now (masks .entry)) (now (deals .entry)) a dealt)
+        (now (mask .entry))) ⌝ }
 {
     step_m(g, m);
     step_mask(g, deal_taken(host, masks, deals, a, dealt), mask);
@@ -85,7 +86,8 @@ pub fn say(
 ) -> u32
     ensures { λ r.
         ⌜ r
-        ≡ word-at (worker-with host (now (masks .entry)) (now (deals .entry)) .say) (meaning 32 g ∷ []) (cursor 0 0 (at .a) b (at .deals))
+        ≡ word-at (worker-with host (now (masks .entry)) (now (deals .entry)) .say) (meaning 32 g ∷ [])
+        (cursor 0 0 (at .a) b (at .deals))
         (now (m .entry), now (mask .entry)) ⌝ }
 {
     let new = new_mask(host, g, masks, at.a, b);
@@ -107,7 +109,8 @@ fn sum_of(host: u32, g: Gate, own: u32, heard: u32) -> u32
     }
 }
 
-// The other's word is heard at a product or refresh: the host works its own word out again, and writes their sum and its new mask.
+// The other's word is heard at a product or refresh: the host works its own word out again, and writes their sum and
+// its new mask.
 pub fn meet(
     host: u32,
     g: Gate,
@@ -121,7 +124,8 @@ pub fn meet(
 )
     ensures { λ r.
         ⌜ (now (m .exit), now (mask .exit))
-        ≡ heard-at (worker-with host (now (masks .entry)) (now (deals .entry))) (meaning 32 g) (cursor 0 0 (at .a) b (at .deals))
+        ≡ heard-at (worker-with host (now (masks .entry)) (now (deals .entry))) (meaning 32 g)
+        (cursor 0 0 (at .a) b (at .deals))
         (now (m .entry), now (mask .entry)) heard ⌝ }
 {
     let own = say(host, g, masks, deals, at, b, m, mask);

@@ -3,8 +3,8 @@ use denote.Ref.{now}
 use Rattle.gates.specs.Meaning.{meaning}
 use Rattle.gates.specs.declared.Shape.{Shape}
 use Rattle.gates.specs.declared.Shape.the-variants.{Local, Dealing, Product, Refreshing}
-use Rattle.dealer_gate.specs.Dealings.{dealer, dealing}
-use Rattle.dealer_gate.proofs.Shapes.{Has, finished, by-shape}
+use Rattle.walks.specs.Dealers.{dealer, dealing}
+use Rattle.walks.proofs.Dealers.{Has, finished, by-shape}
 use borrow.Author.Needs.{needs}
 use Rattle.dealer_gate.proofs.deal_gate.Statement.{statement}
 use Rattle.dealer_gate.proofs.deal_gate.Tie as tie
@@ -13,9 +13,14 @@ use Rattle.dealer_gate.proofs.deal_gate.Tie as tie
 at-shape : (c : tie.After-shape-of) (t : Shape) → c .shape-of .result ≡ t
     → let a = c .before .before .before .before .before .before .before .before .before .before .before .before .args in
     let s = dealer (a .used) (now (a .l1)) (now (a .l2)) (now (a .deals)) in
-    Has (dealing (now (a .a)) (now (a .b)) (meaning 32 (a .g)) s) (finished (now (a .a)) (now (a .b)) s t (c .before .before .before .before .before .before .before .before .word-at .result) (c .before .before .before .before .before .deal-word .result) (c .before .before .before .step-mask .last .1 .1 .0) (c .before .step-mask2 .last .1 .1 .0))
+    Has (dealing (now (a .a)) (now (a .b)) (meaning 32 (a .g)) s)
+    (finished (now (a .a)) (now (a .b)) s t (c .before .before .before .before .before .before .before .before .word-at .result)
+    (c .before .before .before .before .before .deal-word .result)
+    (c .before .before .before .step-mask .last .1 .1 .0) (c .before .step-mask2 .last .1 .1 .0))
 at-shape c t e =
-    by-shape _ _ _ _ _ _ (c .before .before .before .before .before .before .before .before .word-at .ensures) (c .before .before .before .before .before .deal-word .ensures) _ _ (c .before .before .before .step-mask .ensures) (c .before .step-mask2 .ensures) t (sym e ∙ c .shape-of .ensures)
+    by-shape _ _ _ _ _ _ (c .before .before .before .before .before .before .before .before .word-at .ensures)
+    (c .before .before .before .before .before .deal-word .ensures)
+    _ _ (c .before .before .before .step-mask .ensures) (c .before .step-mask2 .ensures) t (sym e ∙ c .shape-of .ensures)
 
 word-at-requires : tie.Need-word-at-requires
 word-at-requires c κs = search needs
@@ -79,7 +84,8 @@ same-length c = search needs
 
 returns-2 : tie.Need-returns-2
 returns-2 c =
-    let h = at-shape (c .before .before .before .before .before .before) (Dealing _) (c .before .before .before .before .enum-told2 .given .1) in
+    let d = c .before .before .before .before in
+    let h = at-shape (d .before .before) (Dealing _) (d .enum-told2 .given .1) in
     (h .0, h .1, rw (c .before .before .put-word .ensures) (h .2))
 
 same-length-2 : tie.Need-same-length-2
@@ -87,12 +93,17 @@ same-length-2 c = search needs
 
 returns-3 : tie.Need-returns-3
 returns-3 c =
-    let h = at-shape (c .before .before .before .before .before .before .before .before .before .before .before .before .before) (Product _) (c .before .before .before .before .before .before .before .before .before .before .before .d .given .1) in
-    (rw (c .before .before .before .put .ensures, c .before .before .before .before .word-after .ensures) (h .0), rw (c .put2 .ensures, c .before .word-at2 .ensures) (h .1), rw (c .before .before .before .before .before .before .before .before .put-word2 .ensures) (h .2))
+    let d = c .before .before .before .before .before .before .before .before .before .before .before in
+    let h = at-shape (d .before .before) (Product _) (d .d .given .1) in (
+      rw (c .before .before .before .put .ensures, c .before .before .before .before .word-after .ensures) (h .0),
+      rw (c .put2 .ensures, c .before .word-at2 .ensures) (h .1),
+      rw (c .before .before .before .before .before .before .before .before .put-word2 .ensures) (h .2),
+    )
 
 returns-4 : tie.Need-returns-4
 returns-4 c =
-    let h = at-shape (c .before .before .before .before .before .before .before .before) (Refreshing _) (c .before .before .before .before .before .before .d2 .given .1) in
+    let d = c .before .before .before .before .before .before in
+    let h = at-shape (d .before .before) (Refreshing _) (d .d2 .given .1) in
     (rw (c .before .before .before .put3 .ensures) (h .0), rw (c .put4 .ensures, c .before .word-at3 .ensures) (h .1), h .2)
 
 pub deal-gate-spec : {M : Type 1} → statement M

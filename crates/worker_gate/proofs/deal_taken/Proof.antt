@@ -1,5 +1,5 @@
 use borrow.Author.Tests.{eq-eqb, ne-eqb}
-use Rattle.worker_gate.specs.Exchanges.{deal-taken}
+use Rattle.walks.specs.Workers.{deal-taken}
 use borrow.Author.Needs.{needs}
 use Rattle.worker_gate.proofs.deal_taken.Statement.{statement}
 use Rattle.worker_gate.proofs.deal_taken.Tie as tie

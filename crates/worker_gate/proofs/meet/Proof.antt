@@ -3,8 +3,8 @@ use denote.Ref.{now}
 use Rattle.gates.specs.Meaning.{meaning}
 use Rattle.gates.specs.declared.Shape.{Shape}
 use Rattle.gates.specs.declared.Shape.the-variants.{Local, Dealing, Product, Refreshing}
-use Rattle.worker_gate.specs.Exchanges.{cursor, heard-at}
-use Rattle.worker_gate.proofs.Shapes.{heard-by, hears}
+use Rattle.walks.specs.Workers.{cursor, heard-at}
+use Rattle.walks.proofs.Workers.{heard-by, hears}
 use borrow.Author.Needs.{needs}
 use Rattle.worker_gate.proofs.meet.Statement.{statement}
 use Rattle.worker_gate.proofs.meet.Tie as tie
@@ -14,10 +14,12 @@ use Rattle.calls.specs.Lent.{worker-with}
 at-shape : (c : tie.After-shape-of) (t : Shape) → c .shape-of .result ≡ t
     → let a = c .before .before .before .before .before .before .before .before .args in
     heard-by t (c .before .sum-of .result) (c .before .before .new-mask .result) (now (a .m), now (a .mask))
-    ≡ heard-at (worker-with (a .host) (now (a .masks)) (now (a .deals))) (meaning 32 (a .g)) (cursor 0 0 (a .at .a) (a .b) (a .at .deals)) (now (a .m), now (a .mask)) (a .heard)
+    ≡ heard-at (worker-with (a .host) (now (a .masks)) (now (a .deals))) (meaning 32 (a .g))
+    (cursor 0 0 (a .at .a) (a .b) (a .at .deals)) (now (a .m), now (a .mask)) (a .heard)
 at-shape c t e =
     let a = c .before .before .before .before .before .before .before .before .args in
-    hears (now (a .masks)) (now (a .deals)) (a .at .a) (a .b) (a .at .deals) (now (a .m)) (now (a .mask)) (a .host) (meaning 32 (a .g)) _ (a .heard) _ _ _
+    hears (now (a .masks)) (now (a .deals)) (a .at .a) (a .b) (a .at .deals) (now (a .m)) (now (a .mask)) (a .host) (meaning 32 (a .g))
+    _ (a .heard) _ _ _
     (c .shape-of .ensures) (c .before .before .before .say .ensures) (c .before .before .new-mask .ensures) (c .before .sum-of .ensures) t e
 
 say-requires : tie.Need-say-requires
@@ -57,10 +59,14 @@ enum-told-2 : tie.Need-enum-told-2
 enum-told-2 c = search needs
 
 returns : tie.Need-returns
-returns c = (λ i. (c .before .before .put .ensures i, c .put2 .ensures i)) ∙ at-shape (c .before .before .before .before .before .before .before) (Product _) (c .before .before .before .before .before .d .given .1)
+returns c =
+    let d = c .before .before .before .before .before in
+    (λ i. (c .before .before .put .ensures i, c .put2 .ensures i)) ∙ at-shape (d .before .before) (Product _) (d .d .given .1)
 
 returns-2 : tie.Need-returns-2
-returns-2 c = (λ i. (c .before .before .put3 .ensures i, c .put4 .ensures i)) ∙ at-shape (c .before .before .before .before .before .before .before) (Refreshing _) (c .before .before .before .before .before .d2 .given .1)
+returns-2 c =
+    let d = c .before .before .before .before .before in
+    (λ i. (c .before .before .put3 .ensures i, c .put4 .ensures i)) ∙ at-shape (d .before .before) (Refreshing _) (d .d2 .given .1)
 
 returns-3 : tie.Need-returns-3
 returns-3 c = at-shape (c .before .before) Local (c .enum-told .given .1)

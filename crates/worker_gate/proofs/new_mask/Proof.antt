@@ -1,5 +1,5 @@
 use mathlib.Core.Path.{_∙_}
-use Rattle.worker_gate.proofs.Shapes.{mask-after, mask-next, mask-of-b}
+use Rattle.walks.proofs.Workers.{mask-after, mask-next, mask-of-b}
 use borrow.Author.Needs.{needs}
 use Rattle.worker_gate.proofs.new_mask.Statement.{statement}
 use Rattle.worker_gate.proofs.new_mask.Tie as tie
@@ -17,10 +17,14 @@ word-at-requires-2 : tie.Need-word-at-requires-2
 word-at-requires-2 c κs = search needs
 
 returns : tie.Need-returns
-returns c = let h = c .before .before in c .word-after .ensures ∙ mask-after _ _ _ _ _ _ (h .before .used-by .ensures) (h .match .keys1) (c .before .match2 .keys1)
+returns c =
+    let h = c .before .before in
+    c .word-after .ensures ∙ mask-after _ _ _ _ _ _ (h .before .used-by .ensures) (h .match .keys1) (c .before .match2 .keys1)
 
 returns-2 : tie.Need-returns-2
-returns-2 c = let h = c .before .before in c .word-at .ensures ∙ mask-next _ _ _ _ _ _ (h .before .used-by .ensures) (h .match .keys1) (c .before .match2 .rest .1)
+returns-2 c =
+    let h = c .before .before in
+    c .word-at .ensures ∙ mask-next _ _ _ _ _ _ (h .before .used-by .ensures) (h .match .keys1) (c .before .match2 .rest .1)
 
 returns-3 : tie.Need-returns-3
 returns-3 c = c .word-at2 .ensures ∙ mask-of-b _ _ _ _ _ (c .before .match .rest .1)

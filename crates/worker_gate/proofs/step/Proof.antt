@@ -18,8 +18,10 @@ step-mask-requires c κs = search needs
 
 returns : tie.Need-returns
 returns c =
-    let a = c .before .before .before .before .before .before .before .args in
-    (c .before .before .before .step-m .ensures, c .step-mask .ensures ∙ ap (λ (v : ℕ). on-mask (meaning 32 (a .g)) v (now (a .mask))) (c .before .before .deal-taken .ensures))
+    let a = c .before .before .before .before .before .before .before .args in (
+      c .before .before .before .step-m .ensures,
+      c .step-mask .ensures ∙ ap (λ (v : ℕ). on-mask (meaning 32 (a .g)) v (now (a .mask))) (c .before .before .deal-taken .ensures),
+    )
 
 pub step-spec : {M : Type 1} → statement M
 step-spec = tie.close (tie.spec step-m-requires deal-taken-requires step-mask-requires returns)

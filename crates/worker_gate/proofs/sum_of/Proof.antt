@@ -1,5 +1,5 @@
 use borrow.Author.Tests.{eq-eqb, ne-eqb}
-use Rattle.worker_gate.specs.Exchanges.{sum-of}
+use Rattle.walks.specs.Workers.{sum-of}
 use borrow.Author.Needs.{needs}
 use Rattle.worker_gate.proofs.sum_of.Statement.{statement}
 use Rattle.worker_gate.proofs.sum_of.Tie as tie

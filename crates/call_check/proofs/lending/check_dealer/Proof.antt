@@ -12,7 +12,7 @@ check-job-requires c κs = search needs
 
 returns : tie.Need-returns
 unfolding dealer-fault needs-of job-cost
-returns c = (c .check-job .ensures .0, c .check-job .ensures .1 ∙ all-before _ _ _)
+returns c = (c .check-job .ensures .0, c .check-job .ensures .1 ∙ all-before _ _ _ _)
 
 pub check-dealer-spec : {M : Type 1} → statement M
 check-dealer-spec = tie.close (tie.spec check-job-requires returns)

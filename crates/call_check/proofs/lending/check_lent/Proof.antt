@@ -14,12 +14,14 @@ turned-down-requires c κs = search needs
 
 returns : tie.Need-returns
 returns c =
-    (of-host _ _ _ _ _ _ (c .before .before .if1 .left) (c .before .if2 .taken) (c .check-job .ensures .0), c .check-job .ensures .1)
+    (of-host 32 _ _ _ _ _ _ (c .before .before .if1 .left) (c .before .if2 .taken) (c .check-job .ensures .0), c .check-job .ensures .1)
 
 returns-2 : tie.Need-returns-2
 returns-2 c =
-    let t = c .turned-down .ensures in
-    (t .0 ∙ other-host _ _ _ _ _ (λ l u. ⊎-elim (λ w. omega arith) (λ w. omega arith) (c .before .if1 .came)), none-counted _ _ _ _ t (λ z. omega arith))
+    let t = c .turned-down .ensures in (
+      t .0 ∙ other-host _ _ _ _ (λ l u. ⊎-elim (λ z. omega arith) (λ z. omega arith) (c .before .if1 .came)),
+      none-counted _ _ _ _ t (λ z. omega arith),
+    )
 
 pub check-lent-spec : {M : Type 1} → statement M
 check-lent-spec = tie.close (tie.spec check-job-requires turned-down-requires returns returns-2)

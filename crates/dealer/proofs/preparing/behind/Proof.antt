@@ -1,7 +1,7 @@
 use native.Mathlib.Omega.{arith}
 use Rattle.gates.specs.Meaning.{meaning}
 use Rattle.gates.proofs.Uses.{few-used}
-use Rattle.dealer.proofs.Dealers.{counts-behind}
+use Rattle.walks.proofs.Dealers.{counts-behind}
 use borrow.Author.Needs.{needs}
 use Rattle.dealer.proofs.preparing.behind.Statement.{statement}
 use Rattle.dealer.proofs.preparing.behind.Tie as tie

@@ -38,8 +38,11 @@ loop-less c = omega arith
 loop-again : tie.Need-loop-again Inv-loop μ-loop
 loop-again c =
     let l = c .before .loop in
-    let r = c .before .before .args .t1 in
-    (omega arith, ap (λ (x : List ℕ). set x (l .i) (getD r (l .i) 0)) (l .inv .1) ∙ copy-more (replicate 16 0) r (l .i) (omega arith) (omega arith))
+    let r = c .before .before .args .t1 in (
+      omega arith,
+      ap (λ (x : List ℕ). set x (l .i) (getD r (l .i) 0)) (l .inv .1)
+          ∙ copy-more (replicate 16 0) r (l .i) (omega arith) (omega arith),
+    )
 
 returns : tie.Need-returns Inv-loop μ-loop
 returns c =

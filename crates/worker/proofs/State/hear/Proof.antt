@@ -8,8 +8,9 @@ use Rattle.calls.specs.Scripts.{job-script}
 use Rattle.calls.proofs.Scripts.{job-made}
 use Rattle.worker.specs.Answers.{state-of}
 use Rattle.worker.proofs.Jobs.{gates-count, gates-drop, sized}
-use Rattle.worker.proofs.Heard.{steps-at}
-use Rattle.worker.proofs.Finding.{There, hear-refused, at-nowhere, at-exchange, past-orders, accepted, none-there, found-there}
+use Rattle.walks.proofs.Gates.{steps-at}
+use Rattle.walks.proofs.Answers.{hear-refused, at-nowhere, at-exchange, past-programs}
+use Rattle.worker.proofs.Places.{There, accepted, none-there, found-there}
 use borrow.Author.Needs.{needs}
 use Rattle.worker.proofs.State.hear.Statement.{statement}
 use Rattle.worker.proofs.State.hear.Tie as tie
@@ -20,14 +21,19 @@ there : (c : tie.After-used)
     let a = k .before .before .before .before .before .before .before .before .args in
     let f = c .before .before .gate .given .0 in
     let u = k .before .before .check-lent .result .counts in
-    There (now (a .job)) (now (a .table)) (a .self .order) (a .self .turn) (f .0) (u .a + f .1 .0) (u .b + a .self .turn) (u .deals + f .1 .1 .0)
+    There 32 (now (a .job)) (now (a .table)) (a .self .order) (a .self .turn) (f .0)
+    (u .a + f .1 .0) (u .b + a .self .turn) (u .deals + f .1 .1 .0)
 there c =
     let q = c .before .before .before .before in
     let k = q .before .before .before .before in
     let a = k .before .before .before .before .before .before .before .before .args in
     let u = k .before .before .check-lent in
-    found-there (a .host) (now (a .job)) (now (a .table)) (now (a .masks)) (now (a .deals)) _ _ (k .before .before .check-lent .ensures .0) (k .if1 .left) (a .self .order) (a .self .turn)
-    (q .before .before .if2 .left) _ (q .before .order-at .ensures) _ (q .seek .ensures .is) _ _ _ (c .before .before .gate .given .1) (counted (u .result .counts)) (u .ensures .1)
+    let J = now (a .job) in
+    let T = now (a .table) in
+    let Z = sized J T (accepted 32 J T (a .host) (now (a .masks)) (now (a .deals)) _ _ (u .ensures .0) (k .if1 .left)) in
+    found-there 32 J T (a .host) (now (a .masks)) (now (a .deals)) _ _ (u .ensures .0) (k .if1 .left) (a .self .order) (a .self .turn)
+    (q .before .before .if2 .left) _ (q .before .order-at .ensures) _ (q .seek .ensures .is) Z _ _ _ (c .before .before .gate .given .1)
+    (counted (u .result .counts)) (u .ensures .1)
 
 cast-order : tie.Need-cast-order
 cast-order c = search needs
@@ -41,7 +47,10 @@ refused-requires c κs = search needs
 returns : tie.Need-returns
 returns c =
     let a = c .before .before .before .before .before .before .before .before .before .args in
-    c .refused .ensures ∙ hear-refused (a .host) (job-script 32 (now (a .job)) (now (a .table))) (now (a .masks)) (now (a .deals)) (state-of (a .self)) (a .heard) _ _ (c .before .before .before .check-lent .ensures .0) (c .before .if1 .taken)
+    c .refused .ensures
+    ∙ hear-refused (a .host) (job-script 32 (now (a .job)) (now (a .table))) (now (a .masks)) (now (a .deals)) _ _
+    (c .before .before .before .check-lent .ensures .0)
+    (state-of (a .self)) (a .heard) (c .before .if1 .taken)
 
 cast-turn : tie.Need-cast-turn
 cast-turn c = search needs
@@ -56,7 +65,12 @@ returns-2 : tie.Need-returns-2
 returns-2 c =
     let k = c .before .before .before .before in
     let a = k .before .before .before .before .before .before .before .before .args in
-    c .refused2 .ensures ∙ past-orders (a .host) (job-script 32 (now (a .job)) (now (a .table))) (now (a .masks)) (now (a .deals)) (state-of (a .self)) (a .heard) _ _ (k .before .before .check-lent .ensures .0) (k .if1 .left) (job-gates 32 (now (a .job)) (now (a .table))) (job-made 32 (now (a .job)) (now (a .table))) _ (gates-count 32 (now (a .job)) (now (a .table))) _ (c .before .before .if2 .taken) (c .before .end-fault .ensures)
+    let J = now (a .job) in
+    let T = now (a .table) in
+    c .refused2 .ensures
+    ∙ past-programs (a .host) (job-script 32 J T) (now (a .masks)) (now (a .deals)) _ _ (k .before .before .check-lent .ensures .0)
+    (state-of (a .self)) (a .heard) (k .if1 .left) 32 (job-gates 32 J T) (job-made 32 J T) _ (gates-count 32 J T) _
+    (c .before .before .if2 .taken) (c .before .end-fault .ensures)
 
 order-at-requires : tie.Need-order-at-requires
 order-at-requires c κs = search needs
@@ -95,8 +109,11 @@ resume-requires : tie.Need-resume-requires
 resume-requires c κs =
     let k = c .before .before .before .before .before .before .before .before .before .before .before in
     let a = k .before .before .before .before .before .before .before .before .args in
+    let J = now (a .job) in
+    let T = now (a .table) in
+    let e = k .before .before .check-lent .ensures .0 in
     let h = there (c .before .before .before) in (
-      sized (now (a .job)) (now (a .table)) (accepted (a .host) (now (a .job)) (now (a .table)) (now (a .masks)) (now (a .deals)) _ _ (k .before .before .check-lent .ensures .0) (k .if1 .left)),
+      sized J T (accepted 32 J T (a .host) (now (a .masks)) (now (a .deals)) _ _ e (k .if1 .left)),
       h .standing,
       h .few-gates,
       h .few-turns,
@@ -111,9 +128,13 @@ returns-3 c =
     let q = c .before .before .before in
     let k = q .before .before .before .before in
     let a = k .before .before .before .before .before .before .before .before .args in
+    let J = now (a .job) in
+    let T = now (a .table) in
+    let e = k .before .before .check-lent .ensures .0 in
     c .refused3 .ensures
-    ∙ at-nowhere (a .host) (job-script 32 (now (a .job)) (now (a .table))) (now (a .masks)) (now (a .deals)) (state-of (a .self)) (a .heard) _ _ (k .before .before .check-lent .ensures .0) (k .if1 .left)
-    (none-there (a .host) (now (a .job)) (now (a .table)) (now (a .masks)) (now (a .deals)) _ _ (k .before .before .check-lent .ensures .0) (k .if1 .left) (a .self .order) (a .self .turn) (q .before .before .if2 .left) _ (q .before .order-at .ensures) _ (q .seek .ensures .is) (c .before .enum-told .given .1))
+    ∙ at-nowhere (a .host) (job-script 32 J T) (now (a .masks)) (now (a .deals)) _ _ e (state-of (a .self)) (a .heard) (k .if1 .left)
+    (none-there 32 J T (a .host) (now (a .masks)) (now (a .deals)) _ _ e (k .if1 .left) (a .self .order) (a .self .turn)
+    (q .before .before .if2 .left) _ (q .before .order-at .ensures) _ (q .seek .ensures .is) (c .before .enum-told .given .1))
 
 returns-4 : tie.Need-returns-4
 unfolding steps-of
@@ -122,8 +143,13 @@ returns-4 c =
     let a = k .before .before .before .before .before .before .before .before .args in
     let h = there (c .before .before .before .before) in
     let s = h .standing in
+    let J = now (a .job) in
+    let T = now (a .table) in
+    let o = a .self .order in
     c .resume .ensures
-    ∙ at-exchange (a .host) (job-script 32 (now (a .job)) (now (a .table))) (now (a .masks)) (now (a .deals)) (state-of (a .self)) (a .heard) _ _ (k .before .before .check-lent .ensures .0) (k .if1 .left) _ _ _ _ (s .speaks) (steps-at (a .host) (now (a .masks)) (now (a .deals)) (job-gates 32 (now (a .job)) (now (a .table))) (a .self .order) _ _ (gates-drop 32 (now (a .job)) (now (a .table)) (a .self .order) (s .in-job)) (s .held) (s .there)) (h .is)
+    ∙ at-exchange (a .host) (job-script 32 J T) (now (a .masks)) (now (a .deals)) _ _ (k .before .before .check-lent .ensures .0)
+    (state-of (a .self)) (a .heard) (k .if1 .left) _ _ _ _ (s .speaks)
+    (steps-at 32 (job-gates 32 J T) o _ _ (gates-drop 32 J T o (s .in-job)) (s .held) (s .there)) (h .is)
 
 pub hear-spec : {M : Type 1} → statement M
 hear-spec =

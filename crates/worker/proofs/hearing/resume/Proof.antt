@@ -7,7 +7,8 @@ use Rattle.jobs.specs.Job.{job-gates}
 use Rattle.worker.specs.Answers.{state-of}
 use Rattle.gates.proofs.Uses.{few-used}
 use Rattle.worker.proofs.Jobs.{gates-drop}
-use Rattle.worker.proofs.Heard.{resumed, not-past, fetched-there, speaks-there}
+use Rattle.walks.proofs.Programs.{resumed}
+use Rattle.worker.proofs.Places.{not-past, fetched-there, speaks-there}
 use borrow.Author.Needs.{needs}
 use Rattle.worker.proofs.hearing.resume.Statement.{statement}
 use Rattle.worker.proofs.hearing.resume.Tie as tie
@@ -38,7 +39,8 @@ returns c =
     let f = c .before .before .before in
     let a = f .before .before .before .before .before .before .before .args in
     let p = f .before .before .before .before .before .before .before .pre in
-    not-past (now (a .job)) (now (a .table)) (a .s .order) (a .at .gate) (p .1) _ (f .before .order-at .ensures) _ (f .fetch .ensures) (c .before .enum-told .given .1)
+    not-past 32 (now (a .job)) (now (a .table)) (a .s .order) (a .at .gate) (p .1) _ (f .before .order-at .ensures) _ (f .fetch .ensures)
+    (c .before .enum-told .given .1)
 
 meet-requires : tie.Need-meet-requires
 meet-requires c κs = search needs
@@ -53,15 +55,19 @@ few c =
 
 behind-requires : tie.Need-behind-requires
 behind-requires c κs =
-    let p = c .before .before .before .before .before .before .before .before .before .before .before .before .before .before .before .before .pre in
+    let x = c .before .before .before .before .before .before .before .before .before .before in
+    let p = x .before .before .before .before .before .before .pre in
     (few c .0, few c .1, omega (arith, p .2), omega (arith, p .4), omega (arith, p .5))
 
 add-advance : tie.Need-add-advance
-add-advance c = omega (arith, c .before .before .before .before .before .before .before .before .before .before .before .before .before .before .before .before .before .pre .6)
+add-advance c =
+    let x = c .before .before .before .before .before .before .before .before .before .before in
+    omega (arith, x .before .before .before .before .before .before .before .pre .6)
 
 advance-requires : tie.Need-advance-requires
 advance-requires c κs =
-    let p = c .before .before .before .before .before .before .before .before .before .before .before .before .before .before .before .before .before .pre in
+    let x = c .before .before .before .before .before .before .before .before .before .before in
+    let p = x .before .before .before .before .before .before .before .pre in
     let b = c .behind .ensures in
     let q = few (c .before) in
     (p .0, omega (arith, b .0, p .2), omega (arith, b .1, q .0, p .4), omega (arith, b .2, q .1, p .5), omega (arith, p .6))
@@ -74,10 +80,16 @@ returns-2 c =
     let a = f .before .before .before .before .before .before .before .args in
     let p = f .before .before .before .before .before .before .before .pre in
     let b = c .before .behind .ensures in
+    let J = now (a .job) in
+    let T = now (a .table) in
+    let o = a .s .order in
+    let eo = f .before .order-at .ensures in
     c .advance .ensures
-    ∙ resumed (a .host) (now (a .masks)) (now (a .deals)) (job-gates 32 (now (a .job)) (now (a .table))) (a .s .order) (a .at .gate) _ (gates-drop 32 (now (a .job)) (now (a .table)) (a .s .order) (p .1 .in-job)) _
-    (fetched-there (now (a .job)) (now (a .table)) (a .s .order) (a .at .gate) (p .1) _ (f .before .order-at .ensures) _ (f .fetch .ensures) _ (g .g .given .1)) (speaks-there (now (a .job)) (now (a .table)) (a .s .order) (a .at .gate) (p .1) _ (f .before .order-at .ensures) _ (f .fetch .ensures) _ (g .g .given .1))
-    (state-of (a .s)) (a .heard) (a .at .a) (a .b) (a .at .deals) _ _ _ _ _ _ (u .used-by .ensures) (u .before .meet .ensures) (b .0) (b .1) (b .2)
+    ∙ resumed 32 (a .host) (now (a .masks)) (now (a .deals)) (job-gates 32 J T) o (a .at .gate) _ (gates-drop 32 J T o (p .1 .in-job)) _
+    (fetched-there 32 J T o (a .at .gate) (p .1) _ eo _ (f .fetch .ensures) _ (g .g .given .1))
+    (speaks-there 32 J T o (a .at .gate) (p .1) _ eo _ (f .fetch .ensures) _ (g .g .given .1))
+    (state-of (a .s)) (a .heard) (a .at .a) (a .b) (a .at .deals) _ _ _ _ _ _ (u .used-by .ensures) (u .before .meet .ensures) (b .0) (b .1)
+    (b .2)
 
 pub resume-spec : {M : Type 1} → statement M
 resume-spec =

@@ -7,7 +7,7 @@ use Rattle.calls.proofs.Scripts.{job-made}
 use Rattle.worker.specs.Answers.{lanes-of}
 use Rattle.calls.proofs.Faults.{no-fault}
 use Rattle.worker.proofs.Jobs.{sized}
-use Rattle.worker.proofs.Answered.{start-refused, started}
+use Rattle.walks.proofs.Answers.{start-refused, started}
 use borrow.Author.Needs.{needs}
 use Rattle.worker.proofs.starting.start.Statement.{statement}
 use Rattle.worker.proofs.starting.start.Tie as tie
@@ -28,19 +28,32 @@ returns : tie.Need-returns
 returns c =
     let k = c .before .before .before in
     let a = k .before .before .before .before .before .before .before .before .before .args in
-    c .refused .ensures ∙ start-refused (a .host) (job-script 32 (now (a .job)) (now (a .table))) (now (a .masks)) (now (a .deals)) (lanes-of (a .registers)) _ _ (k .check-lent .ensures .0) _ _ (k .before .before .fresh .ensures) (k .before .fresh2 .ensures) (c .before .if1 .taken)
+    c .refused .ensures
+    ∙ start-refused (a .host) (job-script 32 (now (a .job)) (now (a .table))) (now (a .masks)) (now (a .deals)) _ _
+    (k .check-lent .ensures .0)
+    (lanes-of (a .registers)) _ _ (k .before .before .fresh .ensures) (k .before .fresh2 .ensures) (c .before .if1 .taken)
 
 advance-requires : tie.Need-advance-requires
 advance-requires c κs =
     let k = c .before .before in
     let a = k .before .before .before .before .before .before .before .before .before .args in
-    (sized (now (a .job)) (now (a .table)) (no-fault _ (job-script 32 (now (a .job)) (now (a .table))) _ _ (ap (λ (f : Fault). f .0) (sym (k .check-lent .ensures .0)) ∙ c .if1 .left)), omega arith, omega arith, omega arith, omega arith)
+    let none = ap (λ (f : Fault). f .0) (sym (k .check-lent .ensures .0)) ∙ c .if1 .left in (
+      sized (now (a .job)) (now (a .table)) (no-fault _ (job-script 32 (now (a .job)) (now (a .table))) _ _ none),
+      omega arith,
+      omega arith,
+      omega arith,
+      omega arith,
+    )
 
 returns-2 : tie.Need-returns-2
 returns-2 c =
     let k = c .before .before .before in
     let a = k .before .before .before .before .before .before .before .before .before .args in
-    c .advance .ensures ∙ started (a .host) (job-script 32 (now (a .job)) (now (a .table))) (now (a .masks)) (now (a .deals)) (lanes-of (a .registers)) _ _ (k .check-lent .ensures .0) _ _ (k .before .before .fresh .ensures) (k .before .fresh2 .ensures) (job-gates 32 (now (a .job)) (now (a .table))) (job-made 32 (now (a .job)) (now (a .table))) (c .before .if1 .left)
+    let J = now (a .job) in
+    let T = now (a .table) in
+    c .advance .ensures
+    ∙ started (a .host) (job-script 32 J T) (now (a .masks)) (now (a .deals)) _ _ (k .check-lent .ensures .0) (lanes-of (a .registers)) _ _
+    (k .before .before .fresh .ensures) (k .before .fresh2 .ensures) 32 (job-gates 32 J T) (job-made 32 J T) (c .before .if1 .left)
 
 pub start-spec : {M : Type 1} → statement M
 start-spec =

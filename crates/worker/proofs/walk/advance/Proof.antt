@@ -1,17 +1,14 @@
-use mathlib.Core.Path.{_≡_, refl, sym, subst, _∙_}
+use mathlib.Core.Path.{_≡_, refl, sym, _∙_}
 use denote.Ref.{now}
 use borrow.Author.Needs.{needs}
 use native.Mathlib.Omega.{arith}
 use Prim.Native.Nat.{_*_, _/_, _+_, _-_, _^_, _<_, _≤_}
 use lib.ListN.{length, drop}
-use Rattle.tables.specs.Table.{rows}
-use Rattle.programs.specs.Orders.{program}
-use Rattle.programs.specs.declared.Order.{Order}
 use Rattle.jobs.specs.Job.{job-gates}
-use Rattle.worker_gate.specs.Exchanges.{cursor}
-use Rattle.worker.specs.Walks.{steps-from, reported}
-use Rattle.worker.proofs.Jobs.{order-there, gates-over}
-use Rattle.worker.proofs.Advancing.{finished, halted, next-order}
+use Rattle.walks.specs.Workers.{cursor}
+use Rattle.walks.specs.Halts.{steps-from, reported}
+use Rattle.walks.proofs.Programs.{finished, halted, next-program}
+use Rattle.worker.proofs.Jobs.{order-there, gates-over, short-order}
 use Rattle.worker.proofs.walk.advance.Statement.{statement}
 use Rattle.worker.proofs.walk.advance.Tie as tie
 use Rattle.calls.specs.Lent.{worker-with}
@@ -19,8 +16,10 @@ use Rattle.calls.specs.Lent.{worker-with}
 abbrev Inv-loop : tie.InvT-loop
 Inv-loop host job table masks deals b n m₀ mask₀ order₀ turn₀ at₀ m mask order turn at =
     (n ≡ length job / 4) × (at .gate ≤ 1000) × (order < 2 ^ 32) × (at .a ≤ 2 ^ 40 + 1000 * order) × (at .deals ≤ 2 ^ 40 + 1000 * order)
-    × (reported (worker-with host masks deals) (steps-from 32 (at .gate) (drop order (job-gates 32 job table))) (cursor order turn (at .a) b (at .deals)) (m, mask)
-    ≡ reported (worker-with host masks deals) (steps-from 32 (at₀ .gate) (drop order₀ (job-gates 32 job table))) (cursor order₀ turn₀ (at₀ .a) b (at₀ .deals)) (m₀, mask₀))
+    × (reported (worker-with host masks deals) (steps-from 32 (at .gate) (drop order (job-gates 32 job table)))
+    (cursor order turn (at .a) b (at .deals)) (m, mask)
+    ≡ reported (worker-with host masks deals) (steps-from 32 (at₀ .gate) (drop order₀ (job-gates 32 job table)))
+    (cursor order₀ turn₀ (at₀ .a) b (at₀ .deals)) (m₀, mask₀))
 
 abbrev μ-loop : tie.MeasureT-loop
 μ-loop host job table masks deals b n m₀ mask₀ order₀ turn₀ at₀ m mask order turn at = n - order
@@ -43,7 +42,7 @@ walk-order-requires c κs =
     let a = t .before .before .before .before .before .before .before .before .args in
     let p = t .before .before .before .before .before .before .before .before .pre in
     let h : l .order < length (now (a .job)) / 4 = omega (arith, c .before .before .before .loop-test .taken, l .inv .0) in (
-      subst (λ (o : Order). length (program 32 (rows (now (a .table))) o) ≤ 1000) (sym (c .before .before .order-at .ensures)) (p .0 .few-gates (l .order) h),
+      short-order 32 (now (a .job)) (now (a .table)) (p .0) (l .order) h _ (c .before .before .order-at .ensures),
       l .inv .1,
       omega (arith, l .inv .3, h, p .0 .few-words),
       omega (arith, l .inv .4, h, p .0 .few-words),
@@ -59,9 +58,13 @@ say-requires : tie.Need-say-requires Inv-loop μ-loop
 say-requires c κs =
     let t = c .before .before .before .before .before .before .before .before .before .before .before in
     let l = t .loop in
+    let a = t .before .before .before .before .before .before .before .before .args in
     let p = t .before .before .before .before .before .before .before .before .pre in
-    let w = c .before .before .before .before .before .before .walk-order .ensures in
-    omega (arith, c .before .before .before .before .before .before .before .before .before .before .loop-test .taken, l .inv .0, w .few, w .few-a, l .inv .3, p .0 .few-words)
+    let d = c .before .before .before .before .before .before in
+    let q = d .walk-order .ensures .going in
+    let h : l .order < length (now (a .job)) / 4 = omega (arith, d .before .before .before .before .loop-test .taken, l .inv .0) in
+    let short = short-order 32 (now (a .job)) (now (a .table)) (p .0) (l .order) h _ (d .before .before .before .order-at .ensures) in
+    omega (arith, h, q .few 1000 (l .inv .1) short, q .few-a, l .inv .3, p .0 .few-words)
 
 cast-answered : tie.Need-cast-answered Inv-loop μ-loop
 cast-answered c =
@@ -92,10 +95,16 @@ returns c =
     let l = t .loop in
     let a = t .before .before .before .before .before .before .before .before .args in
     let p = t .before .before .before .before .before .before .before .before .pre in
-    let w = c .before .before .before .before .before .before .before in
-    let h : l .order < length (now (a .job)) / 4 = omega (arith, c .before .before .before .before .before .before .before .before .before .before .before .before .loop-test .taken, l .inv .0) in
+    let J = now (a .job) in
+    let T = now (a .table) in
+    let f = c .before .before .before .before .before .before .before in
+    let h : l .order < length J / 4 = omega (arith, f .before .before .before .before .before .loop-test .taken, l .inv .0) in
+    let there = order-there 32 J T (l .order) h _ (f .before .before .before .before .order-at .ensures) in
     c .answered .ensures
-    ∙ sym (halted (a .host) (now (a .masks)) (now (a .deals)) (job-gates 32 (now (a .job)) (now (a .table))) (l .order) (l .turn) (l .at .gate) (l .at .a) (a .b) (l .at .deals) (l .m, l .mask) _ (order-there 32 (now (a .job)) (now (a .table)) (l .order) h _ (w .before .before .before .before .order-at .ensures)) _ _ _ _ _ (w .before .walk-order .ensures) _ (w .fetch .ensures) _ _ (c .before .before .before .before .before .g .given .1) (c .before .say .ensures)) ∙ l .inv .5
+    ∙ sym (halted 32 (a .host) (now (a .masks)) (now (a .deals)) (job-gates 32 J T) (l .order) (l .turn) (l .at .gate) (l .at .a) (a .b)
+    (l .at .deals) (l .m, l .mask) _ there _ _ _ _ _ (f .before .walk-order .ensures) _ (f .fetch .ensures) _ _
+    (c .before .before .before .before .before .g .given .1) (c .before .say .ensures))
+    ∙ l .inv .5
 
 enum-told : tie.Need-enum-told Inv-loop μ-loop
 enum-told c = search needs
@@ -112,14 +121,23 @@ loop-again c =
     let l = t .loop in
     let a = t .before .before .before .before .before .before .before .before .args in
     let p = t .before .before .before .before .before .before .before .before .pre in
-    let w = c .before .before .before .walk-order .ensures in
-    let h : l .order < length (now (a .job)) / 4 = omega (arith, c .before .before .before .before .before .before .before .loop-test .taken, l .inv .0) in (
+    let J = now (a .job) in
+    let T = now (a .table) in
+    let d = c .before .before .before in
+    let q = d .walk-order .ensures in
+    let eo = d .before .before .before .order-at .ensures in
+    let h : l .order < length J / 4 = omega (arith, d .before .before .before .before .loop-test .taken, l .inv .0) in
+    let few = q .going .few 1000 (l .inv .1) (short-order 32 J T (p .0) (l .order) h _ eo) in
+    let next =
+    next-program 32 (a .host) (now (a .masks)) (now (a .deals)) (job-gates 32 J T) (l .order) (l .turn) (l .at .gate) (l .at .a) (a .b)
+    (l .at .deals) (l .m, l .mask) _ (order-there 32 J T (l .order) h _ eo) _ _ _ _ _ q _ (c .before .before .fetch .ensures)
+    (c .enum-told .given .1) in (
       l .inv .0,
       omega arith,
       omega (arith, h, p .0 .few-words),
-      omega (arith, w .few, w .few-a, l .inv .3),
-      omega (arith, w .few, w .few-deals, l .inv .4),
-      sym (next-order (a .host) (now (a .masks)) (now (a .deals)) (job-gates 32 (now (a .job)) (now (a .table))) (l .order) (l .turn) (l .at .gate) (l .at .a) (a .b) (l .at .deals) (l .m, l .mask) _ (order-there 32 (now (a .job)) (now (a .table)) (l .order) h _ (c .before .before .before .before .before .before .order-at .ensures)) _ _ _ _ _ w _ (c .before .before .fetch .ensures) (c .enum-told .given .1)) ∙ l .inv .5,
+      omega (arith, few, q .going .few-a, l .inv .3),
+      omega (arith, few, q .going .few-deals, l .inv .4),
+      sym next ∙ l .inv .5,
     )
 
 cast-answered-3 : tie.Need-cast-answered-3 Inv-loop μ-loop
@@ -141,7 +159,13 @@ returns-2 c =
     let l = t .loop in
     let a = t .before .before .before .before .before .before .before .before .args in
     let p = t .before .before .before .before .before .before .before .before .pre in
-    c .answered2 .ensures ∙ sym (finished (a .host) (now (a .masks)) (now (a .deals)) (job-gates 32 (now (a .job)) (now (a .table))) (l .order) (l .turn) (l .at .gate) (l .at .a) (a .b) (l .at .deals) (l .m, l .mask) (gates-over 32 (now (a .job)) (now (a .table)) (l .order) (omega (arith, c .before .loop-test .left, l .inv .0)))) ∙ l .inv .5
+    let J = now (a .job) in
+    let T = now (a .table) in
+    let over = gates-over 32 J T (l .order) (omega (arith, c .before .loop-test .left, l .inv .0)) in
+    c .answered2 .ensures
+    ∙ sym (finished 32 (a .host) (now (a .masks)) (now (a .deals)) (job-gates 32 J T) (l .order) (l .turn) (l .at .gate) (l .at .a) (a .b)
+    (l .at .deals) (l .m, l .mask) over)
+    ∙ l .inv .5
 
 pub advance-spec : {M : Type 1} → statement M
 advance-spec =

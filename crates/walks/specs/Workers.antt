@@ -1,4 +1,5 @@
--- What a host does at one gate: its word of a deal, its new mask, the word that it speaks, and its lanes when it has heard the other's. Assumes nothing.
+-- Hosts 1 and 2 at one step: a host's word of a deal, its new mask, and its lanes when it has heard the other's word.
+-- Assumes nothing.
 use mathlib.Core.Bool.{cond}
 use mathlib.Core.List.{List}
 use Prim.Native.Nat.{ℕ}

@@ -1,16 +1,18 @@
--- Host 0 at one gate: what it writes on its lanes and into the buffer of deals, and what it has used then. Assumes nothing.
+-- Host 0 on its way: what it writes at a step on its lanes and into the buffer of deals, and what it has used then; and
+-- its walk over a list of steps. Assumes nothing.
 use mathlib.Core.Path.{_≡_}
-use mathlib.Core.List.{List}
-use Prim.Native.Nat.{ℕ, _+_}
-use lib.ListN.{set}
+use mathlib.Core.List.{List, [], _∷_}
+use Prim.Native.Nat.{ℕ, _+_, _≤_}
+use lib.ListN.{length, set}
 use Rattle.gates.specs.declared.Shape.{Shape}
 use Rattle.gates.specs.declared.Shape.the-variants.{Local, Dealing, Product, Refreshing}
+use Rattle.gates.specs.declared.Used.{Used}
 use Rattle.gates.specs.Steps.{Lane, at, Step}
+use Rattle.gates.specs.Costs.{cost}
 use Rattle.gates.specs.Hosts.{on-mask}
 use Rattle.gates.specs.Speech.{dealt-word, shape}
-use Rattle.gates.specs.declared.Used.{Used}
 
--- host 0 on its way: the words used of A and of B, the deals written, its lanes and the buffer
+-- the words used of A and of B, the deals written, the lanes and the buffer
 pub record Dealer : Type 0 where
   pub a : ℕ
   pub b : ℕ
@@ -22,15 +24,31 @@ pub record Dealer : Type 0 where
 abbrev pub dealer : Used → (l1 l2 : Lane) (buffer : List ℕ) → Dealer
 dealer u l1 l2 buf = record { a = u .a; b = u .b; deals = u .deals; l1 = l1; l2 = l2; buffer = buf }
 
+-- nothing used yet
+abbrev pub outset : (l1 l2 : Lane) (buffer : List ℕ) → Dealer
+outset l1 l2 buf = record { a = 0; b = 0; deals = 0; l1 = l1; l2 = l2; buffer = buf }
+
 -- these are its lanes and its buffer
 abbrev pub Holds : Dealer → (l1 l2 : Lane) (buffer : List ℕ) → Type 0
 Holds s l1 l2 buf = (l1 ≡ s .l1) × (l2 ≡ s .l2) × (buf ≡ s .buffer)
+
+-- this is what it has used
+abbrev pub Counts : Dealer → Used → Type 0
+Counts s u = (u .a ≡ s .a) × (u .b ≡ s .b) × (u .deals ≡ s .deals)
 
 -- ---- a step of each shape
 
 -- a gate on each lane alone
 abbrev pub with-local : Step → Dealer → Dealer
-with-local x s = record { a = s .a; b = s .b; deals = s .deals; l1 = on-mask x 0 (s .l1); l2 = on-mask x 0 (s .l2); buffer = s .buffer }
+with-local x s =
+    record {
+      a = s .a;
+      b = s .b;
+      deals = s .deals;
+      l1 = on-mask x 0 (s .l1);
+      l2 = on-mask x 0 (s .l2);
+      buffer = s .buffer;
+    }
 
 -- what is dealt at a step, with the next word of A
 abbrev pub next-deal : (A : List ℕ) → Step → Dealer → ℕ
@@ -63,7 +81,14 @@ with-product A B x d s =
 -- "new L1 from A, L2 from B"
 abbrev pub with-refresh : (A B : List ℕ) (d : ℕ) → Dealer → Dealer
 with-refresh A B d s =
-    record { a = s .a + 1; b = s .b + 1; deals = s .deals; l1 = set (s .l1) d (at A (s .a)); l2 = set (s .l2) d (at B (s .b)); buffer = s .buffer }
+    record {
+      a = s .a + 1;
+      b = s .b + 1;
+      deals = s .deals;
+      l1 = set (s .l1) d (at A (s .a));
+      l2 = set (s .l2) d (at B (s .b));
+      buffer = s .buffer;
+    }
 
 module _ (A B : List ℕ) where
   abbrev pub shaped : Shape → Step → Dealer → Dealer
@@ -74,3 +99,15 @@ module _ (A B : List ℕ) where
 
   unfoldable pub dealing : Step → Dealer → Dealer
   dealing x s = shaped (shape x) x s
+
+  -- ---- a list of steps
+
+  unfoldable pub deal-all : List Step → Dealer → Dealer
+  deal-all [] s = s
+  deal-all (x ∷ ss) s = deal-all ss (dealing x s)
+
+  -- the lists and the buffer have room for the steps to come
+  pub record Room (ss : List Step) (s : Dealer) : Type 0 where
+    pub a : s .a + cost ss .a ≤ length A
+    pub b : s .b + cost ss .b ≤ length B
+    pub deals : s .deals + cost ss .deals ≤ length (s .buffer)

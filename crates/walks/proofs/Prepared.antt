@@ -1,4 +1,4 @@
--- Preparation's answer, from what its checks find and from where its walk ends. Assumes nothing.
+-- The answer of preparing a script, from what the checks find and from where host 0's walk ends. Assumes nothing.
 use mathlib.Core.Path.{_≡_, refl, ap, _∙_}
 use mathlib.Core.List.{List, [], _++_}
 use Prim.Native.Nat.{ℕ, zero, suc, _+_, _≤_}
@@ -14,15 +14,14 @@ use Rattle.jobs.specs.Job.{Fault}
 use Rattle.calls.specs.Scripts.{Script, script-cost}
 use Rattle.calls.specs.Lent.{dealer-fault}
 use Rattle.calls.specs.Calls.{fresh, fresh2, Prepared, prepare-walk, script-deals, prepared, prepare}
-use Rattle.dealer_gate.specs.Dealings.{Dealer}
-use Rattle.dealer.specs.Preparation.{outset, deal-all, Room}
-use Rattle.dealer.proofs.Dealers.{stands, dealt-whole}
-use Rattle.dealer.proofs.Checks.{Enough, accepted}
+use Rattle.walks.specs.Dealers.{Dealer, outset, deal-all, Room}
+use Rattle.calls.proofs.Faults.{Enough, enough-lent}
+use Rattle.walks.proofs.Preparing.{stands, dealt-whole}
 
 module _ (σ : Script) (A B buf : List ℕ) where
   pub room-outset : (l1 l2 : Lane) → dealer-fault σ A B buf .0 ≡ 0 → Room A B (σ .steps) (outset l1 l2 buf)
   room-outset l1 l2 e =
-      let q : Enough (script-cost σ) A B buf = accepted σ A B buf e in
+      let q : Enough (script-cost σ) A B buf = enough-lent σ A B buf e in
       record { a = omega arith; b = omega arith; deals = omega arith }
 
   module _ (r : Pair) where
@@ -68,10 +67,11 @@ module _ (σ : Script) (A B buf : List ℕ) where
       dealt-count = ap (λ (x : Dealer). x .deals) ended ∙ counted ∙ as-many
 
       pub finished : (k1 k2 : List ℕ) → k1 ≡ take (σ .slots) (s .l1) → k2 ≡ take (σ .slots) (s .l2)
-          → _≡_ {A = Prepared} (record { number = 0; index = 0; deals = s .deals; masks = (k1, k2); buffer = s .buffer }) (prepare σ A B buf r)
+          → _≡_ {A = Prepared} (record { number = 0; index = 0; deals = s .deals; masks = (k1, k2); buffer = s .buffer })
+          (prepare σ A B buf r)
       unfolding prepare prepared
       finished k1 k2 e1 e2 =
-          let q : Enough (script-cost σ) A B buf = accepted σ A B buf e in
+          let q : Enough (script-cost σ) A B buf = enough-lent σ A B buf e in
           let m1 : k1 ≡ take (σ .slots) (prepare-walk σ A B r .state .0) = e1 ∙ ap (λ (x : Dealer). take (σ .slots) (x .l1)) ended in
           let m2 : k2 ≡ take (σ .slots) (prepare-walk σ A B r .state .1) = e2 ∙ ap (λ (x : Dealer). take (σ .slots) (x .l2)) ended in
           let n : s .deals ≡ length ds = ap (λ (x : Dealer). x .deals) ended ∙ counted in

@@ -1,0 +1,12 @@
+pub mod Gates
+pub mod Halts
+pub mod Workers
+pub mod Within
+pub mod Programs
+pub mod Seeking
+pub mod Before
+pub mod Places
+pub mod Answers
+pub mod Dealers
+pub mod Preparing
+pub mod Prepared

@@ -1,0 +1,3 @@
+pub mod Workers
+pub mod Halts
+pub mod Dealers

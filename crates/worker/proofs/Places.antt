@@ -1,0 +1,122 @@
+-- A state's place in its job, as the code finds it: which gate stands there, and what is used before it. Assumes nothing.
+use mathlib.Core.Path.{_≡_, sym, ap, subst, _∙_}
+use mathlib.Core.List.{List, [], _∷_}
+use Prim.Native.Nat.{ℕ, _+_, _*_, _/_, _^_, _≤_, _<_}
+use native.Mathlib.Omega.{arith}
+use lib.ListN.{length, getD, take, drop}
+use Rattle.tables.specs.Table.{rows}
+use Rattle.gates.specs.declared.Gate.{Gate}
+use Rattle.gates.specs.Steps.{origin}
+use Rattle.gates.specs.Meaning.{meaning, job-steps}
+use Rattle.gates.specs.Walk.{Exchanging}
+use Rattle.gates.specs.Costs.{Cost}
+use Rattle.programs.specs.declared.Order.{Order}
+use Rattle.programs.specs.Orders.{program}
+use Rattle.program_fetch.specs.declared.Fetched.{Fetched}
+use Rattle.program_fetch.specs.declared.Fetched.the-variants.{At, Past}
+use Rattle.program_fetch.specs.Fetch.{fetched}
+use Rattle.program_seek.specs.declared.Sought.{Sought}
+use Rattle.program_seek.specs.declared.Sought.the-variants.{Nowhere}
+use Rattle.program_seek.specs.declared.Sought.the-variants as Sought
+use Rattle.program_seek.specs.Seek.{sought}
+use Rattle.jobs.specs.Job.{Fault, job-fault, job-gates, job-cost}
+use Rattle.jobs.specs.Walk.{order-at}
+use Rattle.calls.specs.Scripts.{job-script}
+use Rattle.calls.specs.Lent.{lent-fault, lent, passed}
+use Rattle.calls.specs.Places.{nowhere, found, seek}
+use Rattle.calls.proofs.Faults.{no-fault}
+use Rattle.walks.specs.Workers.{cursor}
+use Rattle.walks.specs.Halts.{steps-from}
+use Rattle.walks.proofs.Gates.{never}
+use Rattle.walks.proofs.Before.{before}
+use Rattle.walks.proofs.Places.{no-place, found-at}
+use Rattle.worker.specs.Jobs.{Sized, Standing}
+use Rattle.worker.proofs.Jobs.{gates-count, gates-at, cost-before}
+
+-- a state stands there, all its numbers are small, and it is what `seek` finds: the gate i, with a words of A, b of B and so many
+-- deals used before it
+pub record There (w : ℕ) (job table : List ℕ) (o x i a b dealt : ℕ) : Type 0 where
+  pub standing : Standing w job table o i
+  pub few-gates : i < 1000
+  pub few-turns : x < 1000
+  pub few-a : a < 2 ^ 30
+  pub few-b : b < 2 ^ 30
+  pub few-deals : dealt < 2 ^ 30
+  pub is : seek o x (job-steps w (job-gates w job table)) origin
+      ≡ found (steps-from w i (drop o (job-gates w job table))) (cursor o x a b dealt)
+
+module _ (w : ℕ) (job table : List ℕ) where
+  -- the program of the order at o
+  abbrev own : ℕ → List Gate
+  own o = program w (rows table) (order-at job o)
+
+  module _ (o x : ℕ) (e : o < length job / 4) where
+    in-gates : o < length (job-gates w job table)
+    in-gates = omega (arith, gates-count w job table)
+
+    sought-own : sought w (getD (job-gates w job table) o []) x 0 0 0 ≡ sought w (own o) x 0 0 0
+    sought-own = ap (λ (gs : List Gate). sought w gs x 0 0 0) (gates-at w job table o e)
+
+    pub found-here : Sized w job table → (i a dealt : ℕ) → sought w (own o) x 0 0 0 ≡ Sought.Found i a dealt
+        → let k = before w (job-gates w job table) o in
+        There w job table o x i (k .a + a) (k .b + x) (k .deals + dealt)
+    found-here Z i a n s =
+        let os = job-gates w job table in
+        let short : (q : ℕ) → q ≤ o → length (getD os q []) ≤ 1000 =
+        λ q h. subst (λ (z : List Gate). length z ≤ 1000) (sym (gates-at w job table q (omega arith))) (Z .few-gates q (omega arith)) in
+        let p = found-at w os o x in-gates 1000 short i a n (sought-own ∙ s) in
+        let at : fetched (own o) i ≡ At (p .gate) = ap (λ (z : List Gate). fetched z i) (sym (gates-at w job table o e)) ∙ p .there in
+        record {
+          standing = record { in-job = e; held = p .gate; there = at; speaks = p .speaks };
+          few-gates = p .few-gates;
+          few-turns = omega (arith, p .few-gates, p .few-turns);
+          few-a = omega (arith, p .few-gates, p .few-a, Z .few-words);
+          few-b = omega (arith, p .few-gates, p .few-b, Z .few-words);
+          few-deals = omega (arith, p .few-gates, p .few-deals, Z .few-words);
+          is = p .is;
+        }
+
+    pub nowhere-here : sought w (own o) x 0 0 0 ≡ Nowhere → seek o x (job-steps w (job-gates w job table)) origin ≡ nowhere
+    nowhere-here s = no-place w (job-gates w job table) o x in-gates (sought-own ∙ s)
+
+  -- ---- what the code has in hand: its lists are checked, the order and its place in it are found, and the orders before are counted
+
+  module _ (h : ℕ) (M D : List ℕ) (n i : ℕ) (e : (n, i) ≡ lent-fault (lent h (job-script w job table) M D)) (z : n ≡ 0) where
+    pub accepted : job-fault w job table .0 ≡ 0
+    accepted = no-fault h (job-script w job table) M D (ap (λ (f : Fault). f .0) (sym e) ∙ z)
+
+    module _ (o x : ℕ) (l : o < length job / 4) (ord : Order) (eo : ord ≡ order-at job o) (f : Sought)
+        (ef : f ≡ sought w (program w (rows table) ord) x 0 0 0) where
+      sought-there : f ≡ sought w (own o) x 0 0 0
+      sought-there = ef ∙ ap (λ (r : Order). sought w (program w (rows table) r) x 0 0 0) eo
+
+      pub none-there : f ≡ Nowhere → seek o x (job-steps w (job-gates w job table)) origin ≡ nowhere
+      none-there p = nowhere-here o x l (sym sought-there ∙ p)
+
+      pub found-there : Sized w job table → (g a dealt : ℕ) → f ≡ Sought.Found g a dealt
+          → (u : Cost) → u ≡ passed n (job-cost w (take (o * 4) job) table)
+          → There w job table o x g (u .a + a) (u .b + x) (u .deals + dealt)
+      unfolding passed
+      found-there Z g a dealt p u eu =
+          let H = found-here o x l Z g a dealt (sym sought-there ∙ p) in
+          let b : u ≡ before w (job-gates w job table) o =
+          eu ∙ ap (λ (m : ℕ). passed m (job-cost w (take (o * 4) job) table)) z ∙ cost-before w job table o (omega arith) in
+          subst (λ (r : Cost). There w job table o x g (r .a + a) (r .b + x) (r .deals + dealt)) (sym b) H
+
+  -- ---- the gate that the code fetched is the one where the state stands
+
+  module _ (o i : ℕ) (S : Standing w job table o i) (ord : Order) (eo : ord ≡ order-at job o) (f : Fetched)
+      (ef : f ≡ fetched (program w (rows table) ord) i) where
+    same-fetch : f ≡ fetched (own o) i
+    same-fetch = ef ∙ ap (λ (z : Order). fetched (program w (rows table) z) i) eo
+
+    pub not-past : {A : Type 0} → f ≡ Past → A
+    not-past p = never (cc (same-fetch, S .there))
+
+    pub fetched-there : (g : Gate) → f ≡ At g → fetched (own o) i ≡ At g
+    fetched-there g p = sym same-fetch ∙ p
+
+    pub speaks-there : (g : Gate) → f ≡ At g → Exchanging (meaning w g ∷ [])
+    speaks-there g p =
+        let e : S .held ≡ g = cc (same-fetch, S .there) in
+        subst (λ (z : Gate). Exchanging (meaning w z ∷ [])) e (S .speaks)
