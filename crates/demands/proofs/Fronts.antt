@@ -8,13 +8,13 @@ use Rattle.words.specs.Words.{numbers}
 use Rattle.words.specs.Signed.{signed}
 use Rattle.shares.specs.Gates.{value}
 use Rattle.tables.specs.Table.{rows}
-use Rattle.gates.specs.declared.Gate.{Gate}
 use Rattle.gates.specs.Steps.{Step, origin}
-use Rattle.gates.specs.Meaning.{meaning, order-steps, job-steps}
+use Rattle.gates.specs.Meaning.{job-steps}
 use Rattle.gates.specs.Walk.{Conf, whole}
 use Rattle.gates.specs.Hosts.{Triple, act, share}
 use Rattle.gates.specs.Costs.{Cost, cost, plus}
 use Rattle.gates.proofs.Needs.{whole-append, cost-append}
+use Rattle.walks.proofs.Gates.{programs-append}
 use Rattle.programs.specs.declared.Order.{Order}
 use Rattle.programs.specs.Orders.{program}
 use Rattle.jobs.specs.Job.{orders, job-gates, steps-of}
@@ -93,16 +93,6 @@ cut (k ∷ d ∷ a ∷ c ∷ ws) (suc i) h =
       splits = rw e (ap (λ (os : List Order). record { kind = k; target = d; source = a; fourth = c } ∷ os) (r .splits));
     }
 
-order-append : (w : ℕ) (gs : List Gate) (ss ts : List Step) → order-steps w gs (ss ++ ts) ≡ order-steps w gs ss ++ ts
-unfolding order-steps
-order-append w [] ss ts = refl
-order-append w (g ∷ gs) ss ts = ap (λ (l : List Step). meaning w g ∷ l) (order-append w gs ss ts)
-
-steps-append : (w : ℕ) (os ps : List (List Gate)) → job-steps w (os ++ ps) ≡ job-steps w os ++ job-steps w ps
-unfolding job-steps
-steps-append w [] ps = refl
-steps-append w (o ∷ os) ps = ap (order-steps w o) (steps-append w os ps) ∙ order-append w o (job-steps w os) (job-steps w ps)
-
 module _ (w : ℕ) (S : Setting) (q : ℕ) (hq : q < length (orders (S .job))) where
   abbrev n : ℕ
   n = suc q * 4
@@ -115,7 +105,7 @@ module _ (w : ℕ) (S : Setting) (q : ℕ) (hq : q < length (orders (S .job))) w
   steps-split =
       ap (λ (os : List Order). job-steps w (map (program w (rows (S .table))) os)) (at-q .splits)
       ∙ ap (job-steps w) (map-append (program w (rows (S .table))) (orders (take n (S .job))) (orders (drop n (S .job))))
-      ∙ steps-append w _ _
+      ∙ programs-append w _ _
 
   front : Front (staged w (up-to S q)) (staged w S)
   front =
