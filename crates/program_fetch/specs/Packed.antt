@@ -52,5 +52,5 @@ unfoldable pub unpacked : (k x d packed : ℕ) → Gate
 unpacked k x d p = gate-of k (p / 1000000) (slot-of x d (p / 10000 % 100)) (slot-of x d (p / 100 % 100)) (p % 100)
 
 -- the change of slope at a row, as a word: the slope of the segment after it less that of the segment before it
-unfoldable pub change : List Row → (row : ℕ) → ℕ
-change ps j = wrap 32 (getD (slopes ps) j (pos 0) -ℤ getD (pos 0 ∷ slopes ps) j (pos 0))
+unfoldable pub change : (w : ℕ) → List Row → (row : ℕ) → ℕ
+change w ps j = wrap w (getD (slopes ps) j (pos 0) -ℤ getD (pos 0 ∷ slopes ps) j (pos 0))

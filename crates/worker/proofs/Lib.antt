@@ -1,7 +1,6 @@
 pub mod Walking
 pub mod Seeking
 pub mod Orders
-pub mod Sizes
 pub mod Turns
 pub mod Jobs
 pub mod Advancing

@@ -11,7 +11,8 @@ use Rattle.programs.specs.Orders.{program}
 use Rattle.dealer_gate.specs.Dealings.{dealer, dealing}
 use Rattle.dealer.specs.Preparation.{Room}
 use Rattle.dealer.proofs.Dealers.{joined}
-use Rattle.dealer.proofs.Programs.{gate-inside, few}
+use Rattle.programs.proofs.Sizes.{few}
+use Rattle.dealer.proofs.Programs.{gate-inside}
 use Rattle.dealer.proofs.Turns.{Going, begins, left, room-here, goes-on, ends}
 use Rattle.dealer.proofs.preparing.deal_order.Statement.{statement}
 use Rattle.dealer.proofs.preparing.deal_order.Tie as tie

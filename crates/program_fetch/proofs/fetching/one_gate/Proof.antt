@@ -7,7 +7,7 @@ use Rattle.program_fetch.proofs.fetching.one_gate.Statement.{statement}
 use Rattle.program_fetch.proofs.fetching.one_gate.Tie as tie
 
 returns : tie.Need-returns
-returns c = one-past _ (c .before .pre) _ (c .if1 .taken)
+returns c = one-past 32 _ (c .before .pre) _ (c .if1 .taken)
 
 returns-2 : tie.Need-returns-2
 unfolding program kinds fetched
