@@ -52,7 +52,11 @@ tied : (c n : ℕ) → map (λ (z : Size). z .cost) (kind-sizes 32 c n) ≡ kind
 unfolding kind-sizes kind-costs program-cost order-steps meaning cost step-cost plus
 tied c n = rw (slack-number 32, one-bit-number 32, exact-32, relu-32, curve-tied c n)
 
-of-order : (ps : List Row) (o : Order) → program-cost 32 (program 32 ps o) ≡ kind-cost (o .kind) (o .fourth) (length ps)
+-- at the width w an order's counts are its entry in the table
+abbrev Listed : ℕ → Type 0
+Listed w = (ps : List Row) (o : Order) → program-cost w (program w ps o) ≡ kind-cost (o .kind) (o .fourth) (length ps)
+
+of-order : Listed 32
 unfolding kind-cost program-cost order-steps cost step-cost plus
 of-order ps o =
     ap (λ (z : Size). z .cost) (order-sized 32 ps o)
@@ -66,15 +70,19 @@ unfolding program-cost order-steps cost step-cost plus
 program-then w [] ss = cost-path (omega arith) (omega arith) (omega arith) (omega arith)
 program-then w (g ∷ gs) ss = rw (program-then w gs ss) (cost-path (omega arith) (omega arith) (omega arith) (omega arith))
 
-orders-counts : (ps : List Row) (os : List Order) → cost (job-steps 32 (map (program 32 ps) os)) ≡ table-counts (length ps) os
-unfolding job-steps cost table-counts
-orders-counts ps [] = refl
-orders-counts ps (o ∷ os) =
-    program-then 32 (program 32 ps o) (job-steps 32 (map (program 32 ps) os)) ∙ ap₂ plus (of-order ps o) (orders-counts ps os)
+-- at the width w a job's counts are those of the table
+abbrev pub Tabled : ℕ → Type 0
+Tabled w = (job table : List ℕ) → job-cost w job table ≡ table-counts (length (rows table)) (orders job)
 
-pub job-counts : (job table : List ℕ) → job-cost 32 job table ≡ table-counts (length (rows table)) (orders job)
+orders-counts : (w : ℕ) → Listed w → (ps : List Row) (os : List Order) → cost (job-steps w (map (program w ps) os)) ≡ table-counts (length ps) os
+unfolding job-steps cost table-counts
+orders-counts w listed ps [] = refl
+orders-counts w listed ps (o ∷ os) =
+    program-then w (program w ps o) (job-steps w (map (program w ps) os)) ∙ ap₂ plus (listed ps o) (orders-counts w listed ps os)
+
+pub job-counts : Tabled 32
 unfolding job-cost steps-of job-gates
-job-counts job table = orders-counts (rows table) (orders job)
+job-counts job table = orders-counts 32 of-order (rows table) (orders job)
 
 -- ---- entries of the table
 
@@ -108,8 +116,9 @@ rows-for-curve ruled n c =
     (λ h. refl) (λ h. refl) (λ h. refl) (λ h. refl) (λ h. refl) (λ h. refl) (λ h. refl) (λ h. refl) (λ h. refl) (λ h. refl)
     (λ (h : 10 ≡ 10 → ruled ≡ true). rw (h refl)) (λ k h. refl)
 
-pub rows-right : (ruled : Bool) (n : ℕ) (o : Order) → order-fault 32 ruled o ≡ 0 → kind-cost (o .kind) (o .fourth) (cond ruled n 0) ≡ kind-cost (o .kind) (o .fourth) n
-rows-right ruled n o e = rows-for-curve ruled n (o .fourth) (o .kind) (λ ten. curve-ruled 32 ruled o (good 32 ruled o e) ten .1)
+pub rows-right : (w : ℕ) (ruled : Bool) (n : ℕ) (o : Order) → order-fault w ruled o ≡ 0
+    → kind-cost (o .kind) (o .fourth) (cond ruled n 0) ≡ kind-cost (o .kind) (o .fourth) n
+rows-right w ruled n o e = rows-for-curve ruled n (o .fourth) (o .kind) (λ ten. curve-ruled w ruled o (good w ruled o e) ten .1)
 
 -- ---- how much one order adds
 

@@ -18,7 +18,7 @@ use Rattle.jobs.specs.Walk.{order-at, counted, Small, kind-cost}
 use Rattle.jobs.specs.CostTable.{table-counts}
 use Rattle.jobs.specs.Answers.{Verdict, refusal, judged, check-job, numbered, counts-before}
 use Rattle.jobs.proofs.Orders.{orders-from, no-more}
-use Rattle.jobs.proofs.Sums.{job-counts, rows-right, Below, few, rows-few}
+use Rattle.jobs.proofs.Sums.{Tabled, rows-right, Below, few, rows-few}
 use Rattle.jobs.proofs.Conditions.{sized}
 
 -- ---- from a fault to the answer
@@ -102,41 +102,41 @@ given job table {ruled} e r en = record {
 }
 
 -- at the head, with i orders behind it: the faults still to be found are the job's, and the counts so far, with those of the orders to come, are the job's
-pub record Going (job table : List ℕ) (i : ℕ) (sum : Counts) : Type 0 where
-  pub faults : orders-fault 32 (keeps-rules table) (orders (drop (i * 4) job)) i ≡ orders-fault 32 (keeps-rules table) (orders job) 0
-  pub costs : plus (counted sum) (table-counts (length (rows table)) (orders (drop (i * 4) job))) ≡ job-cost 32 job table
+pub record Going (w : ℕ) (job table : List ℕ) (i : ℕ) (sum : Counts) : Type 0 where
+  pub faults : orders-fault w (keeps-rules table) (orders (drop (i * 4) job)) i ≡ orders-fault w (keeps-rules table) (orders job) 0
+  pub costs : plus (counted sum) (table-counts (length (rows table)) (orders (drop (i * 4) job))) ≡ job-cost w job table
   pub below : Below (counted sum) i
 
-module _ (job table : List ℕ) where
-  pub starts : (sum : Counts) → counted sum ≡ cost-of 0 0 0 0 → Going job table 0 sum
+module _ (w : ℕ) (job table : List ℕ) where
+  pub starts : Tabled w → (sum : Counts) → counted sum ≡ cost-of 0 0 0 0 → Going w job table 0 sum
   unfolding plus
-  starts sum e = record {
+  starts tabled sum e = record {
     faults = refl;
-    costs = rw (e, job-counts job table) (cost-path (omega arith) (omega arith) (omega arith) (omega arith));
+    costs = rw (e, tabled job table) (cost-path (omega arith) (omega arith) (omega arith) (omega arith));
     below = rw e (omega arith);
   }
 
-  module _ {i : ℕ} {sum : Counts} (g : Going job table i sum) {ruled : Bool} {n : ℕ} (t : Given job table ruled n) where
-    pub done : length job / 4 ≤ i → (job-fault 32 job table ≡ (0, 0)) × (job-cost 32 job table ≡ counted sum)
+  module _ {i : ℕ} {sum : Counts} (g : Going w job table i sum) {ruled : Bool} {n : ℕ} (t : Given job table ruled n) where
+    pub done : length job / 4 ≤ i → (job-fault w job table ≡ (0, 0)) × (job-cost w job table ≡ counted sum)
     unfolding orders-fault plus table-counts
     done h =
         let left = no-more job i h in
-        let fine : orders-fault 32 (keeps-rules table) (orders job) 0 ≡ (0, 0) = sym (g .faults) ∙ rw left in
-        (sized-fault 32 job table (t .size) ∙ fine, sym (g .costs) ∙ rw left (cost-path (omega arith) (omega arith) (omega arith) (omega arith)))
+        let fine : orders-fault w (keeps-rules table) (orders job) 0 ≡ (0, 0) = sym (g .faults) ∙ rw left in
+        (sized-fault w job table (t .size) ∙ fine, sym (g .costs) ∙ rw left (cost-path (omega arith) (omega arith) (omega arith) (omega arith)))
 
-    module _ (h : i * 4 + 4 ≤ length job) {o : Order} (eo : o ≡ order-at job i) {f : ℕ} (ef : f ≡ order-fault 32 ruled o) where
-      fault-here : orders-fault 32 (keeps-rules table) (orders (drop (i * 4) job)) i ≡ fault-at f i (orders-fault 32 (keeps-rules table) (orders (drop ((i + 1) * 4) job)) (suc i))
+    module _ (h : i * 4 + 4 ≤ length job) {o : Order} (eo : o ≡ order-at job i) {f : ℕ} (ef : f ≡ order-fault w ruled o) where
+      fault-here : orders-fault w (keeps-rules table) (orders (drop (i * 4) job)) i ≡ fault-at f i (orders-fault w (keeps-rules table) (orders (drop ((i + 1) * 4) job)) (suc i))
       unfolding orders-fault
       fault-here = rw (orders-from job i h, ef, eo, t .rule)
 
-      pub faulty : (f ≡ 0 → ⊥) → job-fault 32 job table ≡ (f, i)
-      faulty ne = sized-fault 32 job table (t .size) ∙ sym (g .faults) ∙ fault-here ∙ stop f i _ ne
+      pub faulty : (f ≡ 0 → ⊥) → job-fault w job table ≡ (f, i)
+      faulty ne = sized-fault w job table (t .size) ∙ sym (g .faults) ∙ fault-here ∙ stop f i _ ne
 
       module _ (e : f ≡ 0) {k : Counts} (ek : counted k ≡ kind-cost (o .kind) (o .fourth) n) where
         cost-here : counted k ≡ kind-cost (o .kind) (o .fourth) (length (rows table))
         cost-here =
             ek ∙ ap (kind-cost (o .kind) (o .fourth)) (t .row-count)
-            ∙ rows-right ruled (length (rows table)) o (sym ef ∙ e)
+            ∙ rows-right w ruled (length (rows table)) o (sym ef ∙ e)
 
         one : Below (counted k) 1
         one = rw ek (few (o .kind) (o .fourth) n (t .at-most))
@@ -147,17 +147,17 @@ module _ (job table : List ℕ) where
         abbrev rest : Cost
         rest = table-counts (length (rows table)) (orders (drop ((i + 1) * 4) job))
 
-        total : plus (counted sum) (plus (counted k) rest) ≡ job-cost 32 job table
+        total : plus (counted sum) (plus (counted k) rest) ≡ job-cost w job table
         unfolding table-counts
         total =
             let e : o ∷ orders (drop ((i + 1) * 4) job) ≡ orders (drop (i * 4) job) = rw eo (sym (orders-from job i h)) in
             ap (plus (counted sum)) (ap (λ (x : Cost). plus x rest) cost-here ∙ ap (table-counts (length (rows table))) e)
             ∙ g .costs
 
-        pub turn : {s : Counts} → counted s ≡ plus (counted sum) (counted k) → Going job table (i + 1) s
+        pub turn : {s : Counts} → counted s ≡ plus (counted sum) (counted k) → Going w job table (i + 1) s
         unfolding plus
         turn es = record {
-          faults = ap (orders-fault 32 (keeps-rules table) (orders (drop ((i + 1) * 4) job))) (add-one i) ∙ sym (fault-here ∙ skip f i _ e) ∙ g .faults;
+          faults = ap (orders-fault w (keeps-rules table) (orders (drop ((i + 1) * 4) job))) (add-one i) ∙ sym (fault-here ∙ skip f i _ e) ∙ g .faults;
           costs = rw es (cost-path (omega arith) (omega arith) (omega arith) (omega arith)) ∙ total;
           below = let b = g .below in let d = one in rw es (omega arith);
         }
