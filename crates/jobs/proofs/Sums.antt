@@ -120,13 +120,13 @@ pub rows-right : (w : ℕ) (ruled : Bool) (n : ℕ) (o : Order) → order-fault 
     → kind-cost (o .kind) (o .fourth) (cond ruled n 0) ≡ kind-cost (o .kind) (o .fourth) n
 rows-right w ruled n o e = rows-for-curve ruled n (o .fourth) (o .kind) (λ ten. curve-ruled w ruled o (good w ruled o e) ten .1)
 
--- ---- how much one order adds
+-- ---- how much one order adds: a thousand of each, at most
 
 pub record Below (k : Cost) (n : ℕ) : Type 0 where
-  pub deals : k .deals ≤ 240 * n
-  pub words : k .words ≤ 408 * n
-  pub a : k .a ≤ 444 * n
-  pub b : k .b ≤ 204 * n
+  pub deals : k .deals ≤ 1000 * n
+  pub words : k .words ≤ 1000 * n
+  pub a : k .a ≤ 1000 * n
+  pub b : k .b ≤ 1000 * n
 
 few-in-curve : (c n : ℕ) → n ≤ 16 → Below (curve-cost c n) 1
 unfolding curve-cost

@@ -1,5 +1,5 @@
-// Jobs: lists of orders, four words to an order. The definitions of their format, checks and counts, with their laws; the code stands in
-// `orders`, `checks` and `leftovers`.
+// Jobs: lists of orders, four words to an order. The definitions of their format, checks and counts, with their laws;
+// the code stands in `job_order`, `job_check` and `job_leftover`.
 
 // Deals, words spoken by both hosts, and words used of A and of B.
 pub struct Counts {

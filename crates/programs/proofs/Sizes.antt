@@ -214,7 +214,8 @@ unfolding relu-size relu-program adder rounds update-gates updates distances dou
 relu-32 = refl
 
 pub row-32 : row-size 32 ≡ size 42 (cost-of 14 24 26 12)
-unfolding row-size row-program relu-program adder rounds update-gates updates distances doubled to-number program-cost order-steps meaning cost step-cost plus
+unfolding row-size row-program relu-program adder rounds update-gates updates distances doubled to-number
+    program-cost order-steps meaning cost step-cost plus
 row-32 = refl
 
 -- ---- an order has few gates
