@@ -6,17 +6,24 @@ ghost use lib.ListN.{length};
 ghost use Rattle.tables.specs.Table.{rows, keeps-rules};
 ghost use Rattle.gates.specs.Costs.{cost-of, plus};
 ghost use Rattle.jobs.specs.Walk.{counted, Small, kind-cost};
-use programs::Order;
 use jobs::Counts;
+use programs::Order;
 
-// The sizes of a curve's row, which are a ReLU's, and of the exact truncation; at each exchange both hosts speak a word.
+// The sizes of a curve's row, which are a ReLU's, and of the exact truncation; at each exchange both hosts speak.
 const ROW_EXCHANGES: u32 = programs::ROW_EXCHANGES as u32;
+
 const ROW_WORDS: u32 = 2 * ROW_EXCHANGES;
+
 const ROW_WORDS_A: u32 = programs::ROW_WORDS_A as u32;
+
 const ROW_DEALS: u32 = programs::ROW_DEALS as u32;
+
 const EXACT_EXCHANGES: u32 = programs::EXACT_EXCHANGES as u32;
+
 const EXACT_WORDS: u32 = 2 * EXACT_EXCHANGES;
+
 const EXACT_WORDS_A: u32 = programs::EXACT_WORDS_A as u32;
+
 const EXACT_DEALS: u32 = programs::EXACT_DEALS as u32;
 
 pub(crate) fn count_of(deals: u32, words: u32, a: u32, b: u32) -> Counts

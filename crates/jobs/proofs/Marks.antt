@@ -48,7 +48,8 @@ pub record Marked (w : ℕ) (job table : List ℕ) (place i : ℕ) (before : Cou
   pub behind : place ≤ i → counted before ≡ job-cost w (take (place * 4) job) table
 
 module _ (w : ℕ) (job table : List ℕ) where
-  so-far : Tabled w → {i : ℕ} {sum : Counts} → Going w job table i sum → i * 4 ≤ length job → counted sum ≡ job-cost w (take (i * 4) job) table
+  so-far : Tabled w → {i : ℕ} {sum : Counts} → Going w job table i sum → i * 4 ≤ length job
+      → counted sum ≡ job-cost w (take (i * 4) job) table
   so-far tabled {i} {sum} g h =
       let n = length (rows table) in
       cancel (counted sum) (table-counts n (orders (take (i * 4) job))) (table-counts n (orders (drop (i * 4) job)))
@@ -82,5 +83,6 @@ module _ (w : ℕ) (job table : List ℕ) where
       pub all-marked : length job ≤ i * 4 → counted before ≡ job-cost w (take (place * 4) job) table
       all-marked h =
           ⊎-elim (λ (k : place ≤ i). m .behind k)
-          (λ (k : i < place). m .ahead (omega arith) ∙ ap (λ (l : List ℕ). job-cost w l table) (take-all (i * 4) job h ∙ sym (take-all (place * 4) job (omega arith))))
+          (λ (k : i < place). m .ahead (omega arith)
+          ∙ ap (λ (l : List ℕ). job-cost w l table) (take-all (i * 4) job h ∙ sym (take-all (place * 4) job (omega arith))))
           (le-or-lt place i)

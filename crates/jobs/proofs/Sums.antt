@@ -74,7 +74,8 @@ program-then w (g ∷ gs) ss = rw (program-then w gs ss) (cost-path (omega arith
 abbrev pub Tabled : ℕ → Type 0
 Tabled w = (job table : List ℕ) → job-cost w job table ≡ table-counts (length (rows table)) (orders job)
 
-orders-counts : (w : ℕ) → Listed w → (ps : List Row) (os : List Order) → cost (job-steps w (map (program w ps) os)) ≡ table-counts (length ps) os
+orders-counts : (w : ℕ) → Listed w → (ps : List Row) (os : List Order)
+    → cost (job-steps w (map (program w ps) os)) ≡ table-counts (length ps) os
 unfolding job-steps cost table-counts
 orders-counts w listed ps [] = refl
 orders-counts w listed ps (o ∷ os) =
@@ -137,7 +138,8 @@ pub few : (k c n : ℕ) → n ≤ 16 → Below (kind-cost k c n) 1
 unfolding kind-cost kind-costs
 few k c n h =
     by-kind (λ k. Below (kind-cost k c n) 1)
-    (omega arith) (omega arith) (omega arith) (omega arith) (omega arith) (omega arith) (omega arith) (omega arith) (omega arith) (omega arith)
+    (omega arith) (omega arith) (omega arith) (omega arith) (omega arith) (omega arith) (omega arith) (omega arith) (omega arith)
+    (omega arith)
     (few-in-curve c n h) (λ k. omega arith) k
 
 -- ---- the rows of a table that keeps its rules

@@ -25,7 +25,8 @@ pub enum Checked {
     },
 }
 
-// The number, 0 for none, and the order's index; the counts of the job and of the orders before a place in it, 0 where it is refused.
+// The number, 0 for none, and the order's index; the counts of the job and of the orders before a place in it, 0 where
+// it is refused.
 pub struct Findings {
     pub number: u32,
     pub index: u32,

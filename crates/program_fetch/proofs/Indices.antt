@@ -96,7 +96,8 @@ module _ (ws : List ℕ) where
     no-slope-after h = slope-past (rows ws) j (omega (arith, rows-count ws))
 
     pub some-slope-after : suc j < length ws / 2
-        → slope (row (getD ws (2 * j) 0) (getD ws (2 * j + 1) 0)) (row (getD ws (2 * j + 2) 0) (getD ws (2 * j + 3) 0)) ≡ getD (slopes (rows ws)) j (pos 0)
+        → slope (row (getD ws (2 * j) 0) (getD ws (2 * j + 1) 0)) (row (getD ws (2 * j + 2) 0) (getD ws (2 * j + 3) 0))
+        ≡ getD (slopes (rows ws)) j (pos 0)
     some-slope-after h =
         let l : suc j < length (rows ws) = omega (arith, rows-count ws) in
         let e : 2 * suc j ≡ 2 * j + 2 = omega arith in

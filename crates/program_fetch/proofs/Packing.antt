@@ -49,7 +49,8 @@ constants-past n t a c h = sym (List·getD-eq-default (Scale t a c ∷ Plus t a 
 pub parts-past : (n t a : ℕ) (f : Part) → None 4 n → DealBits t a ≡ with-part n t a f
 unfolding with-part
 parts-past n t a f h =
-    sym (List·getD-eq-default (Public t a f ∷ Deal t a (OfSum f) ∷ Deal t a (OfNegated f) ∷ Deal t a OfBits ∷ []) (DealBits t a) (none-below 4 n h))
+    sym (List·getD-eq-default (Public t a f ∷ Deal t a (OfSum f) ∷ Deal t a (OfNegated f) ∷ Deal t a OfBits ∷ []) (DealBits t a)
+    (none-below 4 n h))
 
 -- ---- powers
 
@@ -88,7 +89,8 @@ fetched-at (g ∷ gs) (suc i) o h = fetched-at gs i o (omega arith)
 module _ (k x d : ℕ) (ps : List ℕ) (i : ℕ) where
   pub packed-at : i < length ps → At (unpacked k x d (getD ps i 0)) ≡ fetched (map (unpacked k x d) ps) i
   packed-at h =
-      ap At (sym (List·getD-map (unpacked k x d) ps i 0)) ∙ fetched-at (map (unpacked k x d) ps) i (unpacked k x d 0) (rw (length-map ps (unpacked k x d)) h)
+      ap At (sym (List·getD-map (unpacked k x d) ps i 0))
+      ∙ fetched-at (map (unpacked k x d) ps) i (unpacked k x d 0) (rw (length-map ps (unpacked k x d)) h)
 
   pub packed-past : length ps ≤ i → Past ≡ fetched (map (unpacked k x d) ps) i
   packed-past h = fetched-past (map (unpacked k x d) ps) i (rw (length-map ps (unpacked k x d)) h)

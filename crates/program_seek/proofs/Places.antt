@@ -49,7 +49,8 @@ exchanges w (g ∷ gs) i a deals =
 module _ (go : ℕ → ℕ → ℕ → ℕ → Sought) (ex : ℕ → ℕ → ℕ → List Sought)
     (h : (n i a deals : ℕ) → go n i a deals ≡ getD (ex i a deals) n Nowhere) where
   sought-step : (y : Step) (n i a deals : ℕ)
-      → sought-at (shape y) n i a deals go ≡ getD (here y (Found i a deals) (ex (suc i) (step-cost y .a + a) (step-cost y .deals + deals))) n Nowhere
+      → sought-at (shape y) n i a deals go
+      ≡ getD (here y (Found i a deals) (ex (suc i) (step-cost y .a + a) (step-cost y .deals + deals))) n Nowhere
   unfolding sought-at shape here step-cost
   sought-step (local d m l) n i a deals = rw (zero-add a, zero-add deals) (h n (suc i) a deals)
   sought-step (deal d f) n i a deals = rw (one-add a, one-add deals) (h n (suc i) (suc a) (suc deals))
@@ -77,7 +78,8 @@ here-count end p ps = omega arith
 exchanges-count : (w : ℕ) (gs : List Gate) (i a deals : ℕ) → length (exchanges w gs i a deals) ≡ program-cost w gs .b
 unfolding exchanges program-cost order-steps cost step-cost plus
 exchanges-count w [] i a deals = refl
-exchanges-count w (g ∷ gs) i a deals = here-count (meaning w g) _ _ ∙ ap (λ (n : ℕ). step-cost (meaning w g) .b + n) (exchanges-count w gs _ _ _)
+exchanges-count w (g ∷ gs) i a deals =
+    here-count (meaning w g) _ _ ∙ ap (λ (n : ℕ). step-cost (meaning w g) .b + n) (exchanges-count w gs _ _ _)
 
 -- ---- one program after another
 
@@ -100,9 +102,11 @@ exchanges-after w (g ∷ gs) hs i a deals =
     let y : Step = meaning w g in
     let zi : suc (length gs) + i ≡ length gs + suc i = omega arith in
     let za : step-cost y .a + program-cost w gs .a + a ≡ program-cost w gs .a + (step-cost y .a + a) = omega arith in
-    let zd : step-cost y .deals + program-cost w gs .deals + deals ≡ program-cost w gs .deals + (step-cost y .deals + deals) = omega arith in
+    let zd : step-cost y .deals + program-cost w gs .deals + deals ≡ program-cost w gs .deals + (step-cost y .deals + deals) =
+    omega arith in
     rw (zi, za, zd)
-    (ap (here y (Found i a deals)) (exchanges-after w gs hs (suc i) (step-cost y .a + a) (step-cost y .deals + deals)) ∙ here-append y _ _ _)
+    (ap (here y (Found i a deals)) (exchanges-after w gs hs (suc i) (step-cost y .a + a) (step-cost y .deals + deals))
+    ∙ here-append y _ _ _)
 
 module _ (w : ℕ) (gs hs : List Gate) (n i a deals : ℕ) where
   -- an exchange of the first program
@@ -247,7 +251,8 @@ module _ (w x : ℕ) (hs : List Gate) where
       (omega (arith, ap (λ (z : Size). z .cost .b) (row-sized w x (p .r) c))))
   rows-at (p ∷ ps) s (suc j) e n i a deals h l q =
       rw (row-more j (row-gates w) i, row-more j (row-words-a w) a, row-more j (row-deals w) deals)
-      (rows-at ps (slope-after p ps) j e (j * row-exchanges w + e) (row-gates w + i) (row-words-a w + a) (row-deals w + deals) (omega arith) l refl
+      (rows-at ps (slope-after p ps) j e (j * row-exchanges w + e) (row-gates w + i) (row-words-a w + a) (row-deals w + deals) (omega arith)
+      l refl
       ∙ next-row (p .r) (coefficient w s p ps) (rows-program w x (slope-after p ps) ps) n (j * row-exchanges w + e) i a deals
       (omega (arith, row-more j (row-exchanges w) e)))
 
@@ -281,7 +286,8 @@ module _ (w x d : ℕ) (ws : List ℕ) (mode n : ℕ) where
   at-row = n / row-exchanges w
 
   pub curve-row-place : at-row < length ws / 2
-      → sought w (relu-program w y-slot res-slot) (n % row-exchanges w) (row-gates w * at-row + 2) (row-words-a w * at-row) (row-deals w * at-row)
+      → sought w (relu-program w y-slot res-slot) (n % row-exchanges w) (row-gates w * at-row + 2) (row-words-a w * at-row)
+      (row-deals w * at-row)
       ≡ sought w (curve-program w x d (rows ws) mode) n 0 0 0
   curve-row-place h =
       let zi : row-gates w * at-row + 2 ≡ suc (at-row * row-gates w + 1) = omega (arith, mul-comm (row-gates w) at-row) in
@@ -306,7 +312,7 @@ module _ (w x d : ℕ) (ws : List ℕ) (mode n : ℕ) where
       let za : row-words-a w * count ≡ count * row-words-a w + 0 = omega (arith, mul-comm (row-words-a w) count) in
       let zd : row-deals w * count ≡ count * row-deals w + 0 = omega (arith, mul-comm (row-deals w) count) in
       rw (zi, za, zd, ← c)
-      (rows-end w x (truncation w d mode) (rows ws) (pos 0) (n - row-exchanges w * length (rows ws)) n 1 0 0 
+      (rows-end w x (truncation w d mode) (rows ws) (pos 0) (n - row-exchanges w * length (rows ws)) n 1 0 0
       (rw c (omega (arith, mul-comm (row-exchanges w) count, le-div-iff-mul-le (row-speaks w) .0 h)))
       ∙ sum-next w x (truncation w d mode) (rows ws) n ∙ to-curve)
 

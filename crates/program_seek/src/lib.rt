@@ -100,7 +100,8 @@ fn one_bit_place(n: usize, gate: usize, a: usize, deals: usize) -> Sought
 // A refresh, which uses a word of A and no deal, and then the one-bit truncation.
 fn refreshed_place(n: usize, gate: usize, a: usize, deals: usize) -> Sought
     requires { ⌜ (gate < 2 ^ 62) × (a < 2 ^ 62) × (deals ≤ 2 ^ 62) ⌝ }
-    ensures { λ s. ⌜ ((d : ℕ) → s ≡ sought 32 (Refresh 22 22 ∷ one-bit-program 32 12 22 d) n gate a deals) ⌝ }
+    ensures { λ s. ⌜ ((d : ℕ) →
+        s ≡ sought 32 (Refresh 22 22 ∷ one-bit-program 32 12 22 d) n gate a deals) ⌝ }
 {
     if n == 0 {
         return Sought::Found { gate, a, deals };
@@ -108,9 +109,10 @@ fn refreshed_place(n: usize, gate: usize, a: usize, deals: usize) -> Sought
     one_bit_place(n - 1, gate + 1, a + 1, deals)
 }
 
-// A row's exchanges are its ReLU's, which stands behind the row's first gate; the curve's first gate is before all rows.
+// One gate stands before the rows, and one in each row before its ReLU, whose exchanges are the row's.
 fn curve_place(mode: u32, table: &[u32], n: u32) -> Sought
-    ensures { λ s. ⌜ ((x d : ℕ) → s ≡ sought 32 (curve-program 32 x d (rows (now (table .entry))) mode) n 0 0 0) ⌝ }
+    ensures { λ s. ⌜ ((x d : ℕ) →
+        s ≡ sought 32 (curve-program 32 x d (rows (now (table .entry))) mode) n 0 0 0) ⌝ }
 {
     let n = n as usize;
     let count = table.len() / 2;

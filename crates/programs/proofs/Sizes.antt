@@ -67,7 +67,8 @@ module _ (w : ℕ) where
   unfolding relu-size relu-program program-cost order-steps meaning cost step-cost
   relu-sized x d =
       both-sized w (adder w x ++ _) (adder w 0 ++ _) _ _
-      (both-sized w (adder w x) (adder w 0) (Bit t-slot g-slot (w - 2) ∷ Xor t-slot t-slot n-slot ∷ to-number w) _ (adder-sized x 0) refl) refl
+      (both-sized w (adder w x) (adder w 0) (Bit t-slot g-slot (w - 2) ∷ Xor t-slot t-slot n-slot ∷ to-number w) _ (adder-sized x 0) refl)
+      refl
 
   pub exact-sized : (k x d : ℕ) → size-of w (exact-program w k x d) ≡ exact-size w
   unfolding exact-size exact-program program-cost order-steps meaning cost step-cost
@@ -103,7 +104,8 @@ module _ (w : ℕ) where
   pub row-cost : row-size w .cost ≡ relu-size w .cost
   unfolding row-size row-program program-cost order-steps meaning cost step-cost plus
   row-cost =
-      cost-after w (Plus y-slot 0 (neg w 0) ∷ relu-program w y-slot res-slot) (Scale res-slot res-slot 0 ∷ Add acc-slot acc-slot res-slot ∷ [])
+      cost-after w (Plus y-slot 0 (neg w 0) ∷ relu-program w y-slot res-slot)
+      (Scale res-slot res-slot 0 ∷ Add acc-slot acc-slot res-slot ∷ [])
       ∙ cost-path (omega arith) (omega arith) (omega arith) (omega arith)
       ∙ ap (λ (z : Size). z .cost) (relu-sized y-slot res-slot)
 
@@ -129,7 +131,8 @@ module _ (w : ℕ) where
 
   one-more : (n : ℕ) (z : Size) → plus-size z (times-size n z) ≡ times-size (suc n) z
   unfolding times-size times-cost plus-size plus
-  one-more n z = size-path (more (z .gates)) (cost-path (more (z .cost .deals)) (more (z .cost .words)) (more (z .cost .a)) (more (z .cost .b)))
+  one-more n z =
+      size-path (more (z .gates)) (cost-path (more (z .cost .deals)) (more (z .cost .words)) (more (z .cost .a)) (more (z .cost .b)))
     where
       more : (k : ℕ) → k + k * n ≡ k * suc n
       more k = omega (arith, mul-suc k n)
@@ -206,11 +209,13 @@ unfolding one-bit-size one-bit-program program-cost order-steps meaning cost ste
 one-bit-number w = refl
 
 pub exact-32 : exact-size 32 ≡ size 50 (cost-of 16 24 28 12)
-unfolding exact-size exact-program adder rounds update-gates updates distances doubled to-number program-cost order-steps meaning cost step-cost plus
+unfolding exact-size exact-program adder rounds update-gates updates distances doubled to-number program-cost order-steps meaning cost
+    step-cost plus
 exact-32 = refl
 
 pub relu-32 : relu-size 32 ≡ size 39 (cost-of 14 24 26 12)
-unfolding relu-size relu-program adder rounds update-gates updates distances doubled to-number program-cost order-steps meaning cost step-cost plus
+unfolding relu-size relu-program adder rounds update-gates updates distances doubled to-number program-cost order-steps meaning cost
+    step-cost plus
 relu-32 = refl
 
 pub row-32 : row-size 32 ≡ size 42 (cost-of 14 24 26 12)
@@ -252,7 +257,8 @@ kinds-few c n =
 order-few : (ps : List Row) (o : Order) → Few (length ps) (size-of 32 (program 32 ps o))
 order-few ps o =
     subst (Few (length ps)) (sym (order-sized 32 ps o))
-    (all-at (Few (length ps)) (size-of 32 []) (record { beside = omega arith; ruled = λ h. omega arith }) (kind-sizes 32 (o .fourth) (length ps))
+    (all-at (Few (length ps)) (size-of 32 []) (record { beside = omega arith; ruled = λ h. omega arith })
+    (kind-sizes 32 (o .fourth) (length ps))
     (kinds-few (o .fourth) (length ps)) (o .kind))
 
 pub few : (ps : List Row) (o : Order) → length (program 32 ps o) ≤ 2 * cost (order-steps 32 (program 32 ps o) []) .a + 60

@@ -65,7 +65,8 @@ returns-3 c =
     λ x d.
     let s = c .before .before .before .before in
     c .refreshed-place .ensures d ∙ rw (row-32, row-gates, row-exchanges, row-words-a, row-deals) at
-    (refreshed-rest-place 32 x d (s .args .table .now) (s .args .mode) (s .args .n) (rw (row-32, row-exchanges) (c .before .before .if1 .left))
+    (refreshed-rest-place 32 x d (s .args .table .now) (s .args .mode) (s .args .n)
+    (rw (row-32, row-exchanges) (c .before .before .if1 .left))
     (c .before .if2 .left))
 
 pub curve-place-spec : {M : Type 1} → statement M

@@ -30,7 +30,8 @@ row-gate-requires c κs = let s = c .before .before .before in omega (arith, row
 returns-2 : tie.Need-returns-2
 returns-2 c =
     let s = c .before .before .before .before in
-    c .row-gate .ensures ∙ rw (row-32, row-gates) at (curve-row 32 (s .args .x) (s .args .d) (rows (s .args .table .now)) (s .args .mode) (s .args .i) (c .before .before .if1 .left)
+    c .row-gate .ensures ∙ rw (row-32, row-gates) at
+    (curve-row 32 (s .args .x) (s .args .d) (rows (s .args .table .now)) (s .args .mode) (s .args .i) (c .before .before .if1 .left)
     (rw (row-32, row-gates) (omega (arith, rows-count (s .args .table .now)))))
 
 sub-rest : tie.Need-sub-rest
@@ -55,7 +56,8 @@ returns-3 : tie.Need-returns-3
 returns-3 c =
     let e = c .before .before in
     let s = e .before .before .before in
-    c .exact-gate .ensures ∙ rw (row-32, row-gates) at (exact-rest 32 (s .args .x) (s .args .d) (s .args .table .now) (s .args .mode) (s .args .i) (e .before .if1 .left)
+    c .exact-gate .ensures ∙ rw (row-32, row-gates) at
+    (exact-rest 32 (s .args .x) (s .args .d) (s .args .table .now) (s .args .mode) (s .args .i) (e .before .if1 .left)
     (rw (row-32, row-gates) (e .if2 .left)) (c .before .if3 .taken))
 
 returns-4 : tie.Need-returns-4
@@ -63,7 +65,8 @@ returns-4 c =
     let e = c .before .before in
     let s = e .before .before .before in
     fetched-here _ _ _ (c .if4 .taken)
-    ∙ rw (row-32, row-gates) at (refreshed-rest 32 (s .args .x) (s .args .d) (s .args .table .now) (s .args .mode) (s .args .i) (e .before .if1 .left)
+    ∙ rw (row-32, row-gates) at
+    (refreshed-rest 32 (s .args .x) (s .args .d) (s .args .table .now) (s .args .mode) (s .args .i) (e .before .if1 .left)
     (rw (row-32, row-gates) (e .if2 .left)) (c .before .if3 .left))
 
 returns-5 : tie.Need-returns-5
@@ -71,7 +74,8 @@ returns-5 c =
     let e = c .before .before .before in
     let s = e .before .before .before in
     c .one-bit-gate .ensures ∙ fetched-next _ _ _ (c .before .if4 .left)
-    ∙ rw (row-32, row-gates) at (refreshed-rest 32 (s .args .x) (s .args .d) (s .args .table .now) (s .args .mode) (s .args .i) (e .before .if1 .left)
+    ∙ rw (row-32, row-gates) at
+    (refreshed-rest 32 (s .args .x) (s .args .d) (s .args .table .now) (s .args .mode) (s .args .i) (e .before .if1 .left)
     (rw (row-32, row-gates) (e .if2 .left)) (c .before .before .if3 .left))
 
 pub curve-gate-spec : {M : Type 1} → statement M

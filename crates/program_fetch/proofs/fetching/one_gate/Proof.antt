@@ -31,7 +31,8 @@ returns-6 c = let z : c .before .before .args .i ≡ 0 = omega arith in simp (z,
 
 returns-7 : tie.Need-returns-7
 unfolding program kinds fetched
-returns-7 c = let s = c .before .before in let z : s .args .i ≡ 0 = omega arith in let five : s .args .o .kind ≡ 5 = omega arith in simp (z, five)
+returns-7 c =
+    let s = c .before .before in let z : s .args .i ≡ 0 = omega arith in let five : s .args .o .kind ≡ 5 = omega arith in simp (z, five)
 
 pub one-gate-spec : {M : Type 1} → statement M
 one-gate-spec =
