@@ -198,7 +198,7 @@ any-table w ps qs o h =
     let c = o .fourth in
     but-last (take 10 (kinds w [] d a c)) (curve-program w a d ps c) (curve-program w a d qs c) [] (o .kind) h
 
--- ---- the numbers
+-- ---- the numbers: at any width, and at 32
 
 pub slack-number : (w : ℕ) → slack-size w ≡ size 3 (cost-of 1 0 1 0)
 unfolding slack-size slack-program program-cost order-steps meaning cost step-cost plus
@@ -213,12 +213,16 @@ unfolding exact-size exact-program adder rounds update-gates updates distances d
     step-cost plus
 exact-32 = refl
 
-pub relu-32 : relu-size 32 ≡ size 39 (cost-of 14 24 26 12)
+-- the counts of a ReLU, and so of a row
+abbrev pub relu-counts-32 : Cost
+relu-counts-32 = cost-of 14 24 26 12
+
+pub relu-32 : relu-size 32 ≡ size 39 relu-counts-32
 unfolding relu-size relu-program adder rounds update-gates updates distances doubled to-number program-cost order-steps meaning cost
     step-cost plus
 relu-32 = refl
 
-pub row-32 : row-size 32 ≡ size 42 (cost-of 14 24 26 12)
+pub row-32 : row-size 32 ≡ size 42 relu-counts-32
 unfolding row-size row-program relu-program adder rounds update-gates updates distances doubled to-number
     program-cost order-steps meaning cost step-cost plus
 row-32 = refl
@@ -236,9 +240,9 @@ all-at P none e (z ∷ l) h zero = h .0
 all-at P none e (z ∷ l) h (suc k) = all-at P none e l (h .1) k
 
 -- few beside those that take a word of A, and few on the rows of a table that keeps the rules
-pub record Few (n : ℕ) (z : Size) : Type 0 where
-  pub beside : z .gates ≤ 2 * z .cost .a + 60
-  pub ruled : n ≤ 16 → z .gates ≤ 1000
+record Few (n : ℕ) (z : Size) : Type 0 where
+  beside : z .gates ≤ 2 * z .cost .a + 60
+  ruled : n ≤ 16 → z .gates ≤ 1000
 
 curve-few : (c n : ℕ) → Few n (curve-size 32 c n)
 unfolding curve-size end-size plus-size times-size times-cost plus program-cost order-steps meaning cost step-cost
