@@ -63,11 +63,13 @@ module _ (S : Setting) (q : ℕ) (v : World) (F : Finishes 32 (staged 32 S) q v)
       exact-opens m =
           curve-opens
           ∙ ap {B = ℕ × ℤ} (λ (c : ℕ). (0, signed 32 (curve-value 32 (rows (S .table)) c source-word (refresh-mask 32 S q)))) m
-          ∙ ap {B = ℕ × ℤ} (λ (x : ℤ). (0, x)) (exact-curve 32 (lit≤ tt) (S .table) rules-kept source-word source-lt p (refresh-mask 32 S q))
+          ∙ ap {B = ℕ × ℤ} (λ (x : ℤ). (0, x))
+          (exact-curve 32 (lit≤ tt) (S .table) rules-kept source-word source-lt p (refresh-mask 32 S q))
 
       pub one-bit-opens : (c : ℕ) → order-of S q .fourth ≡ suc c → opens 32 S v q ≡ (0, floor (Y-of S q) 4096 +ℤ pos (slip 12 (wrap 12 (Y-of S q)) (refresh-mask 32 S q)))
       unfolding Y-of reading
       one-bit-opens c m =
           curve-opens
           ∙ ap {B = ℕ × ℤ} (λ (c : ℕ). (0, signed 32 (curve-value 32 (rows (S .table)) c source-word (refresh-mask 32 S q)))) m
-          ∙ ap {B = ℕ × ℤ} (λ (x : ℤ). (0, x)) (one-bit-curve 32 (lit≤ tt) (S .table) rules-kept source-word source-lt p (refresh-mask 32 S q) c mask-lt)
+          ∙ ap {B = ℕ × ℤ} (λ (x : ℤ). (0, x))
+          (one-bit-curve 32 (lit≤ tt) (S .table) rules-kept source-word source-lt p (refresh-mask 32 S q) c mask-lt)

@@ -176,7 +176,9 @@ module _ (S : Setting) (q : ℕ) (v : ℕ → World) (words : Words 32 (staged 3
         ∙ ap (λ (n : ℕ). leb 4096 (n + add 32 a b % 4096)) (mod-eq-of-lt (wrap-lt 12 (Y-of S q)))
 
   slips : count (2 ^ 32) (λ a. eqZ (opens 32 S (v a) q .1) (floor (Y-of S q) 4096 +ℤ pos 1)) ≡ y * 2 ^ 20
-  slips = count-same (2 ^ 32) _ (λ a. leb 4096 (y + (a + b) % 2 ^ 32 % 4096)) gives-one-more ∙ slips-of-words 32 y b (lit≤ tt) (wrap-lt 12 (Y-of S q))
+  slips =
+      count-same (2 ^ 32) _ (λ a. leb 4096 (y + (a + b) % 2 ^ 32 % 4096)) gives-one-more
+      ∙ slips-of-words 32 y b (lit≤ tt) (wrap-lt 12 (Y-of S q))
 
 -- ---- every order
 

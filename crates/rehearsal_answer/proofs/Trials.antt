@@ -207,7 +207,9 @@ module _ (mode m l1 l2 : ℕ) where
 
     curve-is : (n : ℕ) (z : ℤ) → signed 32 x ≡ z → T (in-range 32 z) → signed 32 (curve-value 32 (rows house) (mode-word n) x refresh-L) ≡ Spec.value n z
     unfolding Spec.value Spec.Y
-    curve-is zero z e r = exact-curve 32 (lit≤ tt) house house-keeps-rules x (sub-lt 32 _ _) (ranged (rw e r)) refresh-L ∙ ap (λ (y : ℤ). floor (scaled (rows house) y) 4096) e
+    curve-is zero z e r =
+        exact-curve 32 (lit≤ tt) house house-keeps-rules x (sub-lt 32 _ _) (ranged (rw e r)) refresh-L
+        ∙ ap (λ (y : ℤ). floor (scaled (rows house) y) 4096) e
     curve-is (suc n) z e r =
         one-bit-curve 32 (lit≤ tt) house house-keeps-rules x (sub-lt 32 _ _) (ranged (rw e r)) refresh-L 0 mask-lt
         ∙ ap (λ (y : ℤ). floor (scaled (rows house) y) 4096 +ℤ pos (slip 12 (wrap 12 (scaled (rows house) y)) refresh-L)) e
