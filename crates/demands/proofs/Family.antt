@@ -54,8 +54,12 @@ module _ (S : Setting) (q : ℕ) (o : OneBit S q) where
       let c : program-cost 32 (getD (job-gates 32 (S .job) (S .table)) q []) .a
       ≡ program-cost 32 (sum-program 32 x ps) .a + program-cost 32 r .a =
       ap (λ (gs : List Gate). program-cost 32 gs .a) e ∙ ap (λ (k : Cost). k .a) (cost-after 32 (sum-program 32 x ps) r) in
-      omega (arith, c, refresh-uses 32 22 22 (one-bit-program 32 12 22 d),
-      used-within 32 (job-gates 32 (S .job) (S .table)) q (in-gates 32 S q h))
+      omega (
+        arith,
+        c,
+        refresh-uses 32 22 22 (one-bit-program 32 12 22 d),
+        used-within 32 (job-gates 32 (S .job) (S .table)) q (in-gates 32 S q h),
+      )
 
   -- the same shares before the order, whatever the word
   before-same : (a : ℕ) → Words 32 (staged 32 S) → Words 32 (staged 32 (with-word S q a)) → q < length (orders (S .job)) → before-order (staged 32 (with-word S q a)) q ≡ before-order (staged 32 S) q
