@@ -80,7 +80,8 @@ slips w k y b h l =
     period : (a : ℕ) → test (2 ^ k + a) ≡ test a
     period a = ap (λ (x : ℕ). leb (2 ^ k) (y + x)) (ap (λ (x : ℕ). x % 2 ^ k) (add-comm (2 ^ k) a) ∙ add-mod-right a (2 ^ k))
 
--- "exactly (Y mod 4096) × 2^20 give one more"
-pub slips-of-words : (y b : ℕ) → y < 4096 → count (2 ^ 32) (λ a. leb 4096 (y + (a + b) % 2 ^ 32 % 4096)) ≡ y * 2 ^ 20
+-- "exactly (Y mod 4096) × 2^20 give one more", of words of 32 bits
+pub slips-of-words : (w y b : ℕ) → 12 ≤ w → y < 4096
+    → count (2 ^ w) (λ a. leb 4096 (y + (a + b) % 2 ^ w % 4096)) ≡ y * 2 ^ (w - 12)
 unfolding add
-slips-of-words y b h = slips 32 12 y b (omega arith) (omega arith)
+slips-of-words w y b o h = slips w 12 y b o (omega arith)

@@ -16,7 +16,8 @@ use Rattle.words.proofs.Solver.{_⊕_, _⊖_, _⊗_, ⊝, solve}
 use Rattle.words.proofs.Integers.{le-or-lt, sub-ge}
 use Rattle.tables.specs.Table.{Row, rows, keeps-rules}
 use Rattle.curves.specs.Curve.{scaled, Quotient, line, last-count, Near}
-use Rattle.curves.proofs.Integers.{integers, integer-ring, minus, up, le-gap, lt-gap, cancel-lt, rest, rest-lt, rest-wrap, floor-rest}
+use Rattle.curves.proofs.Integers.{integers, integer-ring, minus, up, le-gap, lt-gap, cancel-lt, rest, rest-lt, rest-wrap}
+use Rattle.curves.proofs.Integers.{floor-rest}
 use Rattle.tables.proofs.Rows.{Rising, for-table}
 use Rattle.curves.proofs.Scaled.{Loss, loss, level}
 
@@ -36,14 +37,16 @@ bounds C (pos n) l =
     let p : 0 < C .denominator = l .positive in (
       ltZ-yes tt,
       leZ-yes (le→leb n 81920000
-          (⊎-elim (λ (k : n ≤ 81920000). k) (λ (k : 81920000 < n). absurd (omega (arith, mul-le-mul k (le-refl (C .denominator))))) (le-or-lt n 81920000))),
+          (⊎-elim (λ (k : n ≤ 81920000). k) (λ (k : 81920000 < n). absurd (omega (arith, mul-le-mul k (le-refl (C .denominator)))))
+          (le-or-lt n 81920000))),
     )
 bounds C (negsuc n) l =
     let e : 4096 * l .N + suc n * C .denominator ≡ l .E = low n (C .denominator) (4096 * l .N) (l .E) (l .exact) in
     let b : l .E ≤ 4095 * C .denominator = l .small in
     let p : 0 < C .denominator = l .positive in (
       ltZ-yes (lt→ltb n 4095
-          (⊎-elim (λ (k : 4095 ≤ n). absurd (omega (arith, mul-le-mul k (le-refl (C .denominator))))) (λ (k : n < 4095). k) (le-or-lt 4095 n))),
+          (⊎-elim (λ (k : 4095 ≤ n). absurd (omega (arith, mul-le-mul k (le-refl (C .denominator))))) (λ (k : n < 4095). k)
+          (le-or-lt 4095 n))),
       leZ-yes tt,
     )
 
@@ -60,7 +63,8 @@ module _ (C : Quotient) (Y : ℤ) (l : Loss C Y 4095) where
       let p : 0 < D = l .positive in
       lt-gap (4096 * D - l .E) (omega arith)
       (sym
-      (ap₂ (λ (y z : ℤ). y -ℤ pos (4096 * D) +ℤ z) (ap (λ (z : ℤ). pos 4096 *ℤ z) (l .numerator) ∙ l .exact) (sym (minus (4096 * D) (l .E) ∙ sub-ge (4096 * D) (l .E) (omega arith)))
+      (ap₂ (λ (y z : ℤ). y -ℤ pos (4096 * D) +ℤ z) (ap (λ (z : ℤ). pos 4096 *ℤ z) (l .numerator) ∙ l .exact)
+      (sym (minus (4096 * D) (l .E) ∙ sub-ge (4096 * D) (l .E) (omega arith)))
       ∙ solve integers integer-ring 3 (λ y e m. (y ⊕ e ⊖ m ⊕ (m ⊖ e), y)) refl (Y *ℤ pos D) (pos (l .E)) (pos (4096 * D))))
 
   -- a v with Y - 4096 < 4096 v < Y + 4096
@@ -71,7 +75,8 @@ module _ (C : Quotient) (Y : ℤ) (l : Loss C Y 4095) where
         let D : ℕ = C .denominator in
         solve integers integer-ring 4 (λ k v d i. (k ⊗ (v ⊗ d), (k ⊗ v ⊕ i) ⊗ d ⊖ i ⊗ d)) refl (pos 4096) v (pos D) (pos i)
         ∙ ap (λ (z : ℤ). z *ℤ pos D -ℤ pos (i * D)) e
-        ∙ solve integers integer-ring 5 (λ y d i j e. ((y ⊕ j) ⊗ d ⊖ i ⊗ d, y ⊗ d ⊕ e ⊕ (j ⊗ d ⊖ (i ⊗ d ⊕ e)))) refl Y (pos D) (pos i) (pos j) (pos (l .E))
+        ∙ solve integers integer-ring 5 (λ y d i j e. ((y ⊕ j) ⊗ d ⊖ i ⊗ d, y ⊗ d ⊕ e ⊕ (j ⊗ d ⊖ (i ⊗ d ⊕ e)))) refl Y (pos D) (pos i)
+        (pos j) (pos (l .E))
         ∙ ap (λ (z : ℤ). z +ℤ (pos (j * D) -ℤ pos (i * D + l .E))) (sym (l .exact))
 
     near : i < 4096 + j → j < 4096 + i → Near C v
@@ -90,13 +95,16 @@ module _ (C : Quotient) (Y : ℤ) (l : Loss C Y 4095) where
               (cancel-lt 4096 (pos (l .N) -ℤ pos (2 * D)) (v *ℤ pos D)
               (lt-gap (4096 * (2 * D) + a - b) (omega arith)
               (against
-              ∙ solve integers integer-ring 5 (λ k n m a b. (k ⊗ n ⊕ (a ⊖ b), k ⊗ (n ⊖ m) ⊕ (k ⊗ m ⊕ a ⊖ b))) refl (pos 4096) (pos (l .N)) (pos (2 * D)) (pos a) (pos b)
-              ∙ ap (λ (z : ℤ). pos 4096 *ℤ (pos (l .N) -ℤ pos (2 * D)) +ℤ z) (minus (4096 * (2 * D) + a) b ∙ sub-ge (4096 * (2 * D) + a) b (omega arith)))));
+              ∙ solve integers integer-ring 5 (λ k n m a b. (k ⊗ n ⊕ (a ⊖ b), k ⊗ (n ⊖ m) ⊕ (k ⊗ m ⊕ a ⊖ b))) refl (pos 4096) (pos (l .N))
+              (pos (2 * D)) (pos a) (pos b)
+              ∙ ap (λ (z : ℤ). pos 4096 *ℤ (pos (l .N) -ℤ pos (2 * D)) +ℤ z)
+              (minus (4096 * (2 * D) + a) b ∙ sub-ge (4096 * (2 * D) + a) b (omega arith)))));
           below =
               rw (l .numerator)
               (cancel-lt 4096 (v *ℤ pos D) (pos (l .N) +ℤ pos D)
               (lt-gap (4096 * D + b - a) (omega arith)
-              (solve integers integer-ring 5 (λ k n d a b. (k ⊗ (n ⊕ d), k ⊗ n ⊕ (a ⊖ b) ⊕ (k ⊗ d ⊕ b ⊖ a))) refl (pos 4096) (pos (l .N)) (pos D) (pos a) (pos b)
+              (solve integers integer-ring 5 (λ k n d a b. (k ⊗ (n ⊕ d), k ⊗ n ⊕ (a ⊖ b) ⊕ (k ⊗ d ⊕ b ⊖ a))) refl (pos 4096) (pos (l .N))
+              (pos D) (pos a) (pos b)
               ∙ ap₂ _+ℤ_ (sym against) (minus (4096 * D + b) a ∙ sub-ge (4096 * D + b) a (omega arith)))));
         }
 
@@ -104,17 +112,20 @@ module _ (C : Quotient) (Y : ℤ) (l : Loss C Y 4095) where
 floor-near : (C : Quotient) (Y : ℤ) → Loss C Y 4095 → Near C (floor Y 4096)
 floor-near C Y l =
     near C Y l (floor Y 4096) (rest Y 4096) 0
-    (solve integers integer-ring 3 (λ f k m. (k ⊗ f ⊕ m, f ⊗ k ⊕ m)) refl (floor Y 4096) (pos 4096) (pos (rest Y 4096)) ∙ sym (floor-rest Y 4096 (omega arith)) ∙ sym (+ℤ-idr Y))
+    (solve integers integer-ring 3 (λ f k m. (k ⊗ f ⊕ m, f ⊗ k ⊕ m)) refl (floor Y 4096) (pos 4096) (pos (rest Y 4096))
+    ∙ sym (floor-rest Y 4096 (omega arith)) ∙ sym (+ℤ-idr Y))
     (omega (arith, rest-lt Y 4096 (omega arith))) (omega arith)
 
 next-near : (C : Quotient) (Y : ℤ) → Loss C Y 4095 → 0 < rest Y 4096 → Near C (floor Y 4096 +ℤ pos 1)
 next-near C Y l h =
     near C Y l (floor Y 4096 +ℤ pos 1) (rest Y 4096) 4096
-    (solve integers integer-ring 4 (λ f k m o. (k ⊗ (f ⊕ o) ⊕ m, f ⊗ k ⊕ m ⊕ k ⊗ o)) refl (floor Y 4096) (pos 4096) (pos (rest Y 4096)) (pos 1)
+    (solve integers integer-ring 4 (λ f k m o. (k ⊗ (f ⊕ o) ⊕ m, f ⊗ k ⊕ m ⊕ k ⊗ o)) refl (floor Y 4096) (pos 4096) (pos (rest Y 4096))
+    (pos 1)
     ∙ ap (λ (z : ℤ). z +ℤ pos 4096) (sym (floor-rest Y 4096 (omega arith))))
     (omega (arith, rest-lt Y 4096 (omega arith))) (omega arith)
 
-level-from : (p : Row) (ps : List Row) → Rising p ps → (x : ℤ) → pos (last-count (p ∷ ps)) ≤ℤ x → scaled (p ∷ ps) x ≡ scaled (p ∷ ps) (pos (last-count (p ∷ ps)))
+level-from : (p : Row) (ps : List Row) → Rising p ps → (x : ℤ) → pos (last-count (p ∷ ps)) ≤ℤ x
+    → scaled (p ∷ ps) x ≡ scaled (p ∷ ps) (pos (last-count (p ∷ ps)))
 unfolding scaled
 level-from p ps h (pos n) l =
     let m : ℕ = last-count (p ∷ ps) in
@@ -148,7 +159,8 @@ module _ (ws : List ℕ) (keeps : T (keeps-rules ws)) (x : ℤ) where
   pub scaled-at-most : (scaled (rows ws) x *ℤ pos (line (rows ws) x .denominator)) ≤ℤ (pos 4096 *ℤ line (rows ws) x .numerator)
   scaled-at-most = at-most (line (rows ws) x) (scaled (rows ws) x) loss-of
 
-  pub scaled-at-least : (pos 4096 *ℤ line (rows ws) x .numerator -ℤ pos (4096 * line (rows ws) x .denominator)) <ℤ (scaled (rows ws) x *ℤ pos (line (rows ws) x .denominator))
+  pub scaled-at-least : (pos 4096 *ℤ line (rows ws) x .numerator -ℤ pos (4096 * line (rows ws) x .denominator)) <ℤ
+      (scaled (rows ws) x *ℤ pos (line (rows ws) x .denominator))
   scaled-at-least = at-least (line (rows ws) x) (scaled (rows ws) x) loss-of
 
   -- floor(Y / 4096), and 1 more where Y mod 4096 is not 0, lie above C - 2 and below C + 1
@@ -175,4 +187,5 @@ module _ (ws : List ℕ) (keeps : T (keeps-rules ws)) (x : ℤ) where
 
   -- Y is the same from the last row's count on
   pub scaled-level : pos (last-count (rows ws)) ≤ℤ x → scaled (rows ws) x ≡ scaled (rows ws) (pos (last-count (rows ws)))
-  scaled-level = for-table (λ ps. pos (last-count ps) ≤ℤ x → scaled ps x ≡ scaled ps (pos (last-count ps))) (λ p ps h. level-from p ps h x) ws keeps
+  scaled-level =
+      for-table (λ ps. pos (last-count ps) ≤ℤ x → scaled ps x ≡ scaled ps (pos (last-count ps))) (λ p ps h. level-from p ps h x) ws keeps

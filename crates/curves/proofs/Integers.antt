@@ -6,7 +6,8 @@ use Prim.Native.Nat.{ℕ, zero, suc, _+_, _-_, _*_, _/_, _%_, _^_, _≤_, _<_}
 use native.Mathlib.Nat.{mod-lt, div-add-mod'}
 use native.Mathlib.Omega.{arith}
 use lib.Dec.{T, lt→ltb, le→leb, leb→le}
-use lib.IntN.{ℤ, pos, negsuc, subℕ, sucℤ, predℤ, negℤ, _+ℤ_, _-ℤ_, _*ℤ_, +ℤ-assoc, +ℤ-comm, +ℤ-idl, +ℤ-idr, +ℤ-invr, sucℤ-+ℤ, predℤ-+ℤ, sucℤ-*ℤ, predℤ-*ℤ, negℤ-negℤ, zero-*ℤ, *ℤ-comm, *ℤ-one, one}
+use lib.IntN.{ℤ, pos, negsuc, subℕ, sucℤ, predℤ, negℤ, _+ℤ_, _-ℤ_, _*ℤ_, +ℤ-assoc, +ℤ-comm, +ℤ-idl, +ℤ-idr, +ℤ-invr, sucℤ-+ℤ, predℤ-+ℤ}
+use lib.IntN.{sucℤ-*ℤ, predℤ-*ℤ, negℤ-negℤ, zero-*ℤ, *ℤ-comm, *ℤ-one, one}
 use lib.Signed.{_≤ℤ_, _<ℤ_, leZ-yes, ltZ-yes, ltZ-no, ltZ, clashℤ}
 use Rattle.words.specs.Ring.{Ops, Ring}
 use Rattle.words.specs.Signed.{floor, wrap}
@@ -28,8 +29,10 @@ add-mul : (a b c : ℤ) → (a +ℤ b) *ℤ c ≡ a *ℤ c +ℤ b *ℤ c
 add-mul a b c =
     steps (λ z. (z +ℤ b) *ℤ c ≡ z *ℤ c +ℤ b *ℤ c)
     (ap (λ (x : ℤ). x *ℤ c) (+ℤ-idl b) ∙ sym (ap (λ (x : ℤ). x +ℤ b *ℤ c) (zero-*ℤ c) ∙ +ℤ-idl (b *ℤ c)))
-    (λ z h. ap (λ (x : ℤ). x *ℤ c) (sucℤ-+ℤ z b) ∙ sucℤ-*ℤ (z +ℤ b) c ∙ ap (λ (x : ℤ). x +ℤ c) h ∙ swap (z *ℤ c) (b *ℤ c) c ∙ ap (λ (x : ℤ). x +ℤ b *ℤ c) (sym (sucℤ-*ℤ z c)))
-    (λ z h. ap (λ (x : ℤ). x *ℤ c) (predℤ-+ℤ z b) ∙ predℤ-*ℤ (z +ℤ b) c ∙ ap (λ (x : ℤ). x -ℤ c) h ∙ swap (z *ℤ c) (b *ℤ c) (negℤ c) ∙ ap (λ (x : ℤ). x +ℤ b *ℤ c) (sym (predℤ-*ℤ z c)))
+    (λ z h. ap (λ (x : ℤ). x *ℤ c) (sucℤ-+ℤ z b) ∙ sucℤ-*ℤ (z +ℤ b) c ∙ ap (λ (x : ℤ). x +ℤ c) h ∙ swap (z *ℤ c) (b *ℤ c) c
+    ∙ ap (λ (x : ℤ). x +ℤ b *ℤ c) (sym (sucℤ-*ℤ z c)))
+    (λ z h. ap (λ (x : ℤ). x *ℤ c) (predℤ-+ℤ z b) ∙ predℤ-*ℤ (z +ℤ b) c ∙ ap (λ (x : ℤ). x -ℤ c) h ∙ swap (z *ℤ c) (b *ℤ c) (negℤ c)
+    ∙ ap (λ (x : ℤ). x +ℤ b *ℤ c) (sym (predℤ-*ℤ z c)))
     a
 
 neg-mul : (a b : ℤ) → negℤ a *ℤ b ≡ negℤ (a *ℤ b)

@@ -42,8 +42,10 @@ slope-rest : (p q : Row) → p .r < q .r
     → (lost p q < q .r - p .r) × (subℕ (q .c * 4096) (p .c * 4096) ≡ slope p q *ℤ pos (q .r - p .r) +ℤ pos (lost p q))
 unfolding slope
 slope-rest p q h =
-    let d : 0 < q .r - p .r = omega arith in
-    (rest-lt (subℕ (q .c * 4096) (p .c * 4096)) (q .r - p .r) d, rw (lt-ltb (p .r) (q .r) h) (floor-rest (subℕ (q .c * 4096) (p .c * 4096)) (q .r - p .r) d))
+    let d : 0 < q .r - p .r = omega arith in (
+      rest-lt (subℕ (q .c * 4096) (p .c * 4096)) (q .r - p .r) d,
+      rw (lt-ltb (p .r) (q .r) h) (floor-rest (subℕ (q .c * 4096) (p .c * 4096)) (q .r - p .r) d),
+    )
 
 -- the segment's part of Y, and the rows after it
 segment : (p q : Row) (ps : List Row) → p .r < q .r → (n : ℕ)
@@ -79,7 +81,8 @@ level p [] h n m ln lm = refl
 level p (q ∷ ps) h n m ln lm =
     let l : q .r ≤ last-count (q ∷ ps) = last-above q ps (h .2) in
     let e : n - p .r - (n - q .r) ≡ m - p .r - (m - q .r) = omega arith in
-    segment p q ps (h .1) n ∙ ap₂ (λ (t : ℕ) (y : ℤ). slope p q *ℤ pos t +ℤ y) e (level q ps (h .2) n m ln lm) ∙ sym (segment p q ps (h .1) m)
+    segment p q ps (h .1) n ∙ ap₂ (λ (t : ℕ) (y : ℤ). slope p q *ℤ pos t +ℤ y) e (level q ps (h .2) n m ln lm)
+    ∙ sym (segment p q ps (h .1) m)
 
 -- ---- how far Y lies below 4096 C
 
@@ -103,9 +106,11 @@ module _ (c q u t : ℕ) where
   inside : (s : ℤ) (e : ℕ) → subℕ (q * 4096) (c * 4096) ≡ s *ℤ pos (u + t) +ℤ pos e
       → pos (4096 * (c * u + q * t)) ≡ (pos (4096 * c) +ℤ s *ℤ pos t) *ℤ pos (u + t) +ℤ pos (e * t)
   inside s e f =
-      solve integers integer-ring 5 (λ k c q u t. (k ⊗ (c ⊗ u ⊕ q ⊗ t), k ⊗ c ⊗ (u ⊕ t) ⊕ (q ⊗ k ⊖ c ⊗ k) ⊗ t)) refl (pos 4096) (pos c) (pos q) (pos u) (pos t)
+      solve integers integer-ring 5 (λ k c q u t. (k ⊗ (c ⊗ u ⊕ q ⊗ t), k ⊗ c ⊗ (u ⊕ t) ⊕ (q ⊗ k ⊖ c ⊗ k) ⊗ t)) refl (pos 4096) (pos c)
+      (pos q) (pos u) (pos t)
       ∙ ap (λ (z : ℤ). pos (4096 * c * (u + t)) +ℤ z *ℤ pos t) (minus (q * 4096) (c * 4096) ∙ f)
-      ∙ solve integers integer-ring 5 (λ y s d e t. (y ⊗ d ⊕ (s ⊗ d ⊕ e) ⊗ t, (y ⊕ s ⊗ t) ⊗ d ⊕ e ⊗ t)) refl (pos (4096 * c)) s (pos (u + t)) (pos e) (pos t)
+      ∙ solve integers integer-ring 5 (λ y s d e t. (y ⊗ d ⊕ (s ⊗ d ⊕ e) ⊗ t, (y ⊕ s ⊗ t) ⊗ d ⊕ e ⊗ t)) refl (pos (4096 * c)) s
+      (pos (u + t)) (pos e) (pos t)
 
 -- past the second row: what the slope s has lost over the segment's d comes on top of the loss E from there on
 outside : (c q d : ℕ) (s : ℤ) (e : ℕ) → subℕ (q * 4096) (c * 4096) ≡ s *ℤ pos d +ℤ pos e
@@ -113,9 +118,11 @@ outside : (c q d : ℕ) (s : ℤ) (e : ℕ) → subℕ (q * 4096) (c * 4096) ≡
     → pos (4096 * N) ≡ (pos (4096 * c) +ℤ (s *ℤ pos d +ℤ g)) *ℤ pos D +ℤ pos (e * D + E)
 outside c q d s e f N D E g h =
     h
-    ∙ solve integers integer-ring 6 (λ k c q g d e. ((k ⊗ q ⊕ g) ⊗ d ⊕ e, (k ⊗ c ⊕ (q ⊗ k ⊖ c ⊗ k) ⊕ g) ⊗ d ⊕ e)) refl (pos 4096) (pos c) (pos q) g (pos D) (pos E)
+    ∙ solve integers integer-ring 6 (λ k c q g d e. ((k ⊗ q ⊕ g) ⊗ d ⊕ e, (k ⊗ c ⊕ (q ⊗ k ⊖ c ⊗ k) ⊕ g) ⊗ d ⊕ e)) refl (pos 4096) (pos c)
+    (pos q) g (pos D) (pos E)
     ∙ ap (λ (z : ℤ). (pos (4096 * c) +ℤ z +ℤ g) *ℤ pos D +ℤ pos E) (minus (q * 4096) (c * 4096) ∙ f)
-    ∙ solve integers integer-ring 6 (λ y x e g d l. ((y ⊕ (x ⊕ e) ⊕ g) ⊗ d ⊕ l, (y ⊕ (x ⊕ g)) ⊗ d ⊕ (e ⊗ d ⊕ l))) refl (pos (4096 * c)) (s *ℤ pos d) (pos e) g (pos D) (pos E)
+    ∙ solve integers integer-ring 6 (λ y x e g d l. ((y ⊕ (x ⊕ e) ⊕ g) ⊗ d ⊕ l, (y ⊕ (x ⊕ g)) ⊗ d ⊕ (e ⊗ d ⊕ l))) refl (pos (4096 * c))
+    (s *ℤ pos d) (pos e) g (pos D) (pos E)
 
 at-row : (p : Row) (Y : ℤ) (most : ℕ) → Fits p → Y ≡ pos (4096 * p .c) → Loss (whole (p .c)) Y most
 at-row p Y most h e = record {
@@ -141,7 +148,8 @@ loss-inside p q n most hp hq l k m =
       N = p .c * u + q .c * t;
       E = lost p q * t;
       numerator =
-          ap₂ (λ (x : ℕ) (z : ℤ). pos (p .c * x) +ℤ subℕ (q .c) (p .c) *ℤ z) e (minus n (p .r) ∙ sub-ge n (p .r) l) ∙ weighted (p .c) (q .c) u t;
+          ap₂ (λ (x : ℕ) (z : ℤ). pos (p .c * x) +ℤ subℕ (q .c) (p .c) *ℤ z) e (minus n (p .r) ∙ sub-ge n (p .r) l)
+          ∙ weighted (p .c) (q .c) u t;
       positive = omega arith;
       bounded =
           omega (arith, mul-le-mul (hp .1) (le-refl u), mul-le-mul (hq .1) (le-refl t));
@@ -182,7 +190,8 @@ loss-step p q ps h n l next =
     (λ (k : q .r ≤ n).
     let e : n - p .r - (n - q .r) ≡ q .r - p .r = omega arith in
     rw (le-ltb n (q .r) k, segment p q ps (h .1) n, e)
-    (loss-outside p q (line-from (q ∷ ps) (pos n)) (segments (q ∷ ps) (pos n)) (last-count (q ∷ ps) - q .r) (last-count (q ∷ ps) - p .r) (h .1)
+    (loss-outside p q (line-from (q ∷ ps) (pos n)) (segments (q ∷ ps) (pos n)) (last-count (q ∷ ps) - q .r) (last-count (q ∷ ps) - p .r)
+    (h .1)
     (omega (arith, last-above q ps (h .2))) (next k)))
     (λ (k : n < q .r).
     let e : n - p .r - (n - q .r) ≡ n - p .r = omega arith in

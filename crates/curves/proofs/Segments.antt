@@ -1,4 +1,5 @@
--- The sum that the hosts form of words, row by row, is document 01's sum over segments of words: at every width, for every x and whatever the rows.
+-- The sum that the hosts form of words, row by row, is document 01's sum over segments of words: at every width, for every x and whatever
+-- the rows.
 -- By summation by parts on words, where nothing is asked of what wraps. Assumes nothing.
 use mathlib.Core.Path.{_≡_, refl, sym, ap, _∙_}
 use mathlib.Core.List.{List, [], _∷_}
@@ -36,13 +37,16 @@ module _ (w x : ℕ) where
   unfolding word-sum word-segments slope-after coefficient
   by-parts s p [] n h =
       ap (λ (c : ℕ). add w n (mul w (at-row p) c)) (wrap-minus w (pos 0) s ∙ ap (λ (z : ℕ). sub w z (wrap w s)) (nothing w))
-      ∙ solve-below w (numbers w) (number-carrier w) 3 (λ n a s. (n ⊕ a ⊗ (`0 ⊖ s), n ⊖ s ⊗ a ⊕ `0)) refl n h (at-row p) (relu-lt p) (wrap w s) (wrap-lt w s)
+      ∙ solve-below w (numbers w) (number-carrier w) 3 (λ n a s. (n ⊕ a ⊗ (`0 ⊖ s), n ⊖ s ⊗ a ⊕ `0)) refl n h (at-row p) (relu-lt p)
+      (wrap w s) (wrap-lt w s)
   by-parts s p (q ∷ ps) n h =
       let t : ℤ = slope p q in
       by-parts t q ps (add w n (mul w (at-row p) (wrap w (t -ℤ s)))) (add-lt w n _)
-      ∙ ap (λ (c : ℕ). add w (sub w (add w n (mul w (at-row p) c)) (mul w (wrap w t) (at-row q))) (word-segments w (q ∷ ps) x)) (wrap-minus w t s)
+      ∙ ap (λ (c : ℕ). add w (sub w (add w n (mul w (at-row p) c)) (mul w (wrap w t) (at-row q))) (word-segments w (q ∷ ps) x))
+      (wrap-minus w t s)
       ∙ solve-below w (numbers w) (number-carrier w) 6 (λ n s t a b g. (n ⊕ a ⊗ (t ⊖ s) ⊖ t ⊗ b ⊕ g, n ⊖ s ⊗ a ⊕ (t ⊗ (a ⊖ b) ⊕ g))) refl
-      n h (wrap w s) (wrap-lt w s) (wrap w t) (wrap-lt w t) (at-row p) (relu-lt p) (at-row q) (relu-lt q) (word-segments w (q ∷ ps) x) (segments-lt (q ∷ ps))
+      n h (wrap w s) (wrap-lt w s) (wrap w t) (wrap-lt w t) (at-row p) (relu-lt p) (at-row q) (relu-lt q) (word-segments w (q ∷ ps) x)
+      (segments-lt (q ∷ ps))
 
   -- the first sum may be a number above the words
   first-mod : (s : ℤ) (p : Row) (ps : List Row) (n : ℕ) → word-sum w s (p ∷ ps) x n ≡ word-sum w s (p ∷ ps) x (n % 2 ^ w)
@@ -57,7 +61,8 @@ same-sum w (p ∷ ps) x =
     let n : ℕ = mul w 4096 (p .c) in
     first-mod w x (pos 0) p ps (4096 * p .c) ∙ by-parts w x (pos 0) p ps n (mul-lt w 4096 (p .c))
     ∙ ap (λ (z : ℕ). add w (sub w n (mul w z (at-row w x p))) (word-segments w (p ∷ ps) x)) (nothing w)
-    ∙ solve-below w (numbers w) (number-carrier w) 3 (λ n a g. (n ⊖ `0 ⊗ a ⊕ g, n ⊕ g)) refl n (mul-lt w 4096 (p .c)) (at-row w x p) (relu-lt w x p)
+    ∙ solve-below w (numbers w) (number-carrier w) 3 (λ n a g. (n ⊖ `0 ⊗ a ⊕ g, n ⊕ g)) refl n (mul-lt w 4096 (p .c)) (at-row w x p)
+    (relu-lt w x p)
     (word-segments w (p ∷ ps) x) (segments-lt w x (p ∷ ps))
 
 -- and it is a word

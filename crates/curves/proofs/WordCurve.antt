@@ -40,7 +40,8 @@ module _ (w x : ℕ) (z : ℤ) (o : 28 ≤ w) (is : x ≡ wrap w z) where
       ∙ ap (add w (wrap w y)) (sym (wrap-mul w (relu (z -ℤ pos (p .r))) (slope-after p ps -ℤ s)))
       ∙ sym (wrap-add w y (relu (z -ℤ pos (p .r)) *ℤ (slope-after p ps -ℤ s)))
 
-  by-parts : (s : ℤ) (p : Row) (ps : List Row) → Rising p ps → ((r : ℕ) → r ≤ last-count (p ∷ ps) → mag (z -ℤ pos r) < 2 ^ (w - 1)) → (y : ℤ)
+  by-parts : (s : ℤ) (p : Row) (ps : List Row) → Rising p ps → ((r : ℕ) → r ≤ last-count (p ∷ ps) → mag (z -ℤ pos r) < 2 ^ (w - 1))
+      → (y : ℤ)
       → word-sum w s (p ∷ ps) x (wrap w y) ≡ wrap w (y -ℤ s *ℤ relu (z -ℤ pos (p .r)) +ℤ segments (p ∷ ps) z)
   unfolding word-sum segments last-count slope-after
   by-parts s p [] h m y =
@@ -52,7 +53,8 @@ module _ (w x : ℕ) (z : ℤ) (o : 28 ≤ w) (is : x ≡ wrap w z) where
       ap (word-sum w (slope p q) (q ∷ ps) x) (row-part s p (q ∷ ps) (h .0) (m (p .r) (last-above p (q ∷ ps) h)) y)
       ∙ by-parts (slope p q) q ps (h .2) m (y +ℤ a *ℤ (slope p q -ℤ s))
       ∙ ap (wrap w)
-      (solve integers integer-ring 6 (λ y s t a b g. (y ⊕ a ⊗ (t ⊖ s) ⊖ t ⊗ b ⊕ g, y ⊖ s ⊗ a ⊕ (t ⊗ (a ⊖ b) ⊕ g))) refl y s (slope p q) a b (segments (q ∷ ps) z))
+      (solve integers integer-ring 6 (λ y s t a b g. (y ⊕ a ⊗ (t ⊖ s) ⊖ t ⊗ b ⊕ g, y ⊖ s ⊗ a ⊕ (t ⊗ (a ⊖ b) ⊕ g))) refl y s (slope p q) a b
+      (segments (q ∷ ps) z))
 
   word-of-scaled : (p : Row) (ps : List Row) → Rising p ps → ((r : ℕ) → r ≤ last-count (p ∷ ps) → mag (z -ℤ pos r) < 2 ^ (w - 1))
       → word-curve w (p ∷ ps) x ≡ wrap w (scaled (p ∷ ps) z)
@@ -61,14 +63,17 @@ module _ (w x : ℕ) (z : ℤ) (o : 28 ≤ w) (is : x ≡ wrap w z) where
       let f : Fits p = head-fits p ps h in
       let small : 4096 * p .c < 2 ^ w = omega (arith, pow-mono o) in
       ap (word-sum w (pos 0) (p ∷ ps) x) (sym (mod-eq-of-lt small)) ∙ by-parts (pos 0) p ps h m (pos (4096 * p .c))
-      ∙ ap (wrap w) (solve integers integer-ring 3 (λ y a g. (y ⊖ `0 ⊗ a ⊕ g, y ⊕ g)) refl (pos (4096 * p .c)) (relu (z -ℤ pos (p .r))) (segments (p ∷ ps) z))
+      ∙ ap (wrap w) (solve integers integer-ring 3 (λ y a g. (y ⊖ `0 ⊗ a ⊕ g, y ⊕ g)) refl (pos (4096 * p .c)) (relu (z -ℤ pos (p .r)))
+      (segments (p ∷ ps) z))
 
 module _ (w : ℕ) (o : 28 ≤ w) (ws : List ℕ) (keeps : T (keeps-rules ws)) (x : ℕ) where
   reads : ((r : ℕ) → r ≤ last-count (rows ws) → mag (signed w x -ℤ pos r) < 2 ^ (w - 1)) → x < 2 ^ w
-      → (word-curve w (rows ws) x ≡ wrap w (scaled (rows ws) (signed w x))) × (signed w (word-curve w (rows ws) x) ≡ scaled (rows ws) (signed w x))
+      → (word-curve w (rows ws) x ≡ wrap w (scaled (rows ws) (signed w x)))
+      × (signed w (word-curve w (rows ws) x) ≡ scaled (rows ws) (signed w x))
   reads m h = (
     e,
-    ap (signed w) e ∙ signed-wrap w Y (omega arith) (lt-of-lt-of-le (scaled-mag ws keeps (signed w x)) (pow-mono {i = 27} {j = w - 1} (omega arith))),
+    ap (signed w) e ∙ signed-wrap w Y (omega arith)
+        (lt-of-lt-of-le (scaled-mag ws keeps (signed w x)) (pow-mono {i = 27} {j = w - 1} (omega arith))),
   )
     where
       Y : ℤ
@@ -76,7 +81,8 @@ module _ (w : ℕ) (o : 28 ≤ w) (ws : List ℕ) (keeps : T (keeps-rules ws)) (
 
       e : word-curve w (rows ws) x ≡ wrap w Y
       e =
-          for-table (λ ps. ((r : ℕ) → r ≤ last-count ps → mag (signed w x -ℤ pos r) < 2 ^ (w - 1)) → word-curve w ps x ≡ wrap w (scaled ps (signed w x)))
+          for-table (λ ps. ((r : ℕ) → r ≤ last-count ps → mag (signed w x -ℤ pos r) < 2 ^ (w - 1))
+          → word-curve w ps x ≡ wrap w (scaled ps (signed w x)))
           (word-of-scaled w x (signed w x) o (sym (wrap-signed w x h))) ws keeps m
 
   -- for a word in range
@@ -98,7 +104,8 @@ module _ (w : ℕ) (o : 28 ≤ w) (ws : List ℕ) (keeps : T (keeps-rules ws)) (
   pub above-reads : last-count (rows ws) ≤ x → x < 2 ^ (w - 1) → signed w (word-curve w (rows ws) x) ≡ scaled (rows ws) (signed w x)
   above-reads l h = reads (above-rows l h) (omega (arith, halves w (omega arith))) .1
 
-  above-word : last-count (rows ws) ≤ x → x < 2 ^ (w - 1) → word-curve w (rows ws) x ≡ wrap w (scaled (rows ws) (pos (last-count (rows ws))))
+  above-word : last-count (rows ws) ≤ x → x < 2 ^ (w - 1)
+      → word-curve w (rows ws) x ≡ wrap w (scaled (rows ws) (pos (last-count (rows ws))))
   above-word l h =
       reads (above-rows l h) (omega (arith, halves w (omega arith))) .0
       ∙ ap (wrap w) (ap (scaled (rows ws)) (signed-low w x h) ∙ scaled-level ws keeps (pos x) (leZ-yes (le→leb (last-count (rows ws)) x l)))

@@ -35,7 +35,8 @@ module _ (w : ℕ) where
       ∙ wrap-sub w (up a + up b) (down a + down b)
       ∙ ap₂ (sub w) (residue-add (up a) (up b)) (residue-add (down a) (down b))
       ∙ ap (λ (x : Word w). x .0)
-      (solve (number-words w) (number-ring w) 4 (λ a b c d. (a ⊕ c ⊖ (b ⊕ d), a ⊖ b ⊕ (c ⊖ d))) refl (residue (up a)) (residue (down a)) (residue (up b)) (residue (down b)))
+      (solve (number-words w) (number-ring w) 4 (λ a b c d. (a ⊕ c ⊖ (b ⊕ d), a ⊖ b ⊕ (c ⊖ d))) refl (residue (up a)) (residue (down a))
+      (residue (up b)) (residue (down b)))
       ∙ sym (ap₂ (add w) (apart a) (apart b))
     where
       apart : (z : ℤ) → wrap w z ≡ sub w (up z % 2 ^ w) (down z % 2 ^ w)
@@ -49,7 +50,8 @@ module _ (w : ℕ) where
   unfolding word
   wrap-neg a =
       ap (λ (x : Word w). x .0)
-      (neg-unique (number-words w) (number-ring w) (word a) (word (negℤ a)) (word-path (sym (wrap-add a (negℤ a)) ∙ ap (wrap w) (+ℤ-invr a) ∙ nothing)))
+      (neg-unique (number-words w) (number-ring w) (word a) (word (negℤ a))
+      (word-path (sym (wrap-add a (negℤ a)) ∙ ap (wrap w) (+ℤ-invr a) ∙ nothing)))
 
   pub wrap-minus : (a b : ℤ) → wrap w (a -ℤ b) ≡ sub w (wrap w a) (wrap w b)
   wrap-minus a b = wrap-add a (negℤ b) ∙ ap (add w (wrap w a)) (wrap-neg b) ∙ sym (sub-is w (wrap w a) (wrap w b))
@@ -58,7 +60,8 @@ module _ (w : ℕ) where
   unfolding word wrap mul
   wrap-mul a b =
       steps (λ z. wrap w (z *ℤ b) ≡ mul w (wrap w z) (wrap w b))
-      (ap (wrap w) (zero-*ℤ b) ∙ nothing ∙ sym (ap (λ (x : ℕ). x * wrap w b % 2 ^ w) nothing ∙ ap (λ (x : ℕ). x % 2 ^ w) (zero-mul (wrap w b)) ∙ nothing))
+      (ap (wrap w) (zero-*ℤ b) ∙ nothing
+      ∙ sym (ap (λ (x : ℕ). x * wrap w b % 2 ^ w) nothing ∙ ap (λ (x : ℕ). x % 2 ^ w) (zero-mul (wrap w b)) ∙ nothing))
       (λ z h.
       ap (wrap w) (sucℤ-*ℤ z b) ∙ wrap-add (z *ℤ b) b ∙ ap (λ (x : ℕ). add w x (wrap w b)) h
       ∙ ap (λ (x : Word w). x .0) (solve (number-words w) (number-ring w) 2 (λ z b. (z ⊗ b ⊕ b, (z ⊕ `1) ⊗ b)) refl (word z) (word b))
@@ -93,7 +96,8 @@ wrap-low w k (negsuc n) h =
     let i : q < c = div-lt-iff-lt-mul (pow-pos k) .1 l in
     let r : m % 2 ^ k < 2 ^ k = mod-lt m (pow-pos k) in
     let e : c ≡ c - suc q + suc q = omega arith in
-    let d : 2 ^ w - suc m ≡ (c - suc q) * 2 ^ k + (2 ^ k - suc (m % 2 ^ k)) = omega (arith, ap (λ (x : ℕ). x * 2 ^ k) e, div-add-mod' m (2 ^ k)) in
+    let d : 2 ^ w - suc m ≡ (c - suc q) * 2 ^ k + (2 ^ k - suc (m % 2 ^ k)) =
+    omega (arith, ap (λ (x : ℕ). x * 2 ^ k) e, div-add-mod' m (2 ^ k)) in
     ap (λ (x : ℕ). x % 2 ^ k) d ∙ digits-mod (c - suc q) (omega arith) ∙ ap (λ (x : ℕ). 2 ^ k - suc x) (low-low w k n h)
 
 pub word-low : (w k x : ℕ) → k ≤ w → x < 2 ^ w → x % 2 ^ k ≡ wrap k (signed w x)

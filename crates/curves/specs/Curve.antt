@@ -18,7 +18,8 @@ relu (negsuc n) = pos 0
 unfoldable pub segments : List Row → ℤ → ℤ
 segments [] x = pos 0
 segments (p ∷ []) x = pos 0
-segments (p ∷ q ∷ ps) x = slope p q *ℤ (relu (x -ℤ pos (p .r)) -ℤ relu (x -ℤ pos (q .r))) +ℤ segments (q ∷ ps) x
+segments (p ∷ q ∷ ps) x =
+    slope p q *ℤ (relu (x -ℤ pos (p .r)) -ℤ relu (x -ℤ pos (q .r))) +ℤ segments (q ∷ ps) x
 
 -- "Y = 4096 × first c + sum over segments"
 unfoldable pub scaled : List Row → ℤ → ℤ

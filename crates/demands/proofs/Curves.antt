@@ -1,7 +1,7 @@
 -- What a finished order opens after a run: its kind's value; of a curve, the curve's value of its reading. Assumes nothing.
 use mathlib.Core.Path.{_≡_, ap, _∙_}
 use Prim.Native.Nat.{ℕ, suc, _^_, _<_}
-use lib.Dec.{T, lit<}
+use lib.Dec.{T, lit<, lit≤}
 use lib.IntN.{ℤ, pos, _+ℤ_}
 use lib.ListN.{getD}
 use Rattle.words.specs.Signed.{floor, signed, wrap}
@@ -51,7 +51,7 @@ module _ (w : ℕ) (wide : 12 < w) (S : Setting) (q : ℕ) (v : World) (F : Fini
 -- ---- at 32 bits: a reading that the curve is promised for
 
 module _ (S : Setting) (q : ℕ) (v : World) (F : Finishes 32 (staged 32 S) q v) (k : order-of S q .kind ≡ 10)
-    (p : Promised (S .table) (source-value 32 S q)) where
+    (p : Promised 32 (S .table) (source-value 32 S q)) where
   abbrev x : ℕ
   x = source-value 32 S q
 
@@ -66,11 +66,12 @@ module _ (S : Setting) (q : ℕ) (v : World) (F : Finishes 32 (staged 32 S) q v)
   unfolding Y-of reading
   exact-opens m =
       curve-opens 32 (lit< tt) S q v F 0 k m
-      ∙ ap {B = ℕ × ℤ} (λ (y : ℤ). (0, y)) (exact-curve (S .table) (rules-kept 32 S q v F k) x (sub-lt 32 _ _) p R)
+      ∙ ap {B = ℕ × ℤ} (λ (y : ℤ). (0, y)) (exact-curve 32 (lit≤ tt) (S .table) (rules-kept 32 S q v F k) x (sub-lt 32 _ _) p R)
 
   pub one-bit-opens : (c : ℕ) → order-of S q .fourth ≡ suc c
       → opens 32 S v q ≡ (0, floor (Y-of 32 S q) 4096 +ℤ pos (slip 12 (wrap 12 (Y-of 32 S q)) R))
   unfolding Y-of reading
   one-bit-opens c m =
       curve-opens 32 (lit< tt) S q v F (suc c) k m
-      ∙ ap {B = ℕ × ℤ} (λ (y : ℤ). (0, y)) (one-bit-curve (S .table) (rules-kept 32 S q v F k) x (sub-lt 32 _ _) p R c mask-lt)
+      ∙ ap {B = ℕ × ℤ} (λ (y : ℤ). (0, y))
+      (one-bit-curve 32 (lit≤ tt) (S .table) (rules-kept 32 S q v F k) x (sub-lt 32 _ _) p R c mask-lt)

@@ -7,7 +7,7 @@ use Prim.Native.Nat.{ℕ, zero, suc, _+_, _-_, _*_, _%_, _^_, _≤_, _<_}
 use native.Mathlib.Nat.{mod-eq-of-lt}
 use native.Mathlib.Omega.{arith}
 use borrow.Author.Tests.{le-leb, lt-leb}
-use lib.Dec.{T, leb, leb→le, le→leb}
+use lib.Dec.{T, leb, leb→le, le→leb, lit≤}
 use lib.IntN.{ℤ, pos, negsuc, _+ℤ_, +ℤ-idr}
 use lib.ListN.{length, length-set}
 use lib.Signed.{_≤ℤ_, leZ-yes}
@@ -40,7 +40,7 @@ use Rattle.runs.proofs.Progress.{stuck-ended}
 -- ---- a reading in range
 
 module _ (S : Setting) (q : ℕ) (v : World) (F : Finishes 32 (staged 32 S) q v) (h : T (in-range 32 (reading 32 S q))) where
-  in-range-word : Promised (S .table) (source-value 32 S q)
+  in-range-word : Promised 32 (S .table) (source-value 32 S q)
   unfolding reading
   in-range-word = ranged h
 
@@ -110,7 +110,7 @@ orders-alike S S′ q e = ap (λ (job : List ℕ). order (orders job) q) (e .job
 
 module _ (S : Setting) (q : ℕ) (v : World) (F : Finishes 32 (staged 32 S) q v) (k : order-of S q .kind ≡ 10)
     (l : pos (last-count (rows (S .table))) ≤ℤ reading 32 S q) where
-  above-last : Promised (S .table) (source-value 32 S q)
+  above-last : Promised 32 (S .table) (source-value 32 S q)
   unfolding reading
   above-last = let p = above-word (source-value 32 S q) (last-count (rows (S .table))) (sub-lt 32 _ _) l in above (p .0) (p .1)
 
@@ -191,7 +191,9 @@ module _ (S : Setting) (q : ℕ) (v : ℕ → World) (words : Words 32 (staged 3
         ∙ ap (λ (n : ℕ). leb 4096 (n + add 32 a b % 4096)) (mod-eq-of-lt (wrap-lt 12 (Y-of 32 S q)))
 
   slips : count (2 ^ 32) (λ a. eqZ (opens 32 S (v a) q .1) (floor (Y-of 32 S q) 4096 +ℤ pos 1)) ≡ y * 2 ^ 20
-  slips = count-same (2 ^ 32) _ (λ a. leb 4096 (y + (a + b) % 2 ^ 32 % 4096)) gives-one-more ∙ slips-of-words y b (wrap-lt 12 (Y-of 32 S q))
+  slips =
+      count-same (2 ^ 32) _ (λ a. leb 4096 (y + (a + b) % 2 ^ 32 % 4096)) gives-one-more
+      ∙ slips-of-words 32 y b (lit≤ tt) (wrap-lt 12 (Y-of 32 S q))
 
 -- ---- every order
 

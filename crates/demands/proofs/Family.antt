@@ -21,7 +21,7 @@ use Rattle.gates.proofs.Needs.{far-used, whole-alike}
 use Rattle.programs.specs.Programs.{sum-program, one-bit-program, curve-one-bit}
 use Rattle.programs.specs.Orders.{curve-program, kinds, program}
 use Rattle.programs.specs.Costs.{program-cost}
-use Rattle.programs.proofs.Costs.{cost-after}
+use Rattle.programs.proofs.Sizes.{cost-after, refresh-uses}
 use Rattle.jobs.specs.Job.{orders, steps-of, job-cost}
 use Rattle.calls.proofs.Scripts.{job-made}
 use Rattle.runs.specs.Runs.{Setting, staged}
@@ -39,11 +39,6 @@ before-walk w S words q h =
     let tidy = job-orderly w (S .job) (S .table) in
     before-is w (staged w S) tidy words (gates w S) (job-made w (S .job) (S .table)) q (in-gates w S q h)
     ∙ sym (state-before w (S .A) (S .B) (words .A) (words .B) (gates w S) (G₀ w (staged w S) tidy words) q [])
-
--- a refresh uses a word of A
-refresh-uses : (w : ℕ) (gs : List Gate) → 1 ≤ program-cost w (Refresh 22 22 ∷ gs) .a
-unfolding program-cost order-steps meaning cost step-cost plus
-refresh-uses w gs = omega arith
 
 module _ (w : ℕ) (S : Setting) (q : ℕ) where
   abbrev i : ℕ
@@ -65,7 +60,7 @@ module _ (w : ℕ) (S : Setting) (q : ℕ) where
       gates-is w S q h
       ∙ ap (λ (n : ℕ). getD (kinds w ps d x (order-of S q .fourth)) n []) (o .kind) ∙ ap (λ (c : ℕ). curve-program w x d ps c) (o .mode) in
       let c = ap (λ (gs : List Gate). program-cost w gs .a) e ∙ ap (λ (k : Cost). k .a) (cost-after w (sum-program w x ps) rest) in
-      omega (arith, c, refresh-uses w (one-bit-program w 12 22 d), used-within w (gates w S) q (in-gates w S q h))
+      omega (arith, c, refresh-uses w 22 22 (one-bit-program w 12 22 d), used-within w (gates w S) q (in-gates w S q h))
 
   -- the same shares before the order, whatever the word
   before-same : (a : ℕ) → Words w (staged w S) → Words w (staged w (with-word w S q a)) → q < length (orders (S .job))

@@ -9,6 +9,23 @@ ghost use Rattle.jobs.specs.Walk.{counted, Small, kind-cost};
 use jobs::Counts;
 use programs::Order;
 
+// The sizes of a curve's row, which are a ReLU's, and of the exact truncation; at each exchange both hosts speak.
+const ROW_EXCHANGES: u32 = programs::ROW_EXCHANGES as u32;
+
+const ROW_WORDS: u32 = 2 * ROW_EXCHANGES;
+
+const ROW_WORDS_A: u32 = programs::ROW_WORDS_A as u32;
+
+const ROW_DEALS: u32 = programs::ROW_DEALS as u32;
+
+const EXACT_EXCHANGES: u32 = programs::EXACT_EXCHANGES as u32;
+
+const EXACT_WORDS: u32 = 2 * EXACT_EXCHANGES;
+
+const EXACT_WORDS_A: u32 = programs::EXACT_WORDS_A as u32;
+
+const EXACT_DEALS: u32 = programs::EXACT_DEALS as u32;
+
 pub(crate) fn count_of(deals: u32, words: u32, a: u32, b: u32) -> Counts
     ensures { λ r. ⌜ counted r ≡ cost-of deals words a b ⌝ }
 {
@@ -49,13 +66,18 @@ fn curve_counts(mode: u32, rows: u32) -> Counts
 {
     if mode == 0 {
         count_of(
-            14 * rows + 16,
-            24 * rows + 24,
-            26 * rows + 28,
-            12 * rows + 12,
+            ROW_DEALS * rows + EXACT_DEALS,
+            ROW_WORDS * rows + EXACT_WORDS,
+            ROW_WORDS_A * rows + EXACT_WORDS_A,
+            ROW_EXCHANGES * rows + EXACT_EXCHANGES,
         )
     } else {
-        count_of(14 * rows + 3, 24 * rows + 4, 26 * rows + 5, 12 * rows + 2)
+        count_of(
+            ROW_DEALS * rows + 3,
+            ROW_WORDS * rows + 4,
+            ROW_WORDS_A * rows + 5,
+            ROW_EXCHANGES * rows + 2,
+        )
     }
 }
 
@@ -71,8 +93,8 @@ pub(crate) fn order_counts(o: Order, rows: u32) -> Counts
         5 => count_of(0, 2, 1, 1),
         6 => count_of(1, 0, 1, 0),
         7 => count_of(3, 2, 4, 1),
-        8 => count_of(16, 24, 28, 12),
-        9 => count_of(14, 24, 26, 12),
+        8 => count_of(EXACT_DEALS, EXACT_WORDS, EXACT_WORDS_A, EXACT_EXCHANGES),
+        9 => count_of(ROW_DEALS, ROW_WORDS, ROW_WORDS_A, ROW_EXCHANGES),
         10 => curve_counts(fourth, rows),
         _ => none(),
     }

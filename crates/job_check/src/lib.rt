@@ -40,10 +40,12 @@ fn turned_down(number: u32, index: u32) -> Findings
     }
 }
 
-// Checks a job with its table. The counts before a place are taken on the way, so that whoever goes on from there need not walk again.
+// Checks a job with its table. The counts before a place are taken on the way, so that whoever goes on from there need
+// not walk again.
 pub fn survey(job: &[u32], table: &[u32], place: usize) -> Findings
     ensures found { λ r. ⌜ surveyed r ≡ check-job 32 (now (job .entry)) (now (table .entry)) ⌝ }
-    ensures passed { λ r. ⌜ counted (r .before) ≡ counts-before 32 (now (job .entry)) (now (table .entry)) place ⌝ }
+    ensures passed { λ r. ⌜ counted (r .before)
+        ≡ counts-before 32 (now (job .entry)) (now (table .entry)) place ⌝ }
 {
     if ill_sized(job) {
         return turned_down(2, 0);

@@ -16,7 +16,8 @@ fn need(which: Which, a: u32, b: u32) -> u32
     }
 }
 
-// The part of a mask list after the job's need; the whole list where refused. Its number, or 0, goes into the lent word.
+// The part of a mask list after the job's need; the whole list where refused. Its number, or 0, goes into the lent
+// word.
 pub fn leftover<'a>(
     job: &[u32],
     table: &[u32],
@@ -28,7 +29,8 @@ pub fn leftover<'a>(
         ⌜ now r
         ≡ leftover-part (leftover-number 32 (now (job .entry)) (now (table .entry)) which (now (list .entry)))
         32 (now (job .entry)) (now (table .entry)) which (now (list .entry)) ⌝ }
-    ensures said { λ r. ⌜ now (number .exit) ≡ leftover-number 32 (now (job .entry)) (now (table .entry)) which (now (list .entry)) ⌝ }
+    ensures said { λ r. ⌜ now (number .exit)
+        ≡ leftover-number 32 (now (job .entry)) (now (table .entry)) which (now (list .entry)) ⌝ }
 {
     match check(job, table) {
         Checked::Refused {

@@ -9,7 +9,8 @@ use lib.Dec.{eqb, ltb}
 use lib.ListN.{getD, length}
 use Rattle.tables.specs.Table.{keeps-rules}
 use Rattle.programs.specs.declared.Order.{Order}
-use Rattle.jobs.specs.Job.{orders, ill-sized, unknown-kind, two-sources, unknown-register, no-shift, ill-fourths, ill-fourth, order-fault, fault-at, orders-fault, job-fault}
+use Rattle.jobs.specs.Job.{orders, ill-sized, unknown-kind, two-sources, unknown-register, no-shift, ill-fourths, ill-fourth}
+use Rattle.jobs.specs.Job.{order-fault, fault-at, orders-fault, job-fault}
 
 -- ---- a test that is false, part by part
 
@@ -51,17 +52,20 @@ good w ruled o e =
       fourth = f .0;
     }
 
-all-good : (w : ℕ) (ruled : Bool) (os : List Order) (i : ℕ) → orders-fault w ruled os i .0 ≡ 0 → (q : ℕ) → q < length os → (d : Order) → Good w ruled (getD os q d)
+all-good : (w : ℕ) (ruled : Bool) (os : List Order) (i : ℕ) → orders-fault w ruled os i .0 ≡ 0 → (q : ℕ) → q < length os → (d : Order)
+    → Good w ruled (getD os q d)
 unfolding orders-fault
 all-good w ruled [] i e q h d = absurd (omega arith)
 all-good w ruled (o ∷ os) i e zero h d = good w ruled o (fault-none (order-fault w ruled o) i _ e .0)
 all-good w ruled (o ∷ os) i e (suc q) h d = all-good w ruled os (suc i) (fault-none (order-fault w ruled o) i _ e .1) q (omega arith) d
 
-pub accepted-orders : (w : ℕ) (job table : List ℕ) → job-fault w job table .0 ≡ 0 → (q : ℕ) → q < length (orders job) → (d : Order) → Good w (keeps-rules table) (getD (orders job) q d)
+pub accepted-orders : (w : ℕ) (job table : List ℕ) → job-fault w job table .0 ≡ 0 → (q : ℕ) → q < length (orders job) → (d : Order)
+    → Good w (keeps-rules table) (getD (orders job) q d)
 unfolding job-fault
 accepted-orders w job table e q h d = go (ill-sized job) refl e
   where
-    go : (b : Bool) → ill-sized job ≡ b → cond b (2, 0) (orders-fault w (keeps-rules table) (orders job) 0) .0 ≡ 0 → Good w (keeps-rules table) (getD (orders job) q d)
+    go : (b : Bool) → ill-sized job ≡ b → cond b (2, 0) (orders-fault w (keeps-rules table) (orders job) 0) .0 ≡ 0
+        → Good w (keeps-rules table) (getD (orders job) q d)
     go true t f = absurd (omega arith)
     go false t f = all-good w (keeps-rules table) (orders job) 0 f q h d
 

@@ -10,7 +10,8 @@ use lib.ListN.{length}
 use Rattle.tables.specs.Table.{keeps-rules}
 use Rattle.programs.specs.declared.Order.{Order}
 use Rattle.jobs.specs.declared.Which.{Which}
-use Rattle.jobs.specs.Job.{Fault, orders, ill-sized, unknown-kind, unknown-register, ill-fourth, order-fault, fault-at, orders-fault, job-fault, job-cost}
+use Rattle.jobs.specs.Job.{Fault, orders, ill-sized, unknown-kind, unknown-register, ill-fourth, order-fault, fault-at, orders-fault}
+use Rattle.jobs.specs.Job.{job-fault, job-cost}
 use Rattle.jobs.specs.Answers.{need, short, or-short, leftover-number, leftover-part}
 use Rattle.jobs.specs.FirstFault.{IllSized, Meets, order, Faultless, First, Numbered, faultless, sizeless, faulty}
 use Rattle.jobs.proofs.Plainly.{size-plainly, of-orders, kind-plainly, register-plainly, fourth-plainly, short-plainly}
@@ -28,8 +29,14 @@ module _ (Met : ℕ → Type 0) (alone : (m : ℕ) → Met m → (m ≡ 3) ⊎ (
   ruled-out m a b c x = ⊎-elim (λ e. a e (subst Met e x)) (⊎-elim (λ e. b e (subst Met e x)) (λ e. c e (subst Met e x))) (alone m x)
 
   lowest-of : (a b c : Bool) → T a ↔ Met 3 → T b ↔ Met 4 → T c ↔ Met 5 → Lowest Met (cond a 3 (cond b 4 (cond c 5 0)))
-  lowest-of true b c p q r = inr (λ z. omega arith, p .0 tt, λ m h. ruled-out m (λ e. absurd (omega arith)) (λ e. absurd (omega arith)) (λ e. absurd (omega arith)))
-  lowest-of false true c p q r = inr (λ z. omega arith, q .0 tt, λ m h. ruled-out m (λ e. p .1) (λ e. absurd (omega arith)) (λ e. absurd (omega arith)))
+  lowest-of true b c p q r =
+      inr (
+        λ z. omega arith,
+        p .0 tt,
+        λ m h. ruled-out m (λ e. absurd (omega arith)) (λ e. absurd (omega arith)) (λ e. absurd (omega arith)),
+      )
+  lowest-of false true c p q r =
+      inr (λ z. omega arith, q .0 tt, λ m h. ruled-out m (λ e. p .1) (λ e. absurd (omega arith)) (λ e. absurd (omega arith)))
   lowest-of false false true p q r = inr (λ z. omega arith, r .0 tt, λ m h. ruled-out m (λ e. p .1) (λ e. q .1) (λ e. absurd (omega arith)))
   lowest-of false false false p q r = inl (refl, λ m. ruled-out m (λ e. p .1) (λ e. q .1) (λ e. r .1))
 
@@ -55,7 +62,16 @@ module _ (w : ℕ) (table : List ℕ) where
         each zero n h = none n
         each (suc i) n h = fine i n (omega arith)
     behind f none (inr (i, e, first)) =
-        inr (suc i, omega arith, record { exists = omega (arith, first .exists); here = first .here; no-lower = first .no-lower; none-before = before })
+        inr (
+          suc i,
+          omega arith,
+          record {
+            exists = omega (arith, first .exists);
+            here = first .here;
+            no-lower = first .no-lower;
+            none-before = before;
+          },
+        )
       where
         before : (j m : ℕ) → j < suc i → Meets w table (order (o ∷ os) j) m → ⊥
         before zero m h = none m
@@ -72,7 +88,8 @@ module _ (w : ℕ) (table : List ℕ) where
   found : (os : List Order) (b : ℕ) → Found os b (orders-fault w (keeps-rules table) os b)
   unfolding orders-fault
   found [] b = inl (refl, λ i n h. absurd (omega arith))
-  found (o ∷ os) b = at-order o os b (order-fault w (keeps-rules table) o) (lowest o) (orders-fault w (keeps-rules table) os (suc b)) (found os (suc b))
+  found (o ∷ os) b =
+      at-order o os b (order-fault w (keeps-rules table) o) (lowest o) (orders-fault w (keeps-rules table) os (suc b)) (found os (suc b))
 
 -- ---- a job has its number
 
@@ -85,7 +102,8 @@ numbered w job table = go (ill-sized job) (size-plainly job)
     walked s f (inr (i, e, first)) = let q : i ≡ f .1 = omega arith in subst (λ (k : ℕ). Numbered w job table (f .0) k) q (faulty s first)
 
     go : (b : Bool) → T b ↔ IllSized job
-        → Numbered w job table (cond b (2, 0) (orders-fault w (keeps-rules table) (orders job) 0) .0) (cond b (2, 0) (orders-fault w (keeps-rules table) (orders job) 0) .1)
+        → Numbered w job table (cond b (2, 0) (orders-fault w (keeps-rules table) (orders job) 0) .0)
+        (cond b (2, 0) (orders-fault w (keeps-rules table) (orders job) 0) .1)
     go true p = sizeless (p .0 tt)
     go false p = walked (p .1) (orders-fault w (keeps-rules table) (orders job) 0) (found w table (orders job) 0)
 
@@ -139,7 +157,8 @@ module _ {w : ℕ} {job table : List ℕ} where
 
 module _ (w : ℕ) (job table : List ℕ) where
   pub job-number : (n i : ℕ) → (job-fault w job table ≡ (n, i)) ↔ Numbered w job table n i
-  job-number n i = (tells, λ q. ap₂ {C = Fault} (λ a b. (a, b)) (one-number (numbered w job table) q .0) (one-number (numbered w job table) q .1))
+  job-number n i =
+      (tells, λ q. ap₂ {C = Fault} (λ a b. (a, b)) (one-number (numbered w job table) q .0) (one-number (numbered w job table) q .1))
     where
       tells : job-fault w job table ≡ (n, i) → Numbered w job table n i
       tells e = subst (λ (p : Fault). Numbered w job table (p .0) (p .1)) e (numbered w job table)
@@ -193,7 +212,8 @@ module _ (w : ℕ) (job table : List ℕ) where
     unfolding leftover-number or-short
     unused-6 = go (job-fault w job table .0) at-most-5 (short x (job-cost w job table) l) (short-plainly x (job-cost w job table) l)
       where
-        go : (p : ℕ) → p ≤ 5 → (b : Bool) → T b ↔ (length l < need x (job-cost w job table)) → (or-short p b ≡ 6) ↔ ((p ≡ 0) × (length l < need x (job-cost w job table)))
+        go : (p : ℕ) → p ≤ 5 → (b : Bool) → T b ↔ (length l < need x (job-cost w job table))
+            → (or-short p b ≡ 6) ↔ ((p ≡ 0) × (length l < need x (job-cost w job table)))
         go zero h true t = (λ e. (refl, t .0 tt), λ q. refl)
         go zero h false t = (λ e. absurd (omega arith), λ q. absurd (t .1 (q .1)))
         go (suc p) h b t = (λ e. absurd (omega arith), λ q. absurd (omega arith))
@@ -202,7 +222,8 @@ module _ (w : ℕ) (job table : List ℕ) where
     unfolding leftover-number or-short
     unused-0 = go (job-fault w job table .0) (short x (job-cost w job table) l) (short-plainly x (job-cost w job table) l)
       where
-        go : (p : ℕ) (b : Bool) → T b ↔ (length l < need x (job-cost w job table)) → (or-short p b ≡ 0) ↔ ((p ≡ 0) × (need x (job-cost w job table) ≤ length l))
+        go : (p : ℕ) (b : Bool) → T b ↔ (length l < need x (job-cost w job table))
+            → (or-short p b ≡ 0) ↔ ((p ≡ 0) × (need x (job-cost w job table) ≤ length l))
         go zero true t = (λ e. absurd (omega arith), λ q. let h = t .0 tt in absurd (omega arith))
         go zero false t = (λ e. (refl, let h = t .1 in omega arith), λ q. refl)
         go (suc p) b t = (λ e. absurd (omega arith), λ q. absurd (omega arith))

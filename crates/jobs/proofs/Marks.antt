@@ -14,7 +14,7 @@ use Rattle.jobs.specs.declared.Counts.{Counts}
 use Rattle.jobs.specs.Job.{orders, job-cost}
 use Rattle.jobs.specs.Walk.{counted}
 use Rattle.jobs.specs.CostTable.{table-counts}
-use Rattle.jobs.proofs.Sums.{job-counts}
+use Rattle.jobs.proofs.Sums.{Tabled}
 use Rattle.jobs.proofs.Turns.{Going}
 
 -- ---- the orders before an index and those from it on have the job's counts
@@ -35,7 +35,7 @@ cancel : (x y r : Cost) → plus x r ≡ plus y r → x ≡ y
 unfolding plus
 cancel x y r e =
     let d : x .deals + r .deals ≡ y .deals + r .deals = ap (λ (k : Cost). k .deals) e in
-    let w : x .words + r .words ≡ y .words + r .words = ap (λ (k : Cost). k .words) e in
+    let s : x .words + r .words ≡ y .words + r .words = ap (λ (k : Cost). k .words) e in
     let a : x .a + r .a ≡ y .a + r .a = ap (λ (k : Cost). k .a) e in
     let b : x .b + r .b ≡ y .b + r .b = ap (λ (k : Cost). k .b) e in
     cost-path (omega arith) (omega arith) (omega arith) (omega arith)
@@ -43,43 +43,46 @@ cancel x y r e =
 -- ---- on the way
 
 -- the counts kept: those so far while the place lies ahead, and those before the place from then on
-pub record Marked (job table : List ℕ) (place i : ℕ) (before : Counts) : Type 0 where
-  pub ahead : i ≤ place → counted before ≡ job-cost 32 (take (i * 4) job) table
-  pub behind : place ≤ i → counted before ≡ job-cost 32 (take (place * 4) job) table
+pub record Marked (w : ℕ) (job table : List ℕ) (place i : ℕ) (before : Counts) : Type 0 where
+  pub ahead : i ≤ place → counted before ≡ job-cost w (take (i * 4) job) table
+  pub behind : place ≤ i → counted before ≡ job-cost w (take (place * 4) job) table
 
-module _ (job table : List ℕ) where
-  so-far : {i : ℕ} {sum : Counts} → Going job table i sum → i * 4 ≤ length job → counted sum ≡ job-cost 32 (take (i * 4) job) table
-  so-far {i} {sum} g h =
+module _ (w : ℕ) (job table : List ℕ) where
+  so-far : Tabled w → {i : ℕ} {sum : Counts} → Going w job table i sum → i * 4 ≤ length job
+      → counted sum ≡ job-cost w (take (i * 4) job) table
+  so-far tabled {i} {sum} g h =
       let n = length (rows table) in
       cancel (counted sum) (table-counts n (orders (take (i * 4) job))) (table-counts n (orders (drop (i * 4) job)))
-      (g .costs ∙ job-counts job table ∙ sym (split n job i h))
-      ∙ sym (job-counts (take (i * 4) job) table)
+      (g .costs ∙ tabled job table ∙ sym (split n job i h))
+      ∙ sym (tabled (take (i * 4) job) table)
 
-  none-yet : {sum : Counts} → counted sum ≡ cost-of 0 0 0 0 → counted sum ≡ job-cost 32 (take 0 job) table
+  none-yet : Tabled w → {sum : Counts} → counted sum ≡ cost-of 0 0 0 0 → counted sum ≡ job-cost w (take 0 job) table
   unfolding orders table-counts
-  none-yet e = e ∙ sym (job-counts [] table)
+  none-yet tabled e = e ∙ sym (tabled [] table)
 
   module _ (place : ℕ) where
-    pub unmarked : (before : Counts) → counted before ≡ cost-of 0 0 0 0 → Marked job table place 0 before
-    unmarked before e = record {
-      ahead = λ h. none-yet e;
-      behind = λ h. let z : place ≡ 0 = omega arith in rw z (none-yet e);
+    pub unmarked : Tabled w → (before : Counts) → counted before ≡ cost-of 0 0 0 0 → Marked w job table place 0 before
+    unmarked tabled before e = record {
+      ahead = λ h. none-yet tabled e;
+      behind = λ h. let z : place ≡ 0 = omega arith in rw z (none-yet tabled e);
     }
 
-    module _ {i : ℕ} {before : Counts} (m : Marked job table place i before) where
-      pub next-mark : {s b : Counts} → Going job table (i + 1) s → (i + 1) * 4 ≤ length job → ((i < place) × (b ≡ s)) ⊎ ((place ≤ i) × (b ≡ before)) → Marked job table place (i + 1) b
-      next-mark g h (inl (l, e)) =
-          let n = ap counted e ∙ so-far g h in record {
+    module _ {i : ℕ} {before : Counts} (m : Marked w job table place i before) where
+      pub next-mark : Tabled w → {s b : Counts} → Going w job table (i + 1) s → (i + 1) * 4 ≤ length job
+          → ((i < place) × (b ≡ s)) ⊎ ((place ≤ i) × (b ≡ before)) → Marked w job table place (i + 1) b
+      next-mark tabled g h (inl (l, e)) =
+          let n = ap counted e ∙ so-far tabled g h in record {
             ahead = λ k. n;
             behind = λ k. let z : place ≡ i + 1 = omega arith in rw z n;
           }
-      next-mark g h (inr (l, e)) = record {
+      next-mark tabled g h (inr (l, e)) = record {
         ahead = λ k. absurd (omega arith);
         behind = λ k. ap counted e ∙ m .behind l;
       }
 
-      pub all-marked : length job ≤ i * 4 → counted before ≡ job-cost 32 (take (place * 4) job) table
+      pub all-marked : length job ≤ i * 4 → counted before ≡ job-cost w (take (place * 4) job) table
       all-marked h =
           ⊎-elim (λ (k : place ≤ i). m .behind k)
-          (λ (k : i < place). m .ahead (omega arith) ∙ ap (λ (l : List ℕ). job-cost 32 l table) (take-all (i * 4) job h ∙ sym (take-all (place * 4) job (omega arith))))
+          (λ (k : i < place). m .ahead (omega arith)
+          ∙ ap (λ (l : List ℕ). job-cost w l table) (take-all (i * 4) job h ∙ sym (take-all (place * 4) job (omega arith))))
           (le-or-lt place i)

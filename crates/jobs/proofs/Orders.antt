@@ -18,7 +18,12 @@ four-words l b h =
     let h1 : suc b < length l = omega arith in
     let h2 : suc (suc b) < length l = omega arith in
     let h3 : suc (suc (suc b)) < length l = omega arith in
-    simp towards-suc (rw (drop-cons l b 0 h0, drop-cons l (suc b) 0 h1, drop-cons l (suc (suc b)) 0 h2, drop-cons l (suc (suc (suc b))) 0 h3))
+    simp towards-suc (rw (
+      drop-cons l b 0 h0,
+      drop-cons l (suc b) 0 h1,
+      drop-cons l (suc (suc b)) 0 h2,
+      drop-cons l (suc (suc (suc b))) 0 h3,
+    ))
 
 module _ (ws : List ℕ) (i : ℕ) where
   pub orders-from : i * 4 + 4 ≤ length ws → orders (drop (i * 4) ws) ≡ order-at ws i ∷ orders (drop ((i + 1) * 4) ws)
@@ -46,4 +51,6 @@ module _ (ws : List ℕ) (i : ℕ) where
   past n h = sym (List·getD-eq-default ws 0 {n = n} h)
 
   pub past-end : length ws ≤ i → record { kind = 0; target = 0; source = 0; fourth = 0 } ≡ order-at ws i
-  past-end h = words-of (past (i * 4) (omega arith)) (past (i * 4 + 1) (omega arith)) (past (i * 4 + 2) (omega arith)) (past (i * 4 + 3) (omega arith))
+  past-end h =
+      words-of (past (i * 4) (omega arith)) (past (i * 4 + 1) (omega arith)) (past (i * 4 + 2) (omega arith))
+      (past (i * 4 + 3) (omega arith))

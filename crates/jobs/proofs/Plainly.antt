@@ -13,9 +13,11 @@ use Rattle.gates.specs.Costs.{Cost}
 use Rattle.programs.specs.declared.Order.{Order}
 use Rattle.jobs.specs.declared.Which.{Which}
 use Rattle.jobs.specs.declared.Which.the-variants.{ListA, ListB}
-use Rattle.jobs.specs.Job.{ill-sized, unknown-kind, two-sources, unknown-register, no-shift, ill-fourths, ill-fourth, short-a, short-b}
+use Rattle.jobs.specs.Job.{ill-sized, unknown-kind, two-sources, unknown-register, no-shift, ill-fourths, ill-fourth, short-a}
+use Rattle.jobs.specs.Job.{short-b}
 use Rattle.jobs.specs.Answers.{need, short}
-use Rattle.jobs.specs.FirstFault.{IllSized, no-words, above-256, not-by-4, NoShift, Meets, kind-above, target-above, source-above, second-above, refresh-not-0, relu-not-0}
+use Rattle.jobs.specs.FirstFault.{IllSized, no-words, above-256, not-by-4, NoShift, Meets, kind-above, target-above, source-above}
+use Rattle.jobs.specs.FirstFault.{second-above, refresh-not-0, relu-not-0}
 use Rattle.jobs.specs.FirstFault.{slack-shift, one-bit-shift, exact-shift, curve-mode, curve-table}
 
 -- ---- tests, part by part

@@ -1,22 +1,23 @@
 -- A job's counts are the sums of its orders' entries in document 01's table of costs, and stay small. Assumes nothing.
-use mathlib.Core.Path.{_≡_, refl, sym, ap₂, _∙_, subst}
+use mathlib.Core.Path.{_≡_, refl, sym, ap, ap₂, _∙_, subst}
 use mathlib.Core.Bool.{Bool, true, false, cond}
 use mathlib.Core.List.{List, [], _∷_, map}
 use Prim.Native.Nat.{ℕ, zero, suc, _+_, _*_, _/_, _≤_}
 use native.Mathlib.Omega.{arith}
 use lib.Dec.{T}
-use lib.ListN.{length, getD}
+use lib.ListN.{length, getD, List·getD-map}
 use Rattle.tables.specs.Table.{Row, rows, keeps-rules}
 use Rattle.tables.proofs.Rows.{rules}
 use Rattle.gates.specs.declared.Gate.{Gate}
 use Rattle.gates.specs.Steps.{Step}
-use Rattle.gates.specs.Meaning.{order-steps, job-steps}
+use Rattle.gates.specs.Meaning.{meaning, order-steps, job-steps}
 use Rattle.gates.specs.Costs.{Cost, cost-of, plus, step-cost, cost}
 use Rattle.gates.proofs.Needs.{cost-path}
 use Rattle.programs.specs.declared.Order.{Order}
-use Rattle.programs.specs.Orders.{curve-program, kinds, program}
+use Rattle.programs.specs.Orders.{program}
 use Rattle.programs.specs.Costs.{program-cost}
-use Rattle.programs.proofs.Costs.{cost-0, cost-1, cost-2, cost-3, cost-4, cost-5, cost-6, cost-7, cost-8, cost-9, curve-exact-cost, curve-one-bit-cost}
+use Rattle.programs.specs.Sizes.{Size, size-of, plus-size, times-cost, times-size, end-size, curve-size, kind-sizes}
+use Rattle.programs.proofs.Sizes.{order-sized, slack-number, one-bit-number, exact-32, relu-32, row-32}
 use Rattle.jobs.specs.Job.{orders, job-gates, steps-of, job-cost, order-fault}
 use Rattle.jobs.specs.Walk.{curve-cost, kind-costs, kind-cost}
 use Rattle.jobs.specs.CostTable.{table-counts}
@@ -41,22 +42,26 @@ by-kind P a b c d e f g h i j k l (suc (suc (suc (suc (suc (suc (suc (suc (suc (
 
 -- ---- an order's counts
 
-module _ (ps : List Row) where
-  of-curve : (d a c : ℕ) → program-cost 32 (curve-program 32 a d ps c) ≡ curve-cost c (length ps)
-  unfolding curve-program curve-cost
-  of-curve d a zero = curve-exact-cost a d ps
-  of-curve d a (suc c) = curve-one-bit-cost a d ps
+-- document 01's table of costs is that of the programs' sizes at 32
+curve-tied : (c n : ℕ) → curve-size 32 c n .cost ≡ curve-cost c n
+unfolding curve-size end-size plus-size times-size times-cost curve-cost program-cost order-steps meaning cost step-cost plus
+curve-tied zero n = rw (row-32, exact-32) (cost-path (omega arith) (omega arith) (omega arith) (omega arith))
+curve-tied (suc c) n = rw (row-32, one-bit-number 32) (cost-path (omega arith) (omega arith) (omega arith) (omega arith))
 
-  of-kind : (d a c k : ℕ) → program-cost 32 (getD (kinds 32 ps d a c) k []) ≡ kind-cost k c (length ps)
-  unfolding kinds kind-cost kind-costs program-cost order-steps cost step-cost plus
-  of-kind d a c =
-      by-kind (λ k. program-cost 32 (getD (kinds 32 ps d a c) k []) ≡ kind-cost k c (length ps))
-      (cost-0 d a c) (cost-1 d a c) (cost-2 d a c) (cost-3 d a c) (cost-4 d a c) (cost-5 d a) (cost-6 c a d) (cost-7 c a d) (cost-8 c a d) (cost-9 a d)
-      (of-curve d a c) (λ k. refl)
+tied : (c n : ℕ) → map (λ (z : Size). z .cost) (kind-sizes 32 c n) ≡ kind-costs c n
+unfolding kind-sizes kind-costs program-cost order-steps meaning cost step-cost plus
+tied c n = rw (slack-number 32, one-bit-number 32, exact-32, relu-32, curve-tied c n)
 
-  of-order : (o : Order) → program-cost 32 (program 32 ps o) ≡ kind-cost (o .kind) (o .fourth) (length ps)
-  unfolding program
-  of-order o = of-kind (o .target) (o .source) (o .fourth) (o .kind)
+-- at the width w an order's counts are its entry in the table
+abbrev Listed : ℕ → Type 0
+Listed w = (ps : List Row) (o : Order) → program-cost w (program w ps o) ≡ kind-cost (o .kind) (o .fourth) (length ps)
+
+of-order : Listed 32
+unfolding kind-cost program-cost order-steps cost step-cost plus
+of-order ps o =
+    ap (λ (z : Size). z .cost) (order-sized 32 ps o)
+    ∙ sym (List·getD-map (λ (z : Size). z .cost) (kind-sizes 32 (o .fourth) (length ps)) (o .kind) (size-of 32 []))
+    ∙ ap (λ (l : List Cost). getD l (o .kind) (cost-of 0 0 0 0)) (tied (o .fourth) (length ps))
 
 -- ---- a job's counts
 
@@ -65,19 +70,24 @@ unfolding program-cost order-steps cost step-cost plus
 program-then w [] ss = cost-path (omega arith) (omega arith) (omega arith) (omega arith)
 program-then w (g ∷ gs) ss = rw (program-then w gs ss) (cost-path (omega arith) (omega arith) (omega arith) (omega arith))
 
-orders-counts : (ps : List Row) (os : List Order) → cost (job-steps 32 (map (program 32 ps) os)) ≡ table-counts (length ps) os
-unfolding job-steps cost table-counts
-orders-counts ps [] = refl
-orders-counts ps (o ∷ os) =
-    program-then 32 (program 32 ps o) (job-steps 32 (map (program 32 ps) os)) ∙ ap₂ plus (of-order ps o) (orders-counts ps os)
+-- at the width w a job's counts are those of the table
+abbrev pub Tabled : ℕ → Type 0
+Tabled w = (job table : List ℕ) → job-cost w job table ≡ table-counts (length (rows table)) (orders job)
 
-pub job-counts : (job table : List ℕ) → job-cost 32 job table ≡ table-counts (length (rows table)) (orders job)
+orders-counts : (w : ℕ) → Listed w → (ps : List Row) (os : List Order)
+    → cost (job-steps w (map (program w ps) os)) ≡ table-counts (length ps) os
+unfolding job-steps cost table-counts
+orders-counts w listed ps [] = refl
+orders-counts w listed ps (o ∷ os) =
+    program-then w (program w ps o) (job-steps w (map (program w ps) os)) ∙ ap₂ plus (listed ps o) (orders-counts w listed ps os)
+
+pub job-counts : Tabled 32
 unfolding job-cost steps-of job-gates
-job-counts job table = orders-counts (rows table) (orders job)
+job-counts job table = orders-counts 32 of-order (rows table) (orders job)
 
 -- ---- entries of the table
 
-pub one-bit-cost : (mode n : ℕ) → (mode ≡ 0 → ⊥) → cost-of (14 * n + 3) (24 * n + 4) (26 * n + 5) (12 * n + 2) ≡ kind-cost 10 mode n
+pub one-bit-cost : (mode n : ℕ) → (mode ≡ 0 → ⊥) → curve-cost 1 n ≡ kind-cost 10 mode n
 unfolding kind-cost kind-costs curve-cost
 one-bit-cost zero n h = absurd (h refl)
 one-bit-cost (suc m) n h = refl
@@ -107,16 +117,17 @@ rows-for-curve ruled n c =
     (λ h. refl) (λ h. refl) (λ h. refl) (λ h. refl) (λ h. refl) (λ h. refl) (λ h. refl) (λ h. refl) (λ h. refl) (λ h. refl)
     (λ (h : 10 ≡ 10 → ruled ≡ true). rw (h refl)) (λ k h. refl)
 
-pub rows-right : (ruled : Bool) (n : ℕ) (o : Order) → order-fault 32 ruled o ≡ 0 → kind-cost (o .kind) (o .fourth) (cond ruled n 0) ≡ kind-cost (o .kind) (o .fourth) n
-rows-right ruled n o e = rows-for-curve ruled n (o .fourth) (o .kind) (λ ten. curve-ruled 32 ruled o (good 32 ruled o e) ten .1)
+pub rows-right : (w : ℕ) (ruled : Bool) (n : ℕ) (o : Order) → order-fault w ruled o ≡ 0
+    → kind-cost (o .kind) (o .fourth) (cond ruled n 0) ≡ kind-cost (o .kind) (o .fourth) n
+rows-right w ruled n o e = rows-for-curve ruled n (o .fourth) (o .kind) (λ ten. curve-ruled w ruled o (good w ruled o e) ten .1)
 
--- ---- how much one order adds
+-- ---- how much one order adds: a thousand of each, at most
 
 pub record Below (k : Cost) (n : ℕ) : Type 0 where
-  pub deals : k .deals ≤ 240 * n
-  pub words : k .words ≤ 408 * n
-  pub a : k .a ≤ 444 * n
-  pub b : k .b ≤ 204 * n
+  pub deals : k .deals ≤ 1000 * n
+  pub words : k .words ≤ 1000 * n
+  pub a : k .a ≤ 1000 * n
+  pub b : k .b ≤ 1000 * n
 
 few-in-curve : (c n : ℕ) → n ≤ 16 → Below (curve-cost c n) 1
 unfolding curve-cost
@@ -127,7 +138,8 @@ pub few : (k c n : ℕ) → n ≤ 16 → Below (kind-cost k c n) 1
 unfolding kind-cost kind-costs
 few k c n h =
     by-kind (λ k. Below (kind-cost k c n) 1)
-    (omega arith) (omega arith) (omega arith) (omega arith) (omega arith) (omega arith) (omega arith) (omega arith) (omega arith) (omega arith)
+    (omega arith) (omega arith) (omega arith) (omega arith) (omega arith) (omega arith) (omega arith) (omega arith) (omega arith)
+    (omega arith)
     (few-in-curve c n h) (λ k. omega arith) k
 
 -- ---- the rows of a table that keeps its rules

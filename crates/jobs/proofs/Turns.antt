@@ -18,7 +18,7 @@ use Rattle.jobs.specs.Walk.{order-at, counted, Small, kind-cost}
 use Rattle.jobs.specs.CostTable.{table-counts}
 use Rattle.jobs.specs.Answers.{Verdict, refusal, judged, check-job, numbered, counts-before}
 use Rattle.jobs.proofs.Orders.{orders-from, no-more}
-use Rattle.jobs.proofs.Sums.{job-counts, rows-right, Below, few, rows-few}
+use Rattle.jobs.proofs.Sums.{Tabled, rows-right, Below, few, rows-few}
 use Rattle.jobs.proofs.Conditions.{sized}
 
 -- ---- from a fault to the answer
@@ -28,14 +28,20 @@ module _ (w : ℕ) (job table : List ℕ) (place : ℕ) where
   unfolding check-job
   answered p e = ap (λ (q : Fault). judged (q .0) q (job-cost w job table)) e
 
-  marked : (p : Fault) → job-fault w job table ≡ p → counts-before w job table place ≡ judged (p .0) p (job-cost w (take (place * 4) job) table) .counts
+  marked : (p : Fault) → job-fault w job table ≡ p
+      → counts-before w job table place ≡ judged (p .0) p (job-cost w (take (place * 4) job) table) .counts
   unfolding counts-before
   marked p e = ap (λ (q : Fault). judged (q .0) q (job-cost w (take (place * 4) job) table) .counts) e
 
-  pub refused : (n i : ℕ) → job-fault w job table ≡ (n, i) → (n ≡ 0 → ⊥) → (numbered n i ≡ check-job w job table) × (cost-of 0 0 0 0 ≡ counts-before w job table place)
+  pub refused : (n i : ℕ) → job-fault w job table ≡ (n, i) → (n ≡ 0 → ⊥)
+      → (numbered n i ≡ check-job w job table) × (cost-of 0 0 0 0 ≡ counts-before w job table place)
   unfolding judged
   refused zero i e ne = absurd (ne refl)
-  refused (suc n) i e ne = (ap (λ (b : Bool). record { accepted = b; number = suc n; index = i; counts = cost-of 0 0 0 0 }) (ne-eqb (suc n) 0 ne) ∙ sym (answered (suc n, i) e), sym (marked (suc n, i) e))
+  refused (suc n) i e ne = (
+    ap (λ (b : Bool). record { accepted = b; number = suc n; index = i; counts = cost-of 0 0 0 0 }) (ne-eqb (suc n) 0 ne)
+        ∙ sym (answered (suc n, i) e),
+    sym (marked (suc n, i) e),
+  )
 
   pub accepted : (k b : Cost) → job-fault w job table ≡ (0, 0) → job-cost w job table ≡ k → b ≡ job-cost w (take (place * 4) job) table
       → (record { accepted = true; number = 0; index = 0; counts = k } ≡ check-job w job table) × (b ≡ counts-before w job table place)
@@ -43,12 +49,14 @@ module _ (w : ℕ) (job table : List ℕ) (place : ℕ) where
   accepted k b e c m = (sym (answered (0, 0) e ∙ ap (judged 0 (0, 0)) c), m ∙ sym (marked (0, 0) e))
 
 -- a verdict in numbers, as the variants say it
-module _ (n i : ℕ) (k : Cost) (w : ℕ) (job table : List ℕ) (e : record { accepted = eqb n 0; number = n; index = i; counts = k } ≡ check-job w job table) where
+module _ (n i : ℕ) (k : Cost) (w : ℕ) (job table : List ℕ)
+    (e : record { accepted = eqb n 0; number = n; index = i; counts = k } ≡ check-job w job table) where
   pub as-refusal : (n ≡ 0 → ⊥) → refusal (n, i) ≡ check-job w job table
   unfolding check-job judged
   as-refusal ne = go (job-fault w job table .0) (job-fault w job table) (job-cost w job table) e
     where
-      go : (m : ℕ) (f : Fault) (c : Cost) → record { accepted = eqb n 0; number = n; index = i; counts = k } ≡ judged m f c → refusal (n, i) ≡ judged m f c
+      go : (m : ℕ) (f : Fault) (c : Cost) → record { accepted = eqb n 0; number = n; index = i; counts = k } ≡ judged m f c
+          → refusal (n, i) ≡ judged m f c
       go zero f c p = absurd (ne (ap (λ (v : Verdict). v .number) p))
       go (suc m) f c p = ap refusal (λ j. (p j .number, p j .index))
 
@@ -56,11 +64,13 @@ module _ (n i : ℕ) (k : Cost) (w : ℕ) (job table : List ℕ) (e : record { a
   unfolding check-job judged
   as-counts z = go (job-fault w job table .0) (job-fault w job table) (job-cost w job table) e
     where
-      go : (m : ℕ) (f : Fault) (c : Cost) → record { accepted = eqb n 0; number = n; index = i; counts = k } ≡ judged m f c → record { accepted = true; number = 0; index = 0; counts = k } ≡ judged m f c
+      go : (m : ℕ) (f : Fault) (c : Cost) → record { accepted = eqb n 0; number = n; index = i; counts = k } ≡ judged m f c
+          → record { accepted = true; number = 0; index = 0; counts = k } ≡ judged m f c
       go zero f c p = ap (λ (x : Cost). record { accepted = true; number = 0; index = 0; counts = x }) (ap (λ (v : Verdict). v .counts) p)
       go (suc m) f c p = let a : eqb n 0 ≡ false = ap (λ (v : Verdict). v .accepted) p in absurd (eqb-false n 0 a z)
 
-sized-fault : (w : ℕ) (job table : List ℕ) → ill-sized job ≡ false → job-fault w job table ≡ orders-fault w (keeps-rules table) (orders job) 0
+sized-fault : (w : ℕ) (job table : List ℕ) → ill-sized job ≡ false
+    → job-fault w job table ≡ orders-fault w (keeps-rules table) (orders job) 0
 unfolding job-fault
 sized-fault w job table e = rw e
 
@@ -91,7 +101,8 @@ pub record Given (job table : List ℕ) (ruled : Bool) (n : ℕ) : Type 0 where
   pub row-count : n ≡ cond ruled (length (rows table)) 0
   pub at-most : n ≤ 16
 
-pub given : (job table : List ℕ) {ruled : Bool} {n : ℕ} → ill-sized job ≡ false → ruled ≡ keeps-rules table → n ≡ cond ruled (length (rows table)) 0 → Given job table ruled n
+pub given : (job table : List ℕ) {ruled : Bool} {n : ℕ} → ill-sized job ≡ false → ruled ≡ keeps-rules table
+    → n ≡ cond ruled (length (rows table)) 0 → Given job table ruled n
 given job table {ruled} e r en = record {
   size = e;
   most = sized job e .0;
@@ -101,42 +112,47 @@ given job table {ruled} e r en = record {
   at-most = rw en (rows-few table ruled r);
 }
 
--- at the head, with i orders behind it: the faults still to be found are the job's, and the counts so far, with those of the orders to come, are the job's
-pub record Going (job table : List ℕ) (i : ℕ) (sum : Counts) : Type 0 where
-  pub faults : orders-fault 32 (keeps-rules table) (orders (drop (i * 4) job)) i ≡ orders-fault 32 (keeps-rules table) (orders job) 0
-  pub costs : plus (counted sum) (table-counts (length (rows table)) (orders (drop (i * 4) job))) ≡ job-cost 32 job table
+-- at the head, with i orders behind it: the faults still to be found are the job's, and the counts so far, with those of the orders to
+-- come, are the job's
+pub record Going (w : ℕ) (job table : List ℕ) (i : ℕ) (sum : Counts) : Type 0 where
+  pub faults : orders-fault w (keeps-rules table) (orders (drop (i * 4) job)) i ≡ orders-fault w (keeps-rules table) (orders job) 0
+  pub costs : plus (counted sum) (table-counts (length (rows table)) (orders (drop (i * 4) job))) ≡ job-cost w job table
   pub below : Below (counted sum) i
 
-module _ (job table : List ℕ) where
-  pub starts : (sum : Counts) → counted sum ≡ cost-of 0 0 0 0 → Going job table 0 sum
+module _ (w : ℕ) (job table : List ℕ) where
+  pub starts : Tabled w → (sum : Counts) → counted sum ≡ cost-of 0 0 0 0 → Going w job table 0 sum
   unfolding plus
-  starts sum e = record {
+  starts tabled sum e = record {
     faults = refl;
-    costs = rw (e, job-counts job table) (cost-path (omega arith) (omega arith) (omega arith) (omega arith));
+    costs = rw (e, tabled job table) (cost-path (omega arith) (omega arith) (omega arith) (omega arith));
     below = rw e (omega arith);
   }
 
-  module _ {i : ℕ} {sum : Counts} (g : Going job table i sum) {ruled : Bool} {n : ℕ} (t : Given job table ruled n) where
-    pub done : length job / 4 ≤ i → (job-fault 32 job table ≡ (0, 0)) × (job-cost 32 job table ≡ counted sum)
+  module _ {i : ℕ} {sum : Counts} (g : Going w job table i sum) {ruled : Bool} {n : ℕ} (t : Given job table ruled n) where
+    pub done : length job / 4 ≤ i → (job-fault w job table ≡ (0, 0)) × (job-cost w job table ≡ counted sum)
     unfolding orders-fault plus table-counts
     done h =
         let left = no-more job i h in
-        let fine : orders-fault 32 (keeps-rules table) (orders job) 0 ≡ (0, 0) = sym (g .faults) ∙ rw left in
-        (sized-fault 32 job table (t .size) ∙ fine, sym (g .costs) ∙ rw left (cost-path (omega arith) (omega arith) (omega arith) (omega arith)))
+        let fine : orders-fault w (keeps-rules table) (orders job) 0 ≡ (0, 0) = sym (g .faults) ∙ rw left in (
+          sized-fault w job table (t .size) ∙ fine,
+          sym (g .costs)
+              ∙ rw left (cost-path (omega arith) (omega arith) (omega arith) (omega arith)),
+        )
 
-    module _ (h : i * 4 + 4 ≤ length job) {o : Order} (eo : o ≡ order-at job i) {f : ℕ} (ef : f ≡ order-fault 32 ruled o) where
-      fault-here : orders-fault 32 (keeps-rules table) (orders (drop (i * 4) job)) i ≡ fault-at f i (orders-fault 32 (keeps-rules table) (orders (drop ((i + 1) * 4) job)) (suc i))
+    module _ (h : i * 4 + 4 ≤ length job) {o : Order} (eo : o ≡ order-at job i) {f : ℕ} (ef : f ≡ order-fault w ruled o) where
+      fault-here : orders-fault w (keeps-rules table) (orders (drop (i * 4) job)) i
+          ≡ fault-at f i (orders-fault w (keeps-rules table) (orders (drop ((i + 1) * 4) job)) (suc i))
       unfolding orders-fault
       fault-here = rw (orders-from job i h, ef, eo, t .rule)
 
-      pub faulty : (f ≡ 0 → ⊥) → job-fault 32 job table ≡ (f, i)
-      faulty ne = sized-fault 32 job table (t .size) ∙ sym (g .faults) ∙ fault-here ∙ stop f i _ ne
+      pub faulty : (f ≡ 0 → ⊥) → job-fault w job table ≡ (f, i)
+      faulty ne = sized-fault w job table (t .size) ∙ sym (g .faults) ∙ fault-here ∙ stop f i _ ne
 
       module _ (e : f ≡ 0) {k : Counts} (ek : counted k ≡ kind-cost (o .kind) (o .fourth) n) where
         cost-here : counted k ≡ kind-cost (o .kind) (o .fourth) (length (rows table))
         cost-here =
             ek ∙ ap (kind-cost (o .kind) (o .fourth)) (t .row-count)
-            ∙ rows-right ruled (length (rows table)) o (sym ef ∙ e)
+            ∙ rows-right w ruled (length (rows table)) o (sym ef ∙ e)
 
         one : Below (counted k) 1
         one = rw ek (few (o .kind) (o .fourth) n (t .at-most))
@@ -147,17 +163,19 @@ module _ (job table : List ℕ) where
         abbrev rest : Cost
         rest = table-counts (length (rows table)) (orders (drop ((i + 1) * 4) job))
 
-        total : plus (counted sum) (plus (counted k) rest) ≡ job-cost 32 job table
+        total : plus (counted sum) (plus (counted k) rest) ≡ job-cost w job table
         unfolding table-counts
         total =
             let e : o ∷ orders (drop ((i + 1) * 4) job) ≡ orders (drop (i * 4) job) = rw eo (sym (orders-from job i h)) in
             ap (plus (counted sum)) (ap (λ (x : Cost). plus x rest) cost-here ∙ ap (table-counts (length (rows table))) e)
             ∙ g .costs
 
-        pub turn : {s : Counts} → counted s ≡ plus (counted sum) (counted k) → Going job table (i + 1) s
+        pub turn : {s : Counts} → counted s ≡ plus (counted sum) (counted k) → Going w job table (i + 1) s
         unfolding plus
         turn es = record {
-          faults = ap (orders-fault 32 (keeps-rules table) (orders (drop ((i + 1) * 4) job))) (add-one i) ∙ sym (fault-here ∙ skip f i _ e) ∙ g .faults;
+          faults =
+              ap (orders-fault w (keeps-rules table) (orders (drop ((i + 1) * 4) job))) (add-one i) ∙ sym (fault-here ∙ skip f i _ e)
+              ∙ g .faults;
           costs = rw es (cost-path (omega arith) (omega arith) (omega arith) (omega arith)) ∙ total;
           below = let b = g .below in let d = one in rw es (omega arith);
         }

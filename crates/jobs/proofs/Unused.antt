@@ -22,7 +22,8 @@ unfolding judged
 refusal-tells zero n i f k q e = (ap (λ (v : Verdict). v .number) e, λ z. sym (ap (λ (v : Verdict). v .counts) e))
 refusal-tells (suc p) n i f k q e = (ap (λ (v : Verdict). v .number) e ∙ q, λ z. absurd (omega arith))
 
-counts-tell : (p : ℕ) (f : Fault) (k c : Cost) → f .0 ≡ p → record { accepted = true; number = 0; index = 0; counts = c } ≡ judged p f k → (p ≡ 0) × (k ≡ c)
+counts-tell : (p : ℕ) (f : Fault) (k c : Cost) → f .0 ≡ p → record { accepted = true; number = 0; index = 0; counts = c } ≡ judged p f k
+    → (p ≡ 0) × (k ≡ c)
 unfolding judged
 counts-tell zero f k c q e = (refl, sym (ap (λ (v : Verdict). v .counts) e))
 counts-tell (suc p) f k c q e = let z : 0 ≡ f .0 = ap (λ (v : Verdict). v .number) e in absurd (omega arith)
@@ -56,30 +57,36 @@ module _ (w : ℕ) (job table : List ℕ) (x : Which) (l : List ℕ) where
       go (job-fault w job table .0) (t .0) (t .1)
     where
       go : (p : ℕ) → n ≡ p → (p ≡ 0 → job-cost w job table ≡ cost-of 0 0 0 0)
-          → (l ≡ leftover-part (or-short p (short x (job-cost w job table) l)) w job table x l) × (n ≡ or-short p (short x (job-cost w job table) l))
+          → (l ≡ leftover-part (or-short p (short x (job-cost w job table) l)) w job table x l)
+          × (n ≡ or-short p (short x (job-cost w job table) l))
       go zero q h =
           let none : need x (job-cost w job table) ≡ 0 = ap (need x) (h refl) ∙ needs-none x in
-          let enough : short x (job-cost w job table) l ≡ false = short-by-need x (job-cost w job table) l ∙ rw none (le-ltb (length l) 0 (omega arith)) in
+          let enough : short x (job-cost w job table) l ≡ false =
+          short-by-need x (job-cost w job table) l ∙ rw none (le-ltb (length l) 0 (omega arith)) in
           (rw (enough, none), rw enough q)
       go (suc p) q h = (refl, q)
 
-  module _ (n m a b r : ℕ) (e : record { accepted = true; number = 0; index = 0; counts = cost-of n m a b } ≡ check-job w job table) (er : r ≡ need x (cost-of 0 0 a b)) where
+  module _ (n m a b r : ℕ) (e : record { accepted = true; number = 0; index = 0; counts = cost-of n m a b } ≡ check-job w job table)
+      (er : r ≡ need x (cost-of 0 0 a b)) where
     told : (job-fault w job table .0 ≡ 0) × (need x (job-cost w job table) ≡ r)
     unfolding check-job
     told =
         let t = counts-tell (job-fault w job table .0) (job-fault w job table) (job-cost w job table) (cost-of n m a b) refl e in
         (t .0, ap (need x) (t .1) ∙ sym (need-of x n m a b) ∙ sym er)
 
-    pub too-short : length l < r → (l ≡ leftover-part (leftover-number w job table x l) w job table x l) × (6 ≡ leftover-number w job table x l)
+    pub too-short : length l < r
+        → (l ≡ leftover-part (leftover-number w job table x l) w job table x l) × (6 ≡ leftover-number w job table x l)
     unfolding leftover-number or-short leftover-part
     too-short h =
         let s : short x (job-cost w job table) l ≡ true = short-by-need x (job-cost w job table) l ∙ rw (told .1) (lt-ltb (length l) r h) in
         (rw (told .0, s), rw (told .0, s))
 
     pub long-enough : r ≤ length l
-        → (take (length l - r) (drop r l) ≡ leftover-part (leftover-number w job table x l) w job table x l) × (0 ≡ leftover-number w job table x l)
+        → (take (length l - r) (drop r l) ≡ leftover-part (leftover-number w job table x l) w job table x l)
+        × (0 ≡ leftover-number w job table x l)
     unfolding leftover-number or-short leftover-part
     long-enough h =
-        let s : short x (job-cost w job table) l ≡ false = short-by-need x (job-cost w job table) l ∙ rw (told .1) (le-ltb (length l) r h) in
+        let s : short x (job-cost w job table) l ≡ false =
+        short-by-need x (job-cost w job table) l ∙ rw (told .1) (le-ltb (length l) r h) in
         let whole : length (drop r l) ≤ length l - r = omega (arith, length-drop r l) in
         (rw (told .0, s, told .1) (take-all (length l - r) (drop r l) whole), rw (told .0, s))

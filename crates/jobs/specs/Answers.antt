@@ -46,7 +46,8 @@ numbered n i = record { accepted = eqb n 0; number = n; index = i; counts = cost
 
 -- the counts of the orders before a place of the job, 0 where the job is refused
 unfoldable pub counts-before : (w : ℕ) (job table : List ℕ) (place : ℕ) → Cost
-counts-before w job table place = judged (job-fault w job table .0) (job-fault w job table) (job-cost w (take (place * 4) job) table) .counts
+counts-before w job table place =
+    judged (job-fault w job table .0) (job-fault w job table) (job-cost w (take (place * 4) job) table) .counts
 
 -- ---- unused masks: "2 to 6 for the one list"; "the whole list if refused"
 

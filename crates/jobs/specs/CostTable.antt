@@ -19,8 +19,10 @@ pub record CostTable : Type 0 where
   pub job-counts : (job table : List ℕ) → job-cost 32 job table ≡ table-counts (length (rows table)) (orders job)
   -- "Kinds 0 to 3 use none", and the lines of kinds 4 to 9: deals, words spoken, A, B; whatever the fourth word and
   -- rows
-  pub lines : (c n : ℕ) → map (λ (k : ℕ). kind-cost k c n) (0 ∷ 1 ∷ 2 ∷ 3 ∷ 4 ∷ 5 ∷ 6 ∷ 7 ∷ 8 ∷ 9 ∷ [])
-      ≡ cost-of 0 0 0 0 ∷ cost-of 0 0 0 0 ∷ cost-of 0 0 0 0 ∷ cost-of 0 0 0 0 ∷ cost-of 1 2 2 1 ∷ cost-of 0 2 1 1
+  pub lines : (c n : ℕ) → map (λ (k : ℕ). kind-cost k c n)
+      (0 ∷ 1 ∷ 2 ∷ 3 ∷ 4 ∷ 5 ∷ 6 ∷ 7 ∷ 8 ∷ 9 ∷ [])
+      ≡ cost-of 0 0 0 0 ∷ cost-of 0 0 0 0 ∷ cost-of 0 0 0 0 ∷ cost-of 0 0 0 0 ∷ cost-of 1 2 2 1
+      ∷ cost-of 0 2 1 1
       ∷ cost-of 1 0 1 0 ∷ cost-of 3 2 4 1 ∷ cost-of 16 24 28 12 ∷ cost-of 14 24 26 12 ∷ []
   -- "Kind 10 is shown for 8 table rows", exact and one-bit
   pub eight-exact : kind-cost 10 0 8 ≡ cost-of 128 216 236 108

@@ -48,8 +48,8 @@ order os i = getD os i (record { kind = 0; target = 0; source = 0; fourth = 0 })
 abbrev pub Faultless : (w : ℕ) (table : List ℕ) → List Order → Type 0
 Faultless w table os = (i n : ℕ) → i < length os → Meets w table (order os i) n → ⊥
 
--- "the first faulty order counts, in this order within it": order i meets n and nothing lower, and the orders before it
--- meet nothing
+-- "the first faulty order counts, in this order within it": order i meets n and nothing lower, and the orders
+-- before it meet nothing
 pub record First (w : ℕ) (table : List ℕ) (os : List Order) (n i : ℕ) : Type 0 where
   pub exists : i < length os
   pub here : Meets w table (order os i) n

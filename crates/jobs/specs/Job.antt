@@ -42,14 +42,16 @@ unknown-register o = ltb 15 (o .target) || ltb 15 (o .source) || (two-sources (o
 abbrev pub no-shift : (c n : ℕ) → Bool
 no-shift c n = eqb c 0 || ltb n c
 
--- Whether the fourth word c is ill, kind by kind: a register, judged above (0, 1, 4); "any constant for 2, 3"; "0 for 5, 9"; "k 1 to 31" (6), "k 1 to 30" (7),
--- "k 1 to 31" (8); the mode for 10, where the table must keep its rules
+-- Whether the fourth word c is ill, kind by kind: a register, judged above (0, 1, 4); "any constant for 2, 3"; "0 for
+-- 5, 9"; "k 1 to 31" (6), "k 1 to 30" (7), "k 1 to 31" (8); the mode for 10, where the table must keep its rules
 unfoldable pub ill-fourths : (w : ℕ) (ruled : Bool) (c : ℕ) → List Bool
 ill-fourths w ruled c =
-    false ∷ false ∷ false ∷ false ∷ false ∷ not (eqb c 0) ∷ no-shift c (w - 1) ∷ no-shift c (w - 2) ∷ no-shift c (w - 1) ∷ not (eqb c 0)
+    false ∷ false ∷ false ∷ false ∷ false ∷ not (eqb c 0) ∷ no-shift c (w - 1) ∷ no-shift c (w - 2)
+    ∷ no-shift c (w - 1) ∷ not (eqb c 0)
     ∷ (ltb 1 c || not ruled) ∷ []
 
--- "5. A shift or mode lies outside its range, a fourth word due to be 0 is not, or the order is a curve and the table breaks its rules."
+-- "5. A shift or mode lies outside its range, a fourth word due to be 0 is not, or the order is a curve and the table
+-- breaks its rules."
 unfoldable pub ill-fourth : (w : ℕ) (ruled : Bool) → Order → Bool
 ill-fourth w ruled o = getD (ill-fourths w ruled (o .fourth)) (o .kind) false
 
@@ -89,7 +91,8 @@ steps-of w job table = job-steps w (job-gates w job table)
 unfoldable pub job-cost : (w : ℕ) (job table : List ℕ) → Cost
 job-cost w job table = cost (steps-of w job table)
 
--- ---- conditions 6 and 7, on the lists' lengths: "A list that this host uses (host 0: A and B; host 1: A; host 2: B) is shorter than the job needs."
+-- ---- conditions 6 and 7, on the lists' lengths: "A list that this host uses (host 0: A and B; host 1: A; host 2: B)
+-- is shorter than the job needs."
 
 unfoldable pub short-a : Cost → (A : List ℕ) → Bool
 short-a k A = ltb (length A) (k .a)

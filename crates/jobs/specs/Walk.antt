@@ -1,4 +1,5 @@
--- What a walk over a job's orders goes by: the order at an index, and its entry in document 01's table of costs. Assumes nothing.
+-- What a walk over a job's orders goes by: the order at an index, and its entry in document 01's table of costs.
+-- Assumes nothing.
 use mathlib.Core.List.{List, [], _∷_}
 use Prim.Native.Nat.{ℕ, zero, suc, _+_, _*_, _≤_}
 use lib.ListN.{getD}
@@ -9,7 +10,8 @@ use Rattle.jobs.specs.declared.Counts.{Counts}
 
 -- the order at index i of a job's words; past the end stand zeros
 abbrev pub order-at : List ℕ → ℕ → Order
-order-at ws i = record { kind = at ws (i * 4); target = at ws (i * 4 + 1); source = at ws (i * 4 + 2); fourth = at ws (i * 4 + 3) }
+order-at ws i =
+    record { kind = at ws (i * 4); target = at ws (i * 4 + 1); source = at ws (i * 4 + 2); fourth = at ws (i * 4 + 3) }
 
 -- ---- counts
 
@@ -28,7 +30,8 @@ curve-cost (suc m) n = cost-of (14 * n + 3) (24 * n + 4) (26 * n + 5) (12 * n + 
 -- "deals, words spoken, A, B", kind by kind: "Kinds 0 to 3 use none"
 unfoldable pub kind-costs : (mode n : ℕ) → List Cost
 kind-costs mode n =
-    cost-of 0 0 0 0 ∷ cost-of 0 0 0 0 ∷ cost-of 0 0 0 0 ∷ cost-of 0 0 0 0 ∷ cost-of 1 2 2 1 ∷ cost-of 0 2 1 1 ∷ cost-of 1 0 1 0 ∷ cost-of 3 2 4 1
+    cost-of 0 0 0 0 ∷ cost-of 0 0 0 0 ∷ cost-of 0 0 0 0 ∷ cost-of 0 0 0 0 ∷ cost-of 1 2 2 1 ∷ cost-of 0 2 1 1
+    ∷ cost-of 1 0 1 0 ∷ cost-of 3 2 4 1
     ∷ cost-of 16 24 28 12 ∷ cost-of 14 24 26 12 ∷ curve-cost mode n ∷ []
 
 unfoldable pub kind-cost : (kind mode n : ℕ) → Cost

@@ -49,25 +49,27 @@ constants-past n t a c h = sym (List·getD-eq-default (Scale t a c ∷ Plus t a 
 pub parts-past : (n t a : ℕ) (f : Part) → None 4 n → DealBits t a ≡ with-part n t a f
 unfolding with-part
 parts-past n t a f h =
-    sym (List·getD-eq-default (Public t a f ∷ Deal t a (OfSum f) ∷ Deal t a (OfNegated f) ∷ Deal t a OfBits ∷ []) (DealBits t a) (none-below 4 n h))
+    sym (List·getD-eq-default (Public t a f ∷ Deal t a (OfSum f) ∷ Deal t a (OfNegated f) ∷ Deal t a OfBits ∷ []) (DealBits t a)
+    (none-below 4 n h))
 
 -- ---- powers
 
--- a shift of 1
-pub shifted : (n : ℕ) → n < 32 → 1 * 2 ^ n % 2 ^ 32 ≡ 2 ^ n
-shifted n h = rw (one-mul (2 ^ n)) (mod-eq-of-lt (pow-lt h))
+module _ (w : ℕ) where
+  -- a shift of 1
+  pub shifted : (n : ℕ) → n < w → 1 * 2 ^ n % 2 ^ w ≡ 2 ^ n
+  shifted n h = rw (one-mul (2 ^ n)) (mod-eq-of-lt (pow-lt h))
 
--- 2^(32 - k) of a shift above 0, as a word
-pub full : (k : ℕ) → (k ≡ 0 → ⊥) → 2 ^ (31 - (k - 1)) ≡ 2 ^ (32 - k) % 2 ^ 32
-full k h =
-    let e : 31 - (k - 1) ≡ 32 - k = omega arith in
-    let l : 32 - k < 32 = omega arith in
-    rw e (sym (mod-eq-of-lt (pow-lt l)))
+  -- 2^(w - k) of a shift above 0, as a word
+  pub full : (k : ℕ) → 0 < w → (k ≡ 0 → ⊥) → 2 ^ (w - 1 - (k - 1)) ≡ 2 ^ (w - k) % 2 ^ w
+  full k o h =
+      let e : w - 1 - (k - 1) ≡ w - k = omega arith in
+      let l : w - k < w = omega arith in
+      rw e (sym (mod-eq-of-lt (pow-lt l)))
 
--- what n added to wraps to 0
-pub negated : (n m : ℕ) → m < 2 ^ 32 → n < 2 ^ 32 → (m + n) % 2 ^ 32 ≡ 0 → m ≡ neg 32 n
-unfolding add sub neg
-negated n m hm hn e = sub-of 32 m n hm hn e ∙ ap (λ (x : ℕ). x % 2 ^ 32) (zero-add (2 ^ 32 - n))
+  -- what n added to wraps to 0
+  pub negated : (n m : ℕ) → m < 2 ^ w → n < 2 ^ w → (m + n) % 2 ^ w ≡ 0 → m ≡ neg w n
+  unfolding add sub neg
+  negated n m hm hn e = sub-of w m n hm hn e ∙ ap (λ (x : ℕ). x % 2 ^ w) (zero-add (2 ^ w - n))
 
 -- ---- the gate at an index
 
@@ -87,7 +89,8 @@ fetched-at (g ∷ gs) (suc i) o h = fetched-at gs i o (omega arith)
 module _ (k x d : ℕ) (ps : List ℕ) (i : ℕ) where
   pub packed-at : i < length ps → At (unpacked k x d (getD ps i 0)) ≡ fetched (map (unpacked k x d) ps) i
   packed-at h =
-      ap At (sym (List·getD-map (unpacked k x d) ps i 0)) ∙ fetched-at (map (unpacked k x d) ps) i (unpacked k x d 0) (rw (length-map ps (unpacked k x d)) h)
+      ap At (sym (List·getD-map (unpacked k x d) ps i 0))
+      ∙ fetched-at (map (unpacked k x d) ps) i (unpacked k x d 0) (rw (length-map ps (unpacked k x d)) h)
 
   pub packed-past : length ps ≤ i → Past ≡ fetched (map (unpacked k x d) ps) i
   packed-past h = fetched-past (map (unpacked k x d) ps) i (rw (length-map ps (unpacked k x d)) h)

@@ -1,4 +1,4 @@
-// Kind 10: the first gate of a curve, 42 gates for each row of its table, and the truncation of the sum.
+// Kind 10: the first gate of a curve, the gates of each row of its table, and the truncation of the sum.
 ghost use mathlib.Core.Path.{_≡_};
 ghost use mathlib.Core.List.{_∷_};
 ghost use Prim.Native.Nat.{_*_, _%_, _^_, _<_};
@@ -15,6 +15,7 @@ use crate::templates::minus;
 use crate::templates::one_bit_gate;
 use crate::templates::relu_gate;
 use gates::Gate;
+use programs::ROW_GATES;
 
 // 4096 times the first row's value, with which the sum starts.
 fn first_term(table: &[u32]) -> u32
@@ -53,7 +54,7 @@ fn slope_before(table: &[u32], row: usize) -> i64
 
 // The difference is taken of words, which asks for no bound on the slopes of a table that breaks the rules.
 fn slope_change(table: &[u32], row: usize) -> u32
-    ensures { λ n. ⌜ n ≡ change (rows (now (table .entry))) row ⌝ }
+    ensures { λ n. ⌜ n ≡ change 32 (rows (now (table .entry))) row ⌝ }
 {
     let after = words::word_of(slope_after(table, row));
     let before = words::word_of(slope_before(table, row));
@@ -63,7 +64,8 @@ fn slope_change(table: &[u32], row: usize) -> u32
 // The slope is looked up only where a gate multiplies by its change.
 fn row_gate(x: u32, table: &[u32], row: usize, i: usize) -> Fetched
     requires { ⌜ row < length (rows (now table)) ⌝ }
-    ensures { λ f. ⌜ f ≡ fetched (row-program 32 x (row-at (rows (now (table .entry))) row .r) (change (rows (now (table .entry))) row)) i ⌝ }
+    ensures { λ f. ⌜ f ≡ fetched (row-program 32 x (row-at (rows (now (table .entry))) row .r)
+        (change 32 (rows (now (table .entry))) row)) i ⌝ }
 {
     match i {
         0 => Fetched::At {
@@ -105,11 +107,11 @@ pub(crate) fn curve_gate(mode: u32, x: u32, d: u32, table: &[u32], i: usize) -> 
         };
     }
     let count = table.len() / 2;
-    let row = (i - 1) / 42;
+    let row = (i - 1) / ROW_GATES;
     if row < count {
-        return row_gate(x, table, row, (i - 1) % 42);
+        return row_gate(x, table, row, (i - 1) % ROW_GATES);
     }
-    let rest = i - 1 - 42 * count;
+    let rest = i - 1 - ROW_GATES * count;
     if mode == 0 {
         exact_gate(12, 22, d, rest)
     } else if rest == 0 {

@@ -37,7 +37,8 @@ fn one_gate(o: Order, i: usize) -> Fetched
     Fetched::At { gate }
 }
 
-// Nothing is asked of the order or of the table: a kind above 10 has no gates, and a shift out of range has its gates too.
+// Nothing is asked of the order or of the table: a kind above 10 has no gates, and a shift out of range has its gates
+// too.
 pub fn fetch(o: Order, table: &[u32], i: usize) -> Fetched
     ensures { λ f. ⌜ f ≡ fetched (program 32 (rows (now (table .entry))) o) i ⌝ }
 {

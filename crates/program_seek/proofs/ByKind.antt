@@ -18,8 +18,8 @@ use Rattle.program_seek.specs.Seek.{sought-at, sought}
 abbrev pub Quiet : ℕ → Type 0
 Quiet k = ((((((Unit {0} × (k ≡ 4 → ⊥)) × (k ≡ 5 → ⊥)) × (k ≡ 7 → ⊥)) × (k ≡ 8 → ⊥)) × (k ≡ 9 → ⊥)) × (k ≡ 10 → ⊥))
 
-module _ (ps : List Row) (d a c n : ℕ) where
-  quiet : (k : ℕ) → Quiet k → Nowhere ≡ sought 32 (getD (kinds 32 ps d a c) k []) n 0 0 0
+module _ (w : ℕ) (ps : List Row) (d a c n : ℕ) where
+  quiet : (k : ℕ) → Quiet k → Nowhere ≡ sought w (getD (kinds w ps d a c) k []) n 0 0 0
   unfolding kinds slack-program sought sought-at meaning shape
   quiet zero h = refl
   quiet (suc zero) h = refl
@@ -34,20 +34,20 @@ module _ (ps : List Row) (d a c n : ℕ) where
   quiet (suc (suc (suc (suc (suc (suc (suc (suc (suc (suc zero)))))))))) h = absurd (h .1 refl)
   quiet (suc (suc (suc (suc (suc (suc (suc (suc (suc (suc (suc k))))))))))) h = refl
 
-pub no-exchange : (ps : List Row) (o : Order) (n : ℕ) → Quiet (o .kind) → Nowhere ≡ sought 32 (program 32 ps o) n 0 0 0
+pub no-exchange : (w : ℕ) (ps : List Row) (o : Order) (n : ℕ) → Quiet (o .kind) → Nowhere ≡ sought w (program w ps o) n 0 0 0
 unfolding program
-no-exchange ps o n h = quiet ps (o .target) (o .source) (o .fourth) n (o .kind) h
+no-exchange w ps o n h = quiet w ps (o .target) (o .source) (o .fourth) n (o .kind) h
 
 -- ---- a program of one exchange
 
-abbrev Once : Sought → ℕ → Type 0
-Once s n = ((d x y : ℕ) → s ≡ sought 32 (Mul d x y ∷ []) n 0 0 0) × ((d x : ℕ) → s ≡ sought 32 (Refresh d x ∷ []) n 0 0 0)
+abbrev Once : ℕ → Sought → ℕ → Type 0
+Once w s n = ((d x y : ℕ) → s ≡ sought w (Mul d x y ∷ []) n 0 0 0) × ((d x : ℕ) → s ≡ sought w (Refresh d x ∷ []) n 0 0 0)
 
-pub once : (n : ℕ) → n ≡ 0 → Once (Found 0 0 0) n
+pub once : (w n : ℕ) → n ≡ 0 → Once w (Found 0 0 0) n
 unfolding sought sought-at meaning shape
-once n z = (λ d x y. rw z, λ d x. rw z)
+once w n z = (λ d x y. rw z, λ d x. rw z)
 
-pub not-once : (n : ℕ) → (n ≡ 0 → ⊥) → Once Nowhere n
+pub not-once : (w n : ℕ) → (n ≡ 0 → ⊥) → Once w Nowhere n
 unfolding sought sought-at meaning shape
-not-once zero f = absurd (f refl)
-not-once (suc n) f = (λ d x y. refl, λ d x. refl)
+not-once w zero f = absurd (f refl)
+not-once w (suc n) f = (λ d x y. refl, λ d x. refl)

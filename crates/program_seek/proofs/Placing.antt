@@ -29,21 +29,21 @@ next : (n b : ℕ) → from n b ≡ from (suc n) (1 + b)
 next n b = let e : 1 + b ≡ suc b = omega arith in rw (e, leb·suc-suc (suc n) b)
 
 -- past a step, whatever comes of the gates behind it
-module _ (go : ℕ → ℕ → ℕ → ℕ → Sought) (b : ℕ) (h : (m i a k : ℕ) → placing (go m i a k) .number ≡ from m b) where
-  step-number : (y : Step) (n i a k : ℕ) → placing (sought-at (shape y) n i a k go) .number ≡ from n (step-cost y .b + b)
+module _ (go : ℕ → ℕ → ℕ → ℕ → Sought) (b : ℕ) (h : (m i a deals : ℕ) → placing (go m i a deals) .number ≡ from m b) where
+  step-number : (y : Step) (n i a deals : ℕ) → placing (sought-at (shape y) n i a deals go) .number ≡ from n (step-cost y .b + b)
   unfolding shape sought-at step-cost
-  step-number (local d m l) n i a k = h n (suc i) a k ∙ same n b
-  step-number (deal d f) n i a k = h n (suc i) (suc a) (suc k) ∙ same n b
-  step-number (exchange d (product O x y)) zero i a k = first b
-  step-number (exchange d (product O x y)) (suc n) i a k = h n (suc i) (2 + a) (suc k) ∙ next n b
-  step-number (exchange d (refresh O x)) zero i a k = first b
-  step-number (exchange d (refresh O x)) (suc n) i a k = h n (suc i) (suc a) k ∙ next n b
-  step-number end n i a k = h n (suc i) a k ∙ same n b
+  step-number (local d m l) n i a deals = h n (suc i) a deals ∙ same n b
+  step-number (deal d f) n i a deals = h n (suc i) (suc a) (suc deals) ∙ same n b
+  step-number (exchange d (product O x y)) zero i a deals = first b
+  step-number (exchange d (product O x y)) (suc n) i a deals = h n (suc i) (2 + a) (suc deals) ∙ next n b
+  step-number (exchange d (refresh O x)) zero i a deals = first b
+  step-number (exchange d (refresh O x)) (suc n) i a deals = h n (suc i) (suc a) deals ∙ next n b
+  step-number end n i a deals = h n (suc i) a deals ∙ same n b
 
-number-of : (w : ℕ) (gs : List Gate) (n i a k : ℕ) → placing (sought w gs n i a k) .number ≡ from n (program-cost w gs .b)
+number-of : (w : ℕ) (gs : List Gate) (n i a deals : ℕ) → placing (sought w gs n i a deals) .number ≡ from n (program-cost w gs .b)
 unfolding sought program-cost order-steps cost step-cost plus
-number-of w [] n i a k = rw (leb·suc-zero n)
-number-of w (g ∷ gs) n i a k = step-number (sought w gs) (program-cost w gs .b) (number-of w gs) (meaning w g) n i a k
+number-of w [] n i a deals = rw (leb·suc-zero n)
+number-of w (g ∷ gs) n i a deals = step-number (sought w gs) (program-cost w gs .b) (number-of w gs) (meaning w g) n i a deals
 
 pub told : (w : ℕ) (gs : List Gate) (n : ℕ) (s : Sought) → s ≡ sought w gs n 0 0 0 → Seeks w gs n s
 told w gs n s e = record { is = e; number = ap (λ (x : Sought). placing x .number) e ∙ number-of w gs n 0 0 0 }

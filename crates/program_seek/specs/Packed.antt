@@ -3,10 +3,10 @@ use Prim.Native.Nat.{ℕ, _+_, _/_, _%_}
 use Rattle.program_seek.specs.declared.Sought.{Sought}
 use Rattle.program_seek.specs.declared.Sought.the-variants.{Found, Nowhere}
 
--- a place further on by i gates, a words of A and k deals
-unfoldable pub moved : (i a k : ℕ) → Sought → Sought
-moved i a k (Found g b m) = Found (i + g) (a + b) (k + m)
-moved i a k Nowhere = Nowhere
+-- a place further on by so many gates, words of A and deals
+unfoldable pub moved : (i a deals : ℕ) → Sought → Sought
+moved i a deals (Found g b m) = Found (i + g) (a + b) (deals + m)
+moved i a deals Nowhere = Nowhere
 
 -- a packed place, in decimal: gate, words of A and deals, two digits each
 unfoldable pub place-of : (packed : ℕ) → Sought

@@ -13,20 +13,20 @@ use Rattle.programs.specs.Costs.{program-cost}
 use Rattle.program_seek.specs.declared.Sought.{Sought}
 use Rattle.program_seek.specs.declared.Sought.the-variants.{Found, Nowhere}
 
--- with the shape of the gate at index i, before which a words of A and k deals are used: on to the gates behind it,
--- or found
-unfoldable pub sought-at : Shape → (n i a k : ℕ) → (ℕ → ℕ → ℕ → ℕ → Sought) → Sought
-sought-at Local n i a k go = go n (suc i) a k
-sought-at (Dealing d) n i a k go = go n (suc i) (suc a) (suc k)
-sought-at (Product d) zero i a k go = Found i a k
-sought-at (Product d) (suc n) i a k go = go n (suc i) (2 + a) (suc k)
-sought-at (Refreshing d) zero i a k go = Found i a k
-sought-at (Refreshing d) (suc n) i a k go = go n (suc i) (suc a) k
+-- with the shape of the gate at index i, before which so many words of A and deals are used: on to the gates behind
+-- it, or found
+unfoldable pub sought-at : Shape → (n i a deals : ℕ) → (ℕ → ℕ → ℕ → ℕ → Sought) → Sought
+sought-at Local n i a deals go = go n (suc i) a deals
+sought-at (Dealing d) n i a deals go = go n (suc i) (suc a) (suc deals)
+sought-at (Product d) zero i a deals go = Found i a deals
+sought-at (Product d) (suc n) i a deals go = go n (suc i) (2 + a) (suc deals)
+sought-at (Refreshing d) zero i a deals go = Found i a deals
+sought-at (Refreshing d) (suc n) i a deals go = go n (suc i) (suc a) deals
 
 -- the n-th product or refresh, from 0
-unfoldable pub sought : (w : ℕ) → List Gate → (n i a k : ℕ) → Sought
-sought w [] n i a k = Nowhere
-sought w (g ∷ gs) n i a k = sought-at (shape (meaning w g)) n i a k (sought w gs)
+unfoldable pub sought : (w : ℕ) → List Gate → (n i a deals : ℕ) → Sought
+sought w [] n i a deals = Nowhere
+sought w (g ∷ gs) n i a deals = sought-at (shape (meaning w g)) n i a deals (sought w gs)
 
 -- ---- the answer
 
@@ -38,7 +38,7 @@ pub record Position : Type 0 where
 
 -- the paper's number and values for each answer: 8 is "neither the end nor a product or refresh of this job"
 abbrev pub placing : Sought → Position
-placing (Found i a k) = record { number = 0; gate = i; a = a; deals = k }
+placing (Found i a deals) = record { number = 0; gate = i; a = a; deals = deals }
 placing Nowhere = record { number = 8; gate = 0; a = 0; deals = 0 }
 
 -- the answer s for the n-th product or refresh, from 0; its number is 8 where the program has no such one: each uses a

@@ -10,6 +10,10 @@ ghost use Rattle.programs.specs.Orders.{curve-program, program};
 ghost use Rattle.program_seek.specs.Seek.{sought, Seeks};
 ghost use Rattle.program_seek.specs.Packed.{moved, place-of};
 use programs::Order;
+use programs::ROW_DEALS;
+use programs::ROW_EXCHANGES;
+use programs::ROW_GATES;
+use programs::ROW_WORDS_A;
 
 // Where an order's n-th product or refresh stands: the gate's index, and the words of A and the deals that the order
 // uses before it.
@@ -96,7 +100,8 @@ fn one_bit_place(n: usize, gate: usize, a: usize, deals: usize) -> Sought
 // A refresh, which uses a word of A and no deal, and then the one-bit truncation.
 fn refreshed_place(n: usize, gate: usize, a: usize, deals: usize) -> Sought
     requires { ⌜ (gate < 2 ^ 62) × (a < 2 ^ 62) × (deals ≤ 2 ^ 62) ⌝ }
-    ensures { λ s. ⌜ ((d : ℕ) → s ≡ sought 32 (Refresh 22 22 ∷ one-bit-program 32 12 22 d) n gate a deals) ⌝ }
+    ensures { λ s. ⌜ ((d : ℕ) →
+        s ≡ sought 32 (Refresh 22 22 ∷ one-bit-program 32 12 22 d) n gate a deals) ⌝ }
 {
     if n == 0 {
         return Sought::Found { gate, a, deals };
@@ -104,21 +109,30 @@ fn refreshed_place(n: usize, gate: usize, a: usize, deals: usize) -> Sought
     one_bit_place(n - 1, gate + 1, a + 1, deals)
 }
 
-// A row has 42 gates and 12 exchanges, and uses 26 words of A and 14 deals.
+// One gate stands before the rows, and one in each row before its ReLU, whose exchanges are the row's.
 fn curve_place(mode: u32, table: &[u32], n: u32) -> Sought
-    ensures { λ s. ⌜ ((x d : ℕ) → s ≡ sought 32 (curve-program 32 x d (rows (now (table .entry))) mode) n 0 0 0) ⌝ }
+    ensures { λ s. ⌜ ((x d : ℕ) →
+        s ≡ sought 32 (curve-program 32 x d (rows (now (table .entry))) mode) n 0 0 0) ⌝ }
 {
     let n = n as usize;
     let count = table.len() / 2;
-    let row = n / 12;
+    let row = n / ROW_EXCHANGES;
     if row < count {
-        return relu_place(n % 12, 42 * row + 2, 26 * row, 14 * row);
+        return relu_place(
+            n % ROW_EXCHANGES,
+            ROW_GATES * row + 2,
+            ROW_WORDS_A * row,
+            ROW_DEALS * row,
+        );
     }
-    let rest = n - 12 * count;
+    let rest = n - ROW_EXCHANGES * count;
+    let gate = ROW_GATES * count + 1;
+    let a = ROW_WORDS_A * count;
+    let deals = ROW_DEALS * count;
     if mode == 0 {
-        exact_place(rest, 42 * count + 1, 26 * count, 14 * count)
+        exact_place(rest, gate, a, deals)
     } else {
-        refreshed_place(rest, 42 * count + 1, 26 * count, 14 * count)
+        refreshed_place(rest, gate, a, deals)
     }
 }
 

@@ -23,8 +23,10 @@ use Rattle.gates.specs.Meaning.{part, dealt-of, meaning}
 use Rattle.gates.specs.Hosts.{share, act}
 use Rattle.programs.specs.Programs.{update-gates, rounds, adder, to-number, relu-program}
 use Rattle.programs.proofs.Gates.{Fits}
-use Rattle.programs.proofs.Points.{target, Point, after, afters, afters-append, num, bin, m-of, l1-of, l2-of, keep-m, keep-share, keep-num, keep-bin}
-use Rattle.programs.proofs.Targets.{at-add, at-sub, at-xor, at-mul, at-and, at-scale, at-up, at-bit, at-const, at-public, at-public-bits, at-deal, at-deal-bits}
+use Rattle.programs.proofs.Points.{target, Point, after, afters, afters-append, num, bin, m-of, l1-of, l2-of, keep-m, keep-share}
+use Rattle.programs.proofs.Points.{keep-num, keep-bin}
+use Rattle.programs.proofs.Targets.{at-add, at-sub, at-xor, at-mul, at-and, at-scale, at-up, at-bit, at-const, at-public}
+use Rattle.programs.proofs.Targets.{at-public-bits, at-deal, at-deal-bits}
 
 module _ (w : ℕ) (A B : List ℕ) (hA : Fits w A) (hB : Fits w B) where
   abbrev Pt : Type 0
@@ -64,7 +66,12 @@ module _ (w : ℕ) (A B : List ℕ) (hA : Fits w A) (hB : Fits w B) where
   -- a slot with the same share has the same digits
   pub digit-kept : (G H : Pt) (i : ℕ) → share (H .j) i ≡ share (G .j) i → Digit G i → Digit H i
   unfolding m-of l1-of l2-of
-  digit-kept G H i e x = record { m = rw (ap (λ (s : Share ℕ). s .m) e) (x .m); l1 = rw (ap (λ (s : Share ℕ). s .l1) e) (x .l1); l2 = rw (ap (λ (s : Share ℕ). s .l2) e) (x .l2) }
+  digit-kept G H i e x =
+      record {
+        m = rw (ap (λ (s : Share ℕ). s .m) e) (x .m);
+        l1 = rw (ap (λ (s : Share ℕ). s .l1) e) (x .l1);
+        l2 = rw (ap (λ (s : Share ℕ). s .l2) e) (x .l2);
+      }
 
   -- ---- the bit in slot 20 becomes a number
 
@@ -76,7 +83,8 @@ module _ (w : ℕ) (A B : List ℕ) (hA : Fits w A) (hB : Fits w B) where
   unfolding target dealt-of bin to-number afters m-of l1-of l2-of
   number-opens G h b =
       simp (at-sub, at-add, at-scale, at-mul, at-public, at-deal, keep-num, keep-m, whole-field)
-      (number-formula _ _ ∙ bit-number-xor w h (m-of w A B hA hB G 20) (b .m) (bitXor (l1-of w A B hA hB G 20) (l2-of w A B hA hB G 20)) (xor-lt 1 _ _ (b .l1) (b .l2)))
+      (number-formula _ _ ∙ bit-number-xor w h (m-of w A B hA hB G 20) (b .m) (bitXor (l1-of w A B hA hB G 20) (l2-of w A B hA hB G 20))
+      (xor-lt 1 _ _ (b .l1) (b .l2)))
 
   -- it writes the slots 17, 19 and 20
   pub number-keeps : (G : Pt) (i : ℕ) → eqb i 17 ≡ false → eqb i 19 ≡ false → eqb i 20 ≡ false
@@ -86,7 +94,8 @@ module _ (w : ℕ) (A B : List ℕ) (hA : Fits w A) (hB : Fits w B) where
 
   -- ---- the adder: n in 16, P in 17, G in 18, and the scratch 19 and 20
 
-  pub rounds-run : (us : List Update) (G : Pt) → bin w A B hA hB (afters w A B hA hB (rounds us) G) 18 ≡ run w us (bin w A B hA hB G 18, bin w A B hA hB G 17) .0
+  pub rounds-run : (us : List Update) (G : Pt)
+      → bin w A B hA hB (afters w A B hA hB (rounds us) G) 18 ≡ run w us (bin w A B hA hB G 18, bin w A B hA hB G 17) .0
   unfolding rounds update-gates afters run update target
   rounds-run [] G = refl
   rounds-run (generate D ∷ us) G = rounds-run us _ ∙ simp (at-xor, at-and, at-up, keep-bin)
@@ -113,7 +122,8 @@ module _ (w : ℕ) (A B : List ℕ) (hA : Fits w A) (hB : Fits w B) where
     adder-opens =
         rounds-run (updates (distances w)) _
         ∙ ap₂ (λ (g p : ℕ). run w (updates (distances w)) (g, p) .0)
-        (simp (at-and, at-public-bits, at-deal-bits, keep-bin, keep-m, whole-field)) (simp (at-xor, at-public-bits, at-deal-bits, keep-bin, keep-m, whole-field))
+        (simp (at-and, at-public-bits, at-deal-bits, keep-bin, keep-m, whole-field))
+        (simp (at-xor, at-public-bits, at-deal-bits, keep-bin, keep-m, whole-field))
 
     -- the sign's half, in slot 16
     pub adder-half : bin w A B hA hB (afters w A B hA hB (adder w x) G) 16 ≡ bit (bitXor (m-of w A B hA hB G x) minus) (w - 1)
@@ -122,7 +132,9 @@ module _ (w : ℕ) (A B : List ℕ) (hA : Fits w A) (hB : Fits w B) where
         ap (value (bits w)) (rounds-keep (updates (distances w)) _ 16 refl refl refl refl)
         ∙ half
       where
-        half : bin w A B hA hB (after w A B hA hB (Bit 16 17 (w - 1)) (after w A B hA hB (Xor 17 17 16) (after w A B hA hB (And 18 17 16) (after w A B hA hB (Public 17 x (Field 0 w)) (after w A B hA hB (DealBits 16 x) G))))) 16
+        half : bin w A B hA hB (after w A B hA hB (Bit 16 17 (w - 1))
+            (after w A B hA hB (Xor 17 17 16)
+            (after w A B hA hB (And 18 17 16) (after w A B hA hB (Public 17 x (Field 0 w)) (after w A B hA hB (DealBits 16 x) G))))) 16
             ≡ bit (bitXor (m-of w A B hA hB G x) minus) (w - 1)
         half = simp (at-xor, at-bit, at-public-bits, at-deal-bits, keep-bin, keep-m, whole-field)
 
@@ -142,13 +154,16 @@ module _ (w : ℕ) (A B : List ℕ) (hA : Fits w A) (hB : Fits w B) where
   sign-gates = Bit 20 18 (w - 2) ∷ Xor 20 20 16 ∷ to-number w
 
   module _ (x : ℕ) (G : Pt) (x16 : eqb x 16 ≡ false) (low : 2 ≤ w) where
-    pub sign-opens : num w A B hA hB (afters w A B hA hB sign-gates (afters w A B hA hB (adder w x) G)) 20 ≡ bit (num w A B hA hB G x) (w - 1)
+    pub sign-opens : num w A B hA hB (afters w A B hA hB sign-gates (afters w A B hA hB (adder w x) G)) 20
+        ≡ bit (num w A B hA hB G x) (w - 1)
     unfolding afters target sign
     sign-opens =
         let H : Pt = afters w A B hA hB (adder w x) G in
-        number-opens _ low (digit-xor _ 20 20 16 refl (digit-bit H 20 18 (w - 2) refl) (digit-kept H _ 16 (keep-16 H) (adder-digit x G x16)))
+        number-opens _ low (digit-xor _ 20 20 16 refl (digit-bit H 20 18 (w - 2) refl)
+        (digit-kept H _ 16 (keep-16 H) (adder-digit x G x16)))
         ∙ bits-xor H
-        ∙ xor-comm (bit (bin w A B hA hB H 18) (w - 2)) (bin w A B hA hB H 16) ∙ ap₂ bitXor (adder-half x G x16) (ap (λ (g : ℕ). bit g (w - 2)) (adder-opens x G x16))
+        ∙ xor-comm (bit (bin w A B hA hB H 18) (w - 2)) (bin w A B hA hB H 16)
+        ∙ ap₂ bitXor (adder-half x G x16) (ap (λ (g : ℕ). bit g (w - 2)) (adder-opens x G x16))
         ∙ sign-bit w (m-of w A B hA hB G x) (minus x G x16) low ∙ ap (λ (v : ℕ). bit v (w - 1)) (value-is x G x16)
       where
         keep-16 : (H : Pt) → share (after w A B hA hB (Bit 20 18 (w - 2)) H .j) 16 ≡ share (H .j) 16
@@ -166,7 +181,8 @@ module _ (w : ℕ) (A B : List ℕ) (hA : Fits w A) (hB : Fits w B) where
 
   -- ---- ReLU of slot x into slot d
 
-  module _ (x d : ℕ) (G : Pt) (x16 : eqb x 16 ≡ false) (x17 : eqb x 17 ≡ false) (x18 : eqb x 18 ≡ false) (x19 : eqb x 19 ≡ false) (x20 : eqb x 20 ≡ false)
+  module _ (x d : ℕ) (G : Pt) (x16 : eqb x 16 ≡ false) (x17 : eqb x 17 ≡ false) (x18 : eqb x 18 ≡ false) (x19 : eqb x 19 ≡ false)
+      (x20 : eqb x 20 ≡ false)
       (hd : ltb d 24 ≡ true) (low : 2 ≤ w) where
     abbrev signed-at : Pt
     signed-at = afters w A B hA hB sign-gates (afters w A B hA hB (adder w x) G)
@@ -188,10 +204,12 @@ module _ (w : ℕ) (A B : List ℕ) (hA : Fits w A) (hB : Fits w B) where
     unfolding num
     relu-opens =
         ap (λ (H : Pt). num w A B hA hB H d) relu-parts ∙ relu-end
-        ∙ ap₂ (λ (v s : ℕ). mul w v (sub w (1 % 2 ^ w) s)) (ap (value (numbers w)) (sign-keeps x G x16 low x x16 x17 x18 x19 x20)) (sign-opens x G x16 low)
+        ∙ ap₂ (λ (v s : ℕ). mul w v (sub w (1 % 2 ^ w) s)) (ap (value (numbers w)) (sign-keeps x G x16 low x x16 x17 x18 x19 x20))
+        (sign-opens x G x16 low)
 
     -- only the slots 16 to 20 and d are written
-    pub relu-keeps : (i : ℕ) → eqb i 16 ≡ false → eqb i 17 ≡ false → eqb i 18 ≡ false → eqb i 19 ≡ false → eqb i 20 ≡ false → eqb i d ≡ false
+    pub relu-keeps : (i : ℕ) → eqb i 16 ≡ false → eqb i 17 ≡ false → eqb i 18 ≡ false → eqb i 19 ≡ false → eqb i 20 ≡ false
+        → eqb i d ≡ false
         → share (afters w A B hA hB (relu-program w x d) G .j) i ≡ share (G .j) i
     unfolding afters target
     relu-keeps i i16 i17 i18 i19 i20 id =

@@ -77,7 +77,8 @@ module _ (w : ℕ) (A B : List ℕ) (hA : Fits w A) (hB : Fits w B) (low : 2 ≤
     unfolding row-program afters
     row-parts = afters-append w A B hA hB (relu-program w 21 23) (Scale 23 23 k ∷ Add 22 22 23 ∷ []) shifted
 
-    row-end : (H : Pt) → num w A B hA hB (run (Scale 23 23 k ∷ Add 22 22 23 ∷ []) H) 22 ≡ add w (num w A B hA hB H 22) (mul w (num w A B hA hB H 23) k)
+    row-end : (H : Pt) → num w A B hA hB (run (Scale 23 23 k ∷ Add 22 22 23 ∷ []) H) 22
+        ≡ add w (num w A B hA hB H 22) (mul w (num w A B hA hB H 23) k)
     unfolding afters target
     row-end H = simp (at-add, at-scale, keep-num)
 
@@ -87,11 +88,14 @@ module _ (w : ℕ) (A B : List ℕ) (hA : Fits w A) (hB : Fits w B) (low : 2 ≤
     row-opens =
         ap (λ (H : Pt). num w A B hA hB H 22) row-parts ∙ row-end _
         ∙ ap₂ (λ (s v : ℕ). add w s (mul w v k))
-        (ap (value (numbers w)) (relu-keeps w A B hA hB 21 23 shifted refl refl refl refl refl refl low 22 refl refl refl refl refl refl) ∙ keep-acc)
-        (relu-opens w A B hA hB 21 23 shifted refl refl refl refl refl refl low ∙ relu-formula w _ low (value-lt shifted 21) ∙ ap (relu-word w) shifted-opens)
+        (ap (value (numbers w)) (relu-keeps w A B hA hB 21 23 shifted refl refl refl refl refl refl low 22 refl refl refl refl refl refl)
+        ∙ keep-acc)
+        (relu-opens w A B hA hB 21 23 shifted refl refl refl refl refl refl low ∙ relu-formula w _ low (value-lt shifted 21)
+        ∙ ap (relu-word w) shifted-opens)
 
     -- the registers are kept
-    pub row-keeps : (i : ℕ) → eqb i 16 ≡ false → eqb i 17 ≡ false → eqb i 18 ≡ false → eqb i 19 ≡ false → eqb i 20 ≡ false → eqb i 21 ≡ false → eqb i 22 ≡ false → eqb i 23 ≡ false
+    pub row-keeps : (i : ℕ) → eqb i 16 ≡ false → eqb i 17 ≡ false → eqb i 18 ≡ false → eqb i 19 ≡ false → eqb i 20 ≡ false
+        → eqb i 21 ≡ false → eqb i 22 ≡ false → eqb i 23 ≡ false
         → share (run (row-program w x r k) G .j) i ≡ share (G .j) i
     unfolding afters target
     row-keeps i i16 i17 i18 i19 i20 i21 i22 i23 =
@@ -105,22 +109,29 @@ module _ (w : ℕ) (A B : List ℕ) (hA : Fits w A) (hB : Fits w B) (low : 2 ≤
     unfolding rows-program afters
     rows-keep [] s G i hi = refl
     rows-keep (p ∷ ps) s G i hi =
-        ap (λ (H : Pt). share (H .j) i) (afters-append w A B hA hB (row-program w x (p .r) (coefficient w s p ps)) (rows-program w x (slope-after p ps) ps) G)
+        ap (λ (H : Pt). share (H .j) i)
+        (afters-append w A B hA hB (row-program w x (p .r) (coefficient w s p ps)) (rows-program w x (slope-after p ps) ps) G)
         ∙ rows-keep ps (slope-after p ps) _ i hi
-        ∙ row-keeps x (p .r) (coefficient w s p ps) G (not-temporary x 21 hx (lit≤ tt)) i (not-temporary i 16 hi (lit≤ tt)) (not-temporary i 17 hi (lit≤ tt)) (not-temporary i 18 hi (lit≤ tt))
-        (not-temporary i 19 hi (lit≤ tt)) (not-temporary i 20 hi (lit≤ tt)) (not-temporary i 21 hi (lit≤ tt)) (not-temporary i 22 hi (lit≤ tt)) (not-temporary i 23 hi (lit≤ tt))
+        ∙ row-keeps x (p .r) (coefficient w s p ps) G (not-temporary x 21 hx (lit≤ tt)) i (not-temporary i 16 hi (lit≤ tt))
+        (not-temporary i 17 hi (lit≤ tt)) (not-temporary i 18 hi (lit≤ tt))
+        (not-temporary i 19 hi (lit≤ tt)) (not-temporary i 20 hi (lit≤ tt)) (not-temporary i 21 hi (lit≤ tt))
+        (not-temporary i 22 hi (lit≤ tt)) (not-temporary i 23 hi (lit≤ tt))
 
-    rows-open : (ps : List Row) (s : ℤ) (G : Pt) → num w A B hA hB (run (rows-program w x s ps) G) 22 ≡ word-sum w s ps (num w A B hA hB G x) (num w A B hA hB G 22)
+    rows-open : (ps : List Row) (s : ℤ) (G : Pt)
+        → num w A B hA hB (run (rows-program w x s ps) G) 22 ≡ word-sum w s ps (num w A B hA hB G x) (num w A B hA hB G 22)
     unfolding rows-program afters word-sum num
     rows-open [] s G = refl
     rows-open (p ∷ ps) s G =
         let k : ℕ = coefficient w s p ps in
         let x21 : eqb x 21 ≡ false = not-temporary x 21 hx (lit≤ tt) in
-        ap (λ (H : Pt). num w A B hA hB H 22) (afters-append w A B hA hB (row-program w x (p .r) k) (rows-program w x (slope-after p ps) ps) G)
+        ap (λ (H : Pt). num w A B hA hB H 22)
+        (afters-append w A B hA hB (row-program w x (p .r) k) (rows-program w x (slope-after p ps) ps) G)
         ∙ rows-open ps (slope-after p ps) _
         ∙ ap₂ (word-sum w (slope-after p ps) ps)
-        (ap (value (numbers w)) (row-keeps x (p .r) k G x21 x (not-temporary x 16 hx (lit≤ tt)) (not-temporary x 17 hx (lit≤ tt)) (not-temporary x 18 hx (lit≤ tt))
-        (not-temporary x 19 hx (lit≤ tt)) (not-temporary x 20 hx (lit≤ tt)) x21 (not-temporary x 22 hx (lit≤ tt)) (not-temporary x 23 hx (lit≤ tt))))
+        (ap (value (numbers w)) (row-keeps x (p .r) k G x21 x (not-temporary x 16 hx (lit≤ tt)) (not-temporary x 17 hx (lit≤ tt))
+        (not-temporary x 18 hx (lit≤ tt))
+        (not-temporary x 19 hx (lit≤ tt)) (not-temporary x 20 hx (lit≤ tt)) x21 (not-temporary x 22 hx (lit≤ tt))
+        (not-temporary x 23 hx (lit≤ tt))))
         (row-opens x (p .r) k G x21)
 
     -- the sum starts reduced modulo 2^w
@@ -133,11 +144,13 @@ module _ (w : ℕ) (A B : List ℕ) (hA : Fits w A) (hB : Fits w B) (low : 2 ≤
     const-keeps n G i hi = keep-share w A B hA hB (Const 22 n) G i (not-temporary i 22 hi (lit≤ tt))
 
     -- the sum that the hosts form of what x opens
-    pub sum-opens : (p : Row) (ps : List Row) (G : Pt) → num w A B hA hB (run (sum-program w x (p ∷ ps)) G) 22 ≡ word-curve w (p ∷ ps) (num w A B hA hB G x)
+    pub sum-opens : (p : Row) (ps : List Row) (G : Pt)
+        → num w A B hA hB (run (sum-program w x (p ∷ ps)) G) 22 ≡ word-curve w (p ∷ ps) (num w A B hA hB G x)
     unfolding sum-program afters word-curve num
     sum-opens p ps G =
         rows-open (p ∷ ps) (pos 0) (after w A B hA hB (Const 22 (4096 * p .c % 2 ^ w)) G)
-        ∙ ap₂ (word-sum w (pos 0) (p ∷ ps)) (ap (value (numbers w)) (const-keeps (4096 * p .c % 2 ^ w) G x hx)) (at-const w A B hA hB G 22 refl (4096 * p .c % 2 ^ w) ∙ mod-mod (4096 * p .c) (2 ^ w))
+        ∙ ap₂ (word-sum w (pos 0) (p ∷ ps)) (ap (value (numbers w)) (const-keeps (4096 * p .c % 2 ^ w) G x hx))
+        (at-const w A B hA hB G 22 refl (4096 * p .c % 2 ^ w) ∙ mod-mod (4096 * p .c) (2 ^ w))
         ∙ sum-reduced (pos 0) p ps _ (4096 * p .c)
 
     pub sum-keeps : (ps : List Row) (G : Pt) (i : ℕ) → i < 16 → share (run (sum-program w x ps) G .j) i ≡ share (G .j) i

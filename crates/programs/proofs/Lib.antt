@@ -5,7 +5,7 @@ pub mod Blocks
 pub mod Truncations
 pub mod Curve
 pub mod Opens
-pub mod Costs
 pub mod Readings
 pub mod Calibration
 pub mod CurveGates
+pub mod Sizes

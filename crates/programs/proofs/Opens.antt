@@ -1,4 +1,5 @@
--- What every order opens, for every share of its sources and every word of the lists; and that it changes no register but its target. Assumes nothing.
+-- What every order opens, for every share of its sources and every word of the lists; and that it changes no register but its target.
+-- Assumes nothing.
 use mathlib.Core.Path.{_≡_, refl, ap, ap₂, _∙_}
 use mathlib.Core.Bool.{true, false}
 use mathlib.Core.List.{List, [], _∷_}
@@ -22,11 +23,13 @@ use Rattle.gates.specs.Meaning.{meaning}
 use Rattle.gates.specs.Hosts.{share, act}
 use Rattle.tables.specs.Table.{Row}
 use Rattle.curves.specs.Curve.{relu-word, word-curve}
-use Rattle.programs.specs.Programs.{relu-program, slack-program, one-bit-program, exact-program, sum-program, curve-exact, curve-one-bit}
+use Rattle.programs.specs.Programs.{relu-program, slack-program, one-bit-program, exact-program, sum-program, curve-exact}
+use Rattle.programs.specs.Programs.{curve-one-bit}
 use Rattle.programs.specs.Orders.{curve-program, kinds}
 use Rattle.programs.specs.Opens.{curve-value, values}
 use Rattle.programs.proofs.Gates.{Fits}
-use Rattle.programs.proofs.Points.{not-temporary, Other, other, target, Point, after, afters, afters-append, num, m-of, l1-of, l2-of, keep-share}
+use Rattle.programs.proofs.Points.{not-temporary, Other, other, target, Point, after, afters, afters-append, num, m-of, l1-of, l2-of}
+use Rattle.programs.proofs.Points.{keep-share}
 use Rattle.programs.proofs.Targets.{at-add, at-sub, at-mul, at-scale, at-plus, at-refresh}
 use Rattle.programs.proofs.Blocks.{relu-opens, relu-keeps}
 use Rattle.programs.proofs.Truncations.{mask-of, slack-opens, slack-keeps, one-bit-opens, one-bit-keeps, exact-opens, exact-keeps}
@@ -72,10 +75,12 @@ module _ (w : ℕ) (A B : List ℕ) (hA : Fits w A) (hB : Fits w B) (low : 2 ≤
   -- ---- kinds 7 and 8 in terms of x and L
 
   pub one-bit-of : (k x d : ℕ) (G : Pt) → ltb d 24 ≡ true
-      → num w A B hA hB (run (one-bit-program w k x d) G) d ≡ one-bit w k (add w (num w A B hA hB G x) (mask-of w A B hA hB G x)) (mask-of w A B hA hB G x)
+      → num w A B hA hB (run (one-bit-program w k x d) G) d
+      ≡ one-bit w k (add w (num w A B hA hB G x) (mask-of w A B hA hB G x)) (mask-of w A B hA hB G x)
   one-bit-of k x d G l = one-bit-opens w A B hA hB k x d G l ∙ ap (λ (m : ℕ). one-bit w k m (mask-of w A B hA hB G x)) (m-is G x)
 
-  pub exact-of : (k x d : ℕ) (G : Pt) → ltb d 24 ≡ true → 1 ≤ k → k < w → num w A B hA hB (run (exact-program w k x d) G) d ≡ shr-signed w k (num w A B hA hB G x)
+  pub exact-of : (k x d : ℕ) (G : Pt) → ltb d 24 ≡ true → 1 ≤ k → k < w
+      → num w A B hA hB (run (exact-program w k x d) G) d ≡ shr-signed w k (num w A B hA hB G x)
   unfolding num m-of l1-of l2-of
   exact-of k x d G l o h = exact-opens w A B hA hB k x d G l low ∙ exact-floor w k _ _ o h (G .fits .m x) (add-lt w _ _)
 
@@ -85,7 +90,8 @@ module _ (w : ℕ) (A B : List ℕ) (hA : Fits w A) (hB : Fits w B) (low : 2 ≤
     abbrev summed : Pt
     summed = run (sum-program w x (p ∷ ps)) G
 
-    pub exact-curve-opens : 12 < w → num w A B hA hB (run (curve-exact w x d (p ∷ ps)) G) d ≡ shr-signed w 12 (word-curve w (p ∷ ps) (num w A B hA hB G x))
+    pub exact-curve-opens : 12 < w
+        → num w A B hA hB (run (curve-exact w x d (p ∷ ps)) G) d ≡ shr-signed w 12 (word-curve w (p ∷ ps) (num w A B hA hB G x))
     unfolding curve-exact
     exact-curve-opens h =
         ap (λ (H : Pt). num w A B hA hB H d) (afters-append w A B hA hB (sum-program w x (p ∷ ps)) (exact-program w 12 22 d) G)
@@ -95,9 +101,11 @@ module _ (w : ℕ) (A B : List ℕ) (hA : Fits w A) (hB : Fits w B) (low : 2 ≤
         ≡ one-bit w 12 (add w (word-curve w (p ∷ ps) (num w A B hA hB G x)) (new-mask summed)) (new-mask summed)
     unfolding curve-one-bit afters
     one-bit-curve-opens =
-        ap (λ (H : Pt). num w A B hA hB H d) (afters-append w A B hA hB (sum-program w x (p ∷ ps)) (Refresh 22 22 ∷ one-bit-program w 12 22 d) G)
+        ap (λ (H : Pt). num w A B hA hB H d)
+        (afters-append w A B hA hB (sum-program w x (p ∷ ps)) (Refresh 22 22 ∷ one-bit-program w 12 22 d) G)
         ∙ one-bit-of 12 22 d (after w A B hA hB (Refresh 22 22) summed) hd
-        ∙ ap₂ (λ (v L : ℕ). one-bit w 12 (add w v L) L) (at-refresh w A B hA hB summed 22 refl 22 ∙ sum-opens w A B hA hB low x hx p ps G) (refresh-mask summed 22 22 refl)
+        ∙ ap₂ (λ (v L : ℕ). one-bit w 12 (add w v L) L) (at-refresh w A B hA hB summed 22 refl 22 ∙ sum-opens w A B hA hB low x hx p ps G)
+        (refresh-mask summed 22 22 refl)
 
   -- ---- every kind
 
@@ -121,15 +129,20 @@ module _ (w : ℕ) (A B : List ℕ) (hA : Fits w A) (hB : Fits w B) (low : 2 ≤
     relu-of : num w A B hA hB (run (relu-program w a d) G) d ≡ relu-word w (num w A B hA hB G a)
     unfolding num
     relu-of =
-        relu-opens w A B hA hB a d G (not-temporary a 16 ha (lit≤ tt)) (not-temporary a 17 ha (lit≤ tt)) (not-temporary a 18 ha (lit≤ tt)) (not-temporary a 19 ha (lit≤ tt))
+        relu-opens w A B hA hB a d G (not-temporary a 16 ha (lit≤ tt)) (not-temporary a 17 ha (lit≤ tt)) (not-temporary a 18 ha (lit≤ tt))
+        (not-temporary a 19 ha (lit≤ tt))
         (not-temporary a 20 ha (lit≤ tt)) d24 low
         ∙ relu-formula w (num w A B hA hB G a) low (sub-lt w _ _)
 
-    slack-of : num w A B hA hB (run (slack-program c a d) G) d ≡ large-slack w c (add w (num w A B hA hB G a) (mask-of w A B hA hB G a)) (mask-of w A B hA hB G a)
-    slack-of = slack-opens w A B hA hB c a d G d24 (not-temporary a 16 ha (lit≤ tt)) ∙ ap (λ (m : ℕ). large-slack w c m (mask-of w A B hA hB G a)) (m-is G a)
+    slack-of : num w A B hA hB (run (slack-program c a d) G) d
+        ≡ large-slack w c (add w (num w A B hA hB G a) (mask-of w A B hA hB G a)) (mask-of w A B hA hB G a)
+    slack-of =
+        slack-opens w A B hA hB c a d G d24 (not-temporary a 16 ha (lit≤ tt))
+        ∙ ap (λ (m : ℕ). large-slack w c m (mask-of w A B hA hB G a)) (m-is G a)
 
     curve-of : (qs : List Row) (mode : ℕ) → 12 < w → 0 < length qs
-        → num w A B hA hB (run (curve-program w a d qs mode) G) d ≡ curve-value w qs mode (num w A B hA hB G a) (new-mask (run (sum-program w a qs) G))
+        → num w A B hA hB (run (curve-program w a d qs mode) G) d
+        ≡ curve-value w qs mode (num w A B hA hB G a) (new-mask (run (sum-program w a qs) G))
     unfolding curve-program curve-value
     curve-of [] mode h l = absurd (omega arith)
     curve-of (p ∷ qs) zero h l = exact-curve-opens a d ha d24 p qs G h
@@ -138,9 +151,11 @@ module _ (w : ℕ) (A B : List ℕ) (hA : Fits w A) (hB : Fits w B) (low : 2 ≤
     pub kind-opens : (kind : ℕ) → kind ≤ 10 → Opens kind
     unfolding kinds values afters curve-mask
     kind-opens =
-        by-kind Opens (λ s. at-add w A B hA hB G d d24 a c) (λ s. at-sub w A B hA hB G d d24 a c) (λ s. at-plus w A B hA hB G d d24 a c) (λ s. at-scale w A B hA hB G d d24 a c)
+        by-kind Opens (λ s. at-add w A B hA hB G d d24 a c) (λ s. at-sub w A B hA hB G d d24 a c) (λ s. at-plus w A B hA hB G d d24 a c)
+        (λ s. at-scale w A B hA hB G d d24 a c)
         (λ s. at-mul w A B hA hB G d d24 a c) (λ s. at-refresh w A B hA hB G d d24 a) (λ s. slack-of) (λ s. one-bit-of c a d G d24)
-        (λ s. exact-of c a d G d24 (s .shift refl .0) (s .shift refl .1)) (λ s. relu-of) (λ s. curve-of ps c (s .curve refl .0) (s .curve refl .1))
+        (λ s. exact-of c a d G d24 (s .shift refl .0) (s .shift refl .1)) (λ s. relu-of)
+        (λ s. curve-of ps c (s .curve refl .0) (s .curve refl .1))
 
     -- ---- no register but the target
 
@@ -157,7 +172,8 @@ module _ (w : ℕ) (A B : List ℕ) (hA : Fits w A) (hB : Fits w B) (low : 2 ≤
 
       relu-kept : share (run (relu-program w a d) G .j) i ≡ share (G .j) i
       relu-kept =
-          relu-keeps w A B hA hB a d G (not-temporary a 16 ha (lit≤ tt)) (not-temporary a 17 ha (lit≤ tt)) (not-temporary a 18 ha (lit≤ tt)) (not-temporary a 19 ha (lit≤ tt))
+          relu-keeps w A B hA hB a d G (not-temporary a 16 ha (lit≤ tt)) (not-temporary a 17 ha (lit≤ tt)) (not-temporary a 18 ha (lit≤ tt))
+          (not-temporary a 19 ha (lit≤ tt))
           (not-temporary a 20 ha (lit≤ tt)) d24 low i (o .i16) (o .i17) (o .i18) (o .i19) (o .i20) (o .id)
 
       curve-kept : (mode : ℕ) → share (run (curve-program w a d ps mode) G .j) i ≡ share (G .j) i
@@ -173,6 +189,8 @@ module _ (w : ℕ) (A B : List ℕ) (hA : Fits w A) (hB : Fits w B) (low : 2 ≤
       pub kind-keeps : (kind : ℕ) → kind ≤ 10 → Keeps kind
       unfolding kinds target
       kind-keeps =
-          by-kind Keeps (one-gate (Add d a c) id) (one-gate (Sub d a c) id) (one-gate (Plus d a c) id) (one-gate (Scale d a c) id) (one-gate (Mul d a c) id) (one-gate (Refresh d a) id)
-          (slack-keeps w A B hA hB c a d G d24 i (o .i16) (o .i17) (o .id)) (one-bit-keeps w A B hA hB c a d G d24 i o) (exact-keeps w A B hA hB c a d G d24 low i o)
+          by-kind Keeps (one-gate (Add d a c) id) (one-gate (Sub d a c) id) (one-gate (Plus d a c) id) (one-gate (Scale d a c) id)
+          (one-gate (Mul d a c) id) (one-gate (Refresh d a) id)
+          (slack-keeps w A B hA hB c a d G d24 i (o .i16) (o .i17) (o .id)) (one-bit-keeps w A B hA hB c a d G d24 i o)
+          (exact-keeps w A B hA hB c a d G d24 low i o)
           relu-kept (curve-kept c)

@@ -113,17 +113,22 @@ module _ (w : ℕ) (A B : List ℕ) (c : Cursor) (j : Triple) (hA : Fits w A) (h
   writes (And d a b) = wrote w d j (S.product (bit-words w) (triple a) (triple b) a₁ a₂ b₁ .m) a₂ b₁
   writes (Refresh d a) = wrote w d j (S.refresh (number-words w) (triple a) a₁ b₁ .m) a₁ b₁
   writes (Scale d a n) =
-      wrote w d j (on-each (λ x. mul w x n) (λ x h. mul-lt w x n) (M a)) (on-each (λ x. mul w x n) (λ x h. mul-lt w x n) (L1 a)) (on-each (λ x. mul w x n) (λ x h. mul-lt w x n) (L2 a))
+      wrote w d j (on-each (λ x. mul w x n) (λ x h. mul-lt w x n) (M a)) (on-each (λ x. mul w x n) (λ x h. mul-lt w x n) (L1 a))
+      (on-each (λ x. mul w x n) (λ x h. mul-lt w x n) (L2 a))
   writes (Plus d a n) = wrote w d j (on-each (λ x. add w x n) (λ x h. add-lt w x n) (M a)) (L1 a) (L2 a)
   writes (Up d a n) =
-      wrote w d j (on-each (shl w n) (λ x h. shl-fits w n x) (M a)) (on-each (shl w n) (λ x h. shl-fits w n x) (L1 a)) (on-each (shl w n) (λ x h. shl-fits w n x) (L2 a))
+      wrote w d j (on-each (shl w n) (λ x h. shl-fits w n x) (M a)) (on-each (shl w n) (λ x h. shl-fits w n x) (L1 a))
+      (on-each (shl w n) (λ x h. shl-fits w n x) (L2 a))
   writes (Bit d a n) =
-      wrote w d j (on-each (λ x. bit x n) (λ x h. bit-fits w x n h) (M a)) (on-each (λ x. bit x n) (λ x h. bit-fits w x n h) (L1 a)) (on-each (λ x. bit x n) (λ x h. bit-fits w x n h) (L2 a))
+      wrote w d j (on-each (λ x. bit x n) (λ x h. bit-fits w x n h) (M a)) (on-each (λ x. bit x n) (λ x h. bit-fits w x n h) (L1 a))
+      (on-each (λ x. bit x n) (λ x h. bit-fits w x n h) (L2 a))
   writes (Const d n) = wrote w d j (n % 2 ^ w, mod-lt n (pow-pos w)) (number-words w .nil) (number-words w .nil)
   writes (Public d a f) = wrote w d j (on-each (part w f) (part-lt w f) (M a)) (number-words w .nil) (number-words w .nil)
   writes (Deal d a f) =
-      wrote w d j (number-words w .nil) a₁ (S.deal (number-words w) (dealt-of w f (at (j .1) a) (at (j .2) a), dealt-lt w f _ _ (hj .l1 a) (hj .l2 a)) a₁ .l2)
-  writes (DealBits d a) = wrote w d j (number-words w .nil) a₁ (S.deal (bit-words w) (number-words w .neg (number-words w .add (L1 a) (L2 a))) a₁ .l2)
+      wrote w d j (number-words w .nil) a₁
+      (S.deal (number-words w) (dealt-of w f (at (j .1) a) (at (j .2) a), dealt-lt w f _ _ (hj .l1 a) (hj .l2 a)) a₁ .l2)
+  writes (DealBits d a) =
+      wrote w d j (number-words w .nil) a₁ (S.deal (bit-words w) (number-words w .neg (number-words w .add (L1 a) (L2 a))) a₁ .l2)
 
 -- so words stay words, slots slots, and other slots keep their shares
 fits-set : (w : ℕ) (l : Lane) (d v : ℕ) → Fits w l → v < 2 ^ w → Fits w (set l d v)
@@ -188,11 +193,20 @@ module _ (w : ℕ) (A B : List ℕ) (hA : Fits w A) (hB : Fits w B) where
 
     pub still-fits : FitsAll w (act A B (meaning w g) (G .c) (G .j))
     still-fits =
-        rw (W .is) (record { m = fits-set w (G .j .0) (target g) (W .m .0) (G .fits .m) (W .m .1); l1 = fits-set w (G .j .1) (target g) (W .l1 .0) (G .fits .l1) (W .l1 .1); l2 = fits-set w (G .j .2) (target g) (W .l2 .0) (G .fits .l2) (W .l2 .1) })
+        rw (W .is) (record {
+          m = fits-set w (G .j .0) (target g) (W .m .0) (G .fits .m) (W .m .1);
+          l1 = fits-set w (G .j .1) (target g) (W .l1 .0) (G .fits .l1) (W .l1 .1);
+          l2 =
+              fits-set w (G .j .2) (target g) (W .l2 .0) (G .fits .l2) (W .l2 .1);
+        })
 
     pub still-slot : (i : ℕ) → Slot (G .j) i → Slot (act A B (meaning w g) (G .c) (G .j)) i
     still-slot i h =
-        rw (W .is) (record { m = lt-length-set (G .j .0) (target g) (W .m .0) (h .m); l1 = lt-length-set (G .j .1) (target g) (W .l1 .0) (h .l1); l2 = lt-length-set (G .j .2) (target g) (W .l2 .0) (h .l2) })
+        rw (W .is) (record {
+          m = lt-length-set (G .j .0) (target g) (W .m .0) (h .m);
+          l1 = lt-length-set (G .j .1) (target g) (W .l1 .0) (h .l1);
+          l2 = lt-length-set (G .j .2) (target g) (W .l2 .0) (h .l2);
+        })
 
   -- the point after a gate
   unfoldable pub after : Gate → Point → Point

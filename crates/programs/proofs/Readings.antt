@@ -50,10 +50,12 @@ unfolding wrap
 neg-reads w L h = sym (wrap-neg w (pos L) ∙ ap (neg w) (mod-eq-of-lt h))
 
 pub slack-reads : (w k x L : ℕ) → x < 2 ^ w → L < 2 ^ w
-    → large-slack w k (add w x L) L ≡ wrap w (floor (signed w (wrap w (negℤ (pos L)))) (2 ^ k) +ℤ floor (signed w (wrap w (signed w x +ℤ pos L))) (2 ^ k))
+    → large-slack w k (add w x L) L
+    ≡ wrap w (floor (signed w (wrap w (negℤ (pos L)))) (2 ^ k) +ℤ floor (signed w (wrap w (signed w x +ℤ pos L))) (2 ^ k))
 unfolding large-slack shr-signed
 slack-reads w k x L hx hL =
-    ap₂ (λ (n m : ℕ). add w (wrap w (floor (signed w n) (2 ^ k))) (wrap w (floor (signed w m) (2 ^ k)))) (neg-reads w L hL) (plus-reads w x hx L)
+    ap₂ (λ (n m : ℕ). add w (wrap w (floor (signed w n) (2 ^ k))) (wrap w (floor (signed w m) (2 ^ k)))) (neg-reads w L hL)
+    (plus-reads w x hx L)
     ∙ sym (wrap-add w (floor (signed w (wrap w (negℤ (pos L)))) (2 ^ k)) (floor (signed w (wrap w (signed w x +ℤ pos L))) (2 ^ k)))
 
 -- ---- kind 9
@@ -72,7 +74,8 @@ mag-one : (z : ℤ) (s n : ℕ) → mag z < n → s ≤ 1 → mag (z +ℤ pos s)
 mag-one (pos m) s n h l = omega arith
 mag-one (negsuc m) zero n h l = rw (sub-below 0 (suc m) (omega arith)) (omega arith)
 mag-one (negsuc m) (suc s) n h l =
-    ⊎-elim (λ (k : suc m ≤ suc s). rw (sub-ge (suc s) (suc m) k) (omega arith)) (λ (k : suc s < suc m). rw (sub-below (suc s) (suc m) k) (omega arith)) (le-or-lt (suc m) (suc s))
+    ⊎-elim (λ (k : suc m ≤ suc s). rw (sub-ge (suc s) (suc m) k) (omega arith))
+    (λ (k : suc s < suc m). rw (sub-below (suc s) (suc m) k) (omega arith)) (le-or-lt (suc m) (suc s))
 
 module _ (w k x L : ℕ) (ow : 2 ≤ w) (kw : k ≤ w - 2) (hx : x < 2 ^ w) (hL : L < 2 ^ w) (ranged : T (in-range w (signed w x))) where
   abbrev s : ℕ
@@ -109,7 +112,9 @@ module _ (w k x L : ℕ) (ow : 2 ≤ w) (kw : k ≤ w - 2) (hx : x < 2 ^ w) (hL 
       let q : 2 ^ (w - 1) ≡ 2 ^ (w - 2) + 2 ^ (w - 2) = rw i at (halves (w - 1) (omega arith)) in
       let p : 0 < 2 ^ (w - 2) = pow-pos (w - 2) in
       let m : mag (floor (signed w x) (2 ^ k) +ℤ pos s) < suc (2 ^ (w - 2)) =
-      mag-one (floor (signed w x) (2 ^ k)) s (2 ^ (w - 2)) (lt-of-le-of-lt (mag-floor (signed w x) (2 ^ k)) (in-range-mag w (signed w x) ranged)) slip-most in
+      mag-one (floor (signed w x) (2 ^ k)) s (2 ^ (w - 2))
+      (lt-of-le-of-lt (mag-floor (signed w x) (2 ^ k)) (in-range-mag w (signed w x) ranged)) slip-most in
       let e : slip k x L ≡ wrap w (pos s) = slip-of ∙ sym (mod-eq-of-lt {n = s} {m = 2 ^ w} (omega (arith, slip-most))) in
-      ap (signed w) (one-bit-word ∙ ap (add w (wrap w (floor (signed w x) (2 ^ k)))) e ∙ sym (wrap-add w (floor (signed w x) (2 ^ k)) (pos s)))
+      ap (signed w) (one-bit-word ∙ ap (add w (wrap w (floor (signed w x) (2 ^ k)))) e
+      ∙ sym (wrap-add w (floor (signed w x) (2 ^ k)) (pos s)))
       ∙ signed-wrap w (floor (signed w x) (2 ^ k) +ℤ pos s) (omega arith) (omega arith)

@@ -20,19 +20,22 @@ use Rattle.gates.specs.declared.Gate.the-variants.{Add, Sub, Xor, Mul, And, Ref
 use Rattle.gates.specs.Steps.{at, say1, say2, meet, part2, new-at, Cursor}
 use Rattle.gates.specs.Meaning.{part, dealt-of, meaning}
 use Rattle.gates.specs.Hosts.{Triple, share, Slot, joint1, joint2, act}
-use Rattle.programs.proofs.Gates.{Fits, FitsAll, sum-opens, difference-opens, scale-opens, plus-opens, known-opens, deal-opens, product-opens, refresh-opens}
+use Rattle.programs.proofs.Gates.{Fits, FitsAll, sum-opens, difference-opens, scale-opens, plus-opens, known-opens, deal-opens}
+use Rattle.programs.proofs.Gates.{product-opens, refresh-opens}
 use Rattle.programs.proofs.Points.{part-lt, dealt-lt, Point, after, num, bin, m-of, l1-of, l2-of}
 
 -- what slot d opens once it is written
 written : (O : Ops ℕ) (j : Triple) (d x y z : ℕ) → Slot j d
     → value O (share (set (j .0) d x, set (j .1) d y, set (j .2) d z) d) ≡ O .sub x (O .add y z)
 written O j d x y z h =
-    ap₂ (O .sub) (getD-set-same (j .0) d x 0 (h .m)) (ap₂ (O .add) (getD-set-same (j .1) d y 0 (h .l1)) (getD-set-same (j .2) d z 0 (h .l2)))
+    ap₂ (O .sub) (getD-set-same (j .0) d x 0 (h .m))
+    (ap₂ (O .add) (getD-set-same (j .1) d y 0 (h .l1)) (getD-set-same (j .2) d z 0 (h .l2)))
 
 -- shifts and bits go through xor
 shl-xor : (w n x y : ℕ) → bitXor (shl w n x) (shl w n y) ≡ shl w n (bitXor x y)
 unfolding shl
-shl-xor w n x y = sym (xor-mod (x * 2 ^ n) (y * 2 ^ n) w) ∙ ap (λ (z : ℕ). z % 2 ^ w) (simp add-zero at (xor-block n x y 0 0 (pow-pos n) (pow-pos n)))
+shl-xor w n x y =
+    sym (xor-mod (x * 2 ^ n) (y * 2 ^ n) w) ∙ ap (λ (z : ℕ). z % 2 ^ w) (simp add-zero at (xor-block n x y 0 0 (pow-pos n) (pow-pos n)))
 
 bit-xors : (n x y : ℕ) → bitXor (bit x n) (bit y n) ≡ bit (bitXor x y) n
 unfolding bit
@@ -54,38 +57,48 @@ module _ (w : ℕ) (A B : List ℕ) (hA : Fits w A) (hB : Fits w B) (G : Point w
   module _ (a b : ℕ) where
     pub at-add : num w A B hA hB (after w A B hA hB (Add d a b) G) d ≡ add w (num w A B hA hB G a) (num w A B hA hB G b)
     unfolding after num act meaning
-    at-add = open3 (numbers w) _ _ _ ∙ sum-opens w (numbers w) (number-carrier w) _ (f .m a) _ (f .l1 a) _ (f .l2 a) _ (f .m b) _ (f .l1 b) _ (f .l2 b)
+    at-add =
+        open3 (numbers w) _ _ _ ∙ sum-opens w (numbers w) (number-carrier w) _ (f .m a) _ (f .l1 a) _ (f .l2 a) _ (f .m b) _ (f .l1 b)
+        _ (f .l2 b)
 
     pub at-sub : num w A B hA hB (after w A B hA hB (Sub d a b) G) d ≡ sub w (num w A B hA hB G a) (num w A B hA hB G b)
     unfolding after num act meaning
-    at-sub = open3 (numbers w) _ _ _ ∙ difference-opens w (numbers w) (number-carrier w) _ (f .m a) _ (f .l1 a) _ (f .l2 a) _ (f .m b) _ (f .l1 b) _ (f .l2 b)
+    at-sub =
+        open3 (numbers w) _ _ _ ∙ difference-opens w (numbers w) (number-carrier w) _ (f .m a) _ (f .l1 a) _ (f .l2 a) _ (f .m b)
+        _ (f .l1 b) _ (f .l2 b)
 
     pub at-xor : bin w A B hA hB (after w A B hA hB (Xor d a b) G) d ≡ bitXor (bin w A B hA hB G a) (bin w A B hA hB G b)
     unfolding after bin act meaning
-    at-xor = open3 (bits w) _ _ _ ∙ sum-opens w (bits w) (bit-carrier w) _ (f .m a) _ (f .l1 a) _ (f .l2 a) _ (f .m b) _ (f .l1 b) _ (f .l2 b)
+    at-xor =
+        open3 (bits w) _ _ _ ∙ sum-opens w (bits w) (bit-carrier w) _ (f .m a) _ (f .l1 a) _ (f .l2 a) _ (f .m b) _ (f .l1 b) _ (f .l2 b)
 
     pub at-mul : num w A B hA hB (after w A B hA hB (Mul d a b) G) d ≡ mul w (num w A B hA hB G a) (num w A B hA hB G b)
     unfolding after num act meaning meet joint1 joint2 say1 say2 part2 new-at
     at-mul =
         open3 (numbers w) _ _ _
-        ∙ product-opens w (numbers w) (number-carrier w) _ (f .m a) _ (f .l1 a) _ (f .l2 a) _ (f .m b) _ (f .l1 b) _ (f .l2 b) _ (hA (c .a)) _ (hA (suc (c .a))) _ (hB (c .b))
+        ∙ product-opens w (numbers w) (number-carrier w) _ (f .m a) _ (f .l1 a) _ (f .l2 a) _ (f .m b) _ (f .l1 b) _ (f .l2 b) _ (hA (c .a))
+        _ (hA (suc (c .a))) _ (hB (c .b))
 
     pub at-and : bin w A B hA hB (after w A B hA hB (And d a b) G) d ≡ bitAnd (bin w A B hA hB G a) (bin w A B hA hB G b)
     unfolding after bin act meaning meet joint1 joint2 say1 say2 part2 new-at
     at-and =
         open3 (bits w) _ _ _
-        ∙ product-opens w (bits w) (bit-carrier w) _ (f .m a) _ (f .l1 a) _ (f .l2 a) _ (f .m b) _ (f .l1 b) _ (f .l2 b) _ (hA (c .a)) _ (hA (suc (c .a))) _ (hB (c .b))
+        ∙ product-opens w (bits w) (bit-carrier w) _ (f .m a) _ (f .l1 a) _ (f .l2 a) _ (f .m b) _ (f .l1 b) _ (f .l2 b) _ (hA (c .a))
+        _ (hA (suc (c .a))) _ (hB (c .b))
 
   module _ (a : ℕ) where
     pub at-refresh : num w A B hA hB (after w A B hA hB (Refresh d a) G) d ≡ num w A B hA hB G a
     unfolding after num act meaning meet joint1 joint2 say1 say2 new-at
-    at-refresh = open3 (numbers w) _ _ _ ∙ refresh-opens w (numbers w) (number-carrier w) _ (f .m a) _ (f .l1 a) _ (f .l2 a) _ (hA (c .a)) _ (hB (c .b))
+    at-refresh =
+        open3 (numbers w) _ _ _ ∙ refresh-opens w (numbers w) (number-carrier w) _ (f .m a) _ (f .l1 a) _ (f .l2 a) _ (hA (c .a))
+        _ (hB (c .b))
 
     pub at-scale : (n : ℕ) → num w A B hA hB (after w A B hA hB (Scale d a n) G) d ≡ mul w (num w A B hA hB G a) n
     unfolding after num act meaning mul
     at-scale n =
         open3 (numbers w) _ _ _ ∙ ap₂ (sub w) (reduce (at (j .0) a)) (ap₂ (add w) (reduce (at (j .1) a)) (reduce (at (j .2) a)))
-        ∙ scale-opens w (numbers w) (number-carrier w) _ (f .m a) _ (f .l1 a) _ (f .l2 a) (n % 2 ^ w) (mod-lt n (pow-pos w)) ∙ sym (reduce _)
+        ∙ scale-opens w (numbers w) (number-carrier w) _ (f .m a) _ (f .l1 a) _ (f .l2 a) (n % 2 ^ w) (mod-lt n (pow-pos w))
+        ∙ sym (reduce _)
       where
         reduce : (x : ℕ) → x * n % 2 ^ w ≡ x * (n % 2 ^ w) % 2 ^ w
         reduce x = sym (mul-mod-mod x n (2 ^ w))
@@ -115,11 +128,13 @@ module _ (w : ℕ) (A B : List ℕ) (hA : Fits w A) (hB : Fits w B) (G : Point w
     unfolding after bin m-of act meaning
     at-public-bits p = open3 (bits w) _ _ _ ∙ known-opens w (bits w) (bit-carrier w) _ (part-lt w p _ (f .m a))
 
-    pub at-deal : (p : Dealt) → num w A B hA hB (after w A B hA hB (Deal d a p) G) d ≡ dealt-of w p (l1-of w A B hA hB G a) (l2-of w A B hA hB G a)
+    pub at-deal : (p : Dealt)
+        → num w A B hA hB (after w A B hA hB (Deal d a p) G) d ≡ dealt-of w p (l1-of w A B hA hB G a) (l2-of w A B hA hB G a)
     unfolding after num l1-of l2-of act meaning
     at-deal p = open3 (numbers w) _ _ _ ∙ deal-opens w (numbers w) (number-carrier w) _ (dealt-lt w p _ _ (f .l1 a) (f .l2 a)) _ (hA (c .a))
 
-    pub at-deal-bits : bin w A B hA hB (after w A B hA hB (DealBits d a) G) d ≡ neg w (add w (l1-of w A B hA hB G a) (l2-of w A B hA hB G a))
+    pub at-deal-bits : bin w A B hA hB (after w A B hA hB (DealBits d a) G) d
+        ≡ neg w (add w (l1-of w A B hA hB G a) (l2-of w A B hA hB G a))
     unfolding after bin l1-of l2-of act meaning
     at-deal-bits = open3 (bits w) _ _ _ ∙ deal-opens w (bits w) (bit-carrier w) _ (neg-lt w _) _ (hA (c .a))
 

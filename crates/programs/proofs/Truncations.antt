@@ -19,7 +19,8 @@ use Rattle.gates.specs.Meaning.{part, dealt-of}
 use Rattle.gates.specs.Hosts.{share}
 use Rattle.programs.specs.Programs.{adder, to-number, slack-program, one-bit-program, exact-program}
 use Rattle.programs.proofs.Gates.{Fits}
-use Rattle.programs.proofs.Points.{Other, target, Point, after, afters, afters-append, num, bin, m-of, l1-of, l2-of, keep-m, keep-l1, keep-l2, keep-share, keep-num, keep-bin}
+use Rattle.programs.proofs.Points.{Other, target, Point, after, afters, afters-append, num, bin, m-of, l1-of, l2-of, keep-m, keep-l1}
+use Rattle.programs.proofs.Points.{keep-l2, keep-share, keep-num, keep-bin}
 use Rattle.programs.proofs.Targets.{at-add, at-sub, at-mul, at-scale, at-plus, at-bit, at-public, at-deal, m-plus, l1-plus, l2-plus}
 use Rattle.programs.proofs.Blocks.{digit-bit, number-opens, number-keeps, adder-opens, adder-keeps}
 
@@ -36,11 +37,13 @@ module _ (w : ℕ) (A B : List ℕ) (hA : Fits w A) (hB : Fits w B) where
 
   module _ (k x d : ℕ) (G : Pt) (hd : ltb d 24 ≡ true) where
     -- kind 6
-    pub slack-opens : eqb x 16 ≡ false → num w A B hA hB (run (slack-program k x d) G) d ≡ large-slack w k (m-of w A B hA hB G x) (mask-of G x)
+    pub slack-opens : eqb x 16 ≡ false
+        → num w A B hA hB (run (slack-program k x d) G) d ≡ large-slack w k (m-of w A B hA hB G x) (mask-of G x)
     unfolding slack-program afters target dealt-of part large-slack
     slack-opens x16 = simp (at-add, at-deal, at-public, keep-num, keep-m)
 
-    pub slack-keeps : (i : ℕ) → eqb i 16 ≡ false → eqb i 17 ≡ false → eqb i d ≡ false → share (run (slack-program k x d) G .j) i ≡ share (G .j) i
+    pub slack-keeps : (i : ℕ) → eqb i 16 ≡ false → eqb i 17 ≡ false → eqb i d ≡ false
+        → share (run (slack-program k x d) G .j) i ≡ share (G .j) i
     unfolding slack-program afters target
     slack-keeps i i16 i17 id = simp keep-share
 
@@ -52,7 +55,23 @@ module _ (w : ℕ) (A B : List ℕ) (hA : Fits w A) (hB : Fits w B) where
     pub one-bit-opens : num w A B hA hB (run (one-bit-program w k x d) G) d ≡ one-bit w k (m-of w A B hA hB G x) (mask-of G x)
     unfolding one-bit-program afters target dealt-of part one-bit bit-number shr bit
     one-bit-opens =
-        simp (at-plus, at-add, at-sub, at-scale, at-mul, at-public, at-deal, keep-num, keep-m, keep-l1, keep-l2, m-plus, l1-plus, l2-plus, times-comm w 2)
+        simp (
+          at-plus,
+          at-add,
+          at-sub,
+          at-scale,
+          at-mul,
+          at-public,
+          at-deal,
+          keep-num,
+          keep-m,
+          keep-l1,
+          keep-l2,
+          m-plus,
+          l1-plus,
+          l2-plus,
+          times-comm w 2,
+        )
         (sym (sub-is w _ _))
 
   -- a field of all w bits is the shift alone
@@ -104,9 +123,12 @@ module _ (w : ℕ) (A B : List ℕ) (hA : Fits w A) (hB : Fits w B) where
   module _ (i : ℕ) (G : Pt) (low : 2 ≤ w) where
     taken-opens : num w A B hA hB (run (Bit 20 18 i ∷ to-number w) G) 20 ≡ bit (bin w A B hA hB G 18) i
     unfolding afters
-    taken-opens = number-opens w A B hA hB (after w A B hA hB (Bit 20 18 i) G) low (digit-bit w A B hA hB G 20 18 i refl) ∙ at-bit w A B hA hB G 20 refl 18 i
+    taken-opens =
+        number-opens w A B hA hB (after w A B hA hB (Bit 20 18 i) G) low (digit-bit w A B hA hB G 20 18 i refl)
+        ∙ at-bit w A B hA hB G 20 refl 18 i
 
-    taken-keeps : (q : ℕ) → eqb q 17 ≡ false → eqb q 19 ≡ false → eqb q 20 ≡ false → share (run (Bit 20 18 i ∷ to-number w) G .j) q ≡ share (G .j) q
+    taken-keeps : (q : ℕ) → eqb q 17 ≡ false → eqb q 19 ≡ false → eqb q 20 ≡ false
+        → share (run (Bit 20 18 i ∷ to-number w) G .j) q ≡ share (G .j) q
     unfolding afters target
     taken-keeps q q17 q19 q20 = number-keeps w A B hA hB (after w A B hA hB (Bit 20 18 i) G) q q17 q19 q20 ∙ (simp keep-share)
 
@@ -154,14 +176,17 @@ module _ (w : ℕ) (A B : List ℕ) (hA : Fits w A) (hB : Fits w B) where
     unfolding afters target mul
     exact-end = simp (at-plus, at-sub, at-scale, keep-num, mul-mod-mod)
 
-    exact-parts : run (exact-program w k x d) G ≡ run (Scale 20 20 (2 ^ (w - k) % 2 ^ w) ∷ Sub 23 23 20 ∷ Plus d 23 (neg w (2 ^ (w - 1 - k))) ∷ []) second
+    exact-parts : run (exact-program w k x d) G
+        ≡ run (Scale 20 20 (2 ^ (w - k) % 2 ^ w) ∷ Sub 23 23 20 ∷ Plus d 23 (neg w (2 ^ (w - 1 - k))) ∷ []) second
     unfolding exact-program afters
     exact-parts =
-        let P : List Gate = Plus 21 x (2 ^ (w - 1)) ∷ Deal 23 21 (OfNegated (Field k w)) ∷ Public 20 21 (Field k w) ∷ Add 23 23 20 ∷ adder w 21 in
+        let P : List Gate = Plus 21 x (2 ^ (w - 1)) ∷ Deal 23 21 (OfNegated (Field k w)) ∷ Public 20 21 (Field k w) ∷ Add 23 23 20
+        ∷ adder w 21 in
         let Q : List Gate = Bit 20 18 (k - 1) ∷ to-number w in
         let R : List Gate = Add 23 23 20 ∷ Bit 20 18 (w - 1) ∷ to-number w in
         let S : List Gate = Scale 20 20 (2 ^ (w - k) % 2 ^ w) ∷ Sub 23 23 20 ∷ Plus d 23 (neg w (2 ^ (w - 1 - k))) ∷ [] in
-        afters-append w A B hA hB (P ++ Q ++ R) S G ∙ ap (run S) (afters-append w A B hA hB (P ++ Q) R G ∙ ap (run R) (afters-append w A B hA hB P Q G))
+        afters-append w A B hA hB (P ++ Q ++ R) S G
+        ∙ ap (run S) (afters-append w A B hA hB (P ++ Q) R G ∙ ap (run R) (afters-append w A B hA hB P Q G))
 
     pub exact-opens : num w A B hA hB (run (exact-program w k x d) G) d ≡ exact w k (m-of w A B hA hB G x) (mask-of G x)
     unfolding exact

@@ -2,3 +2,4 @@ pub mod Programs
 pub mod Orders
 pub mod Opens
 pub mod Costs
+pub mod Sizes

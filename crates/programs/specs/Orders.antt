@@ -1,4 +1,5 @@
--- Document 01, "Orders": the gates of an order, "four words: kind, target, first source, fourth word". Assumes nothing.
+-- Document 01, "Orders": the gates of an order, "four words: kind, target, first source, fourth word".
+-- Assumes nothing.
 use mathlib.Core.List.{List, [], _∷_}
 use Prim.Native.Nat.{ℕ, zero, suc}
 use lib.ListN.{getD}
@@ -6,7 +7,8 @@ use Rattle.gates.specs.declared.Gate.{Gate}
 use Rattle.gates.specs.declared.Gate.the-variants.{Add, Sub, Mul, Refresh, Scale, Plus}
 use Rattle.tables.specs.Table.{Row}
 use Rattle.programs.specs.declared.Order.{Order}
-use Rattle.programs.specs.Programs.{relu-program, slack-program, one-bit-program, exact-program, curve-exact, curve-one-bit}
+use Rattle.programs.specs.Programs.{relu-program, slack-program, one-bit-program, exact-program, curve-exact}
+use Rattle.programs.specs.Programs.{curve-one-bit}
 
 -- "10 curve, mode 0 exact, 1 one-bit"
 unfoldable pub curve-program : (w x d : ℕ) → List Row → (mode : ℕ) → List Gate
@@ -14,11 +16,14 @@ curve-program w x d ps zero = curve-exact w x d ps
 curve-program w x d ps (suc m) = curve-one-bit w x d ps
 
 -- the gates of each kind, in the kinds' order, for target d, source a and fourth word c:
--- "0 add. 1 subtract. 2 add constant (to m). 3 times constant. 4 product. 5 refresh. 6 large slack. 7 one-bit. 8 exact. 9 ReLU. 10 curve"
+-- "0 add. 1 subtract. 2 add constant (to m). 3 times constant. 4 product. 5 refresh. 6 large slack. 7 one-bit.
+-- 8 exact. 9 ReLU. 10 curve"
 unfoldable pub kinds : (w : ℕ) → List Row → (d a c : ℕ) → List (List Gate)
 kinds w ps d a c =
-    (Add d a c ∷ []) ∷ (Sub d a c ∷ []) ∷ (Plus d a c ∷ []) ∷ (Scale d a c ∷ []) ∷ (Mul d a c ∷ []) ∷ (Refresh d a ∷ [])
-    ∷ slack-program c a d ∷ one-bit-program w c a d ∷ exact-program w c a d ∷ relu-program w a d ∷ curve-program w a d ps c ∷ []
+    (Add d a c ∷ []) ∷ (Sub d a c ∷ []) ∷ (Plus d a c ∷ []) ∷ (Scale d a c ∷ []) ∷ (Mul d a c ∷ [])
+    ∷ (Refresh d a ∷ [])
+    ∷ slack-program c a d ∷ one-bit-program w c a d ∷ exact-program w c a d ∷ relu-program w a d
+    ∷ curve-program w a d ps c ∷ []
 
 -- an order's gates; none for a kind above 10, which is turned down
 unfoldable pub program : ℕ → List Row → Order → List Gate

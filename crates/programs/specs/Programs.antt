@@ -1,4 +1,5 @@
--- Document 01, "Adder, bits and sign", "Orders" and "The curve": the gates of each kind, in order. Slot x is the source, d the target. Assumes nothing.
+-- Document 01, "Adder, bits and sign", "Orders" and "The curve": the gates of each kind, in order. Slot x is the
+-- source, d the target. Assumes nothing.
 use mathlib.Core.List.{List, [], _∷_, _++_}
 use Prim.Native.Nat.{ℕ, _+_, _-_, _*_, _%_, _^_}
 use lib.IntN.{ℤ, pos}
@@ -7,7 +8,8 @@ use Rattle.truncations.specs.Adder.{Update, generate, propagate, distances, upd
 use Rattle.gates.specs.declared.Part.the-variants.{Field, Signed}
 use Rattle.gates.specs.declared.Dealt.the-variants.{OfSum, OfNegated, OfBits}
 use Rattle.gates.specs.declared.Gate.{Gate}
-use Rattle.gates.specs.declared.Gate.the-variants.{Add, Sub, Xor, Mul, And, Refresh, Scale, Plus, Up, Bit, Const, Public, Deal, DealBits}
+use Rattle.gates.specs.declared.Gate.the-variants.{Add, Sub, Xor, Mul, And, Refresh, Scale, Plus, Up, Bit, Const}
+use Rattle.gates.specs.declared.Gate.the-variants.{Public, Deal, DealBits}
 use Rattle.tables.specs.Table.{Row}
 use Rattle.curves.specs.Curve.{slope-after, coefficient}
 
@@ -36,7 +38,8 @@ acc-slot = 22
 abbrev pub res-slot : ℕ
 res-slot = 23
 
--- one product of the adder, with its shift: "G becomes G xor (P and (G shifted up)), then P becomes P and (P shifted up)"
+-- one product of the adder, with its shift: "G becomes G xor (P and (G shifted up)), then P becomes P and
+-- (P shifted up)"
 unfoldable pub update-gates : Update → List Gate → List Gate
 update-gates (generate D) rest = Up s-slot g-slot D ∷ And t-slot p-slot s-slot ∷ Xor g-slot g-slot t-slot ∷ rest
 update-gates (propagate D) rest = Up s-slot p-slot D ∷ And p-slot p-slot s-slot ∷ rest
@@ -45,16 +48,19 @@ unfoldable pub rounds : List Update → List Gate
 rounds [] = []
 rounds (u ∷ us) = update-gates u (rounds us)
 
--- "The adder deals n as bits, takes m as known bits, P = m xor n, G = m and n"; the top bit of m xor n is kept in n's slot, for the sign
+-- "The adder deals n as bits, takes m as known bits, P = m xor n, G = m and n"; the top bit of m xor n is kept in n's
+-- slot, for the sign
 unfoldable pub adder : (w x : ℕ) → List Gate
 adder w x =
-    DealBits n-slot x ∷ Public p-slot x (Field 0 w) ∷ And g-slot p-slot n-slot ∷ Xor p-slot p-slot n-slot ∷ Bit n-slot p-slot (w - 1)
+    DealBits n-slot x ∷ Public p-slot x (Field 0 w) ∷ And g-slot p-slot n-slot ∷ Xor p-slot p-slot n-slot
+    ∷ Bit n-slot p-slot (w - 1)
     ∷ rounds (updates (distances w))
 
 -- "A bit q = mq xor Lq becomes a number: deal Lq, known mq, one product, mq + Lq - 2 × mq × Lq": the bit in slot t
 unfoldable pub to-number : (w : ℕ) → List Gate
 to-number w =
-    Deal s-slot t-slot OfBits ∷ Public p-slot t-slot (Field 0 w) ∷ Mul t-slot p-slot s-slot ∷ Scale t-slot t-slot 2
+    Deal s-slot t-slot OfBits ∷ Public p-slot t-slot (Field 0 w) ∷ Mul t-slot p-slot s-slot
+    ∷ Scale t-slot t-slot 2
     ∷ Add p-slot p-slot s-slot ∷ Sub t-slot p-slot t-slot ∷ []
 
 -- kind 9: "sign to number, then product of x with 1 - s"; "Sign s: bit 31 of (m xor n), xor bit 30 of G"
@@ -65,27 +71,35 @@ relu-program w x d =
 
 -- kind 6
 unfoldable pub slack-program : (k x d : ℕ) → List Gate
-slack-program k x d = Deal n-slot x (OfNegated (Signed k)) ∷ Public p-slot x (Signed k) ∷ Add d n-slot p-slot ∷ []
+slack-program k x d =
+    Deal n-slot x (OfNegated (Signed k)) ∷ Public p-slot x (Signed k) ∷ Add d n-slot p-slot ∷ []
 
 -- kind 7: "c' - r' + b × 2^(31-k) - 2^(30-k)"
 unfoldable pub one-bit-program : (w k x d : ℕ) → List Gate
 one-bit-program w k x d =
-    Plus y-slot x (2 ^ (w - 2)) ∷ Deal n-slot y-slot (OfSum (Field k (w - 1 - k))) ∷ Deal p-slot y-slot (OfSum (Field (w - 1) 1))
-    ∷ Public g-slot y-slot (Field k (w - 1 - k)) ∷ Public s-slot y-slot (Field (w - 1) 1) ∷ Mul t-slot s-slot p-slot ∷ Scale t-slot t-slot 2
-    ∷ Add p-slot s-slot p-slot ∷ Sub p-slot p-slot t-slot ∷ Scale p-slot p-slot (2 ^ (w - 1 - k)) ∷ Sub g-slot g-slot n-slot
+    Plus y-slot x (2 ^ (w - 2)) ∷ Deal n-slot y-slot (OfSum (Field k (w - 1 - k)))
+    ∷ Deal p-slot y-slot (OfSum (Field (w - 1) 1))
+    ∷ Public g-slot y-slot (Field k (w - 1 - k)) ∷ Public s-slot y-slot (Field (w - 1) 1)
+    ∷ Mul t-slot s-slot p-slot ∷ Scale t-slot t-slot 2
+    ∷ Add p-slot s-slot p-slot ∷ Sub p-slot p-slot t-slot ∷ Scale p-slot p-slot (2 ^ (w - 1 - k))
+    ∷ Sub g-slot g-slot n-slot
     ∷ Add g-slot g-slot p-slot ∷ Plus d g-slot (neg w (2 ^ (w - 2 - k))) ∷ []
 
 -- kind 8: "sum + b1 - b2 × 2^(32-k) - 2^(31-k)"
 unfoldable pub exact-program : (w k x d : ℕ) → List Gate
 exact-program w k x d =
-    (Plus y-slot x (2 ^ (w - 1)) ∷ Deal res-slot y-slot (OfNegated (Field k w)) ∷ Public t-slot y-slot (Field k w) ∷ Add res-slot res-slot t-slot ∷ adder w y-slot)
-    ++ (Bit t-slot g-slot (k - 1) ∷ to-number w) ++ (Add res-slot res-slot t-slot ∷ Bit t-slot g-slot (w - 1) ∷ to-number w)
-    ++ (Scale t-slot t-slot (2 ^ (w - k) % 2 ^ w) ∷ Sub res-slot res-slot t-slot ∷ Plus d res-slot (neg w (2 ^ (w - 1 - k))) ∷ [])
+    (Plus y-slot x (2 ^ (w - 1)) ∷ Deal res-slot y-slot (OfNegated (Field k w)) ∷ Public t-slot y-slot (Field k w)
+    ∷ Add res-slot res-slot t-slot ∷ adder w y-slot)
+    ++ (Bit t-slot g-slot (k - 1) ∷ to-number w)
+    ++ (Add res-slot res-slot t-slot ∷ Bit t-slot g-slot (w - 1) ∷ to-number w)
+    ++ (Scale t-slot t-slot (2 ^ (w - k) % 2 ^ w) ∷ Sub res-slot res-slot t-slot
+    ∷ Plus d res-slot (neg w (2 ^ (w - 1 - k))) ∷ [])
 
 -- the ReLU of x - r, times the change of slope at r, added to the sum
 unfoldable pub row-program : (w x r coefficient : ℕ) → List Gate
 row-program w x r k =
-    (Plus y-slot x (neg w r) ∷ relu-program w y-slot res-slot) ++ (Scale res-slot res-slot k ∷ Add acc-slot acc-slot res-slot ∷ [])
+    (Plus y-slot x (neg w r) ∷ relu-program w y-slot res-slot)
+    ++ (Scale res-slot res-slot k ∷ Add acc-slot acc-slot res-slot ∷ [])
 
 -- "Each row's ReLU runs in row order"
 unfoldable pub rows-program : (w x : ℕ) (before : ℤ) → List Row → List Gate

@@ -19,14 +19,18 @@ use Rattle.curves.specs.Curve.{scaled}
 use Rattle.tables.proofs.HouseTable.{house-keeps-rules}
 use Rattle.gates.specs.Steps.{at}
 use Rattle.gates.specs.Meaning.{job-steps}
-use Rattle.gates.specs.Costs.{Cost, cost-of}
+use Rattle.gates.specs.Costs.{Cost, cost-of, plus}
 use Rattle.programs.specs.Programs.{sum-program}
 use Rattle.programs.specs.Orders.{curve-program, kinds, program}
 use Rattle.programs.specs.Opens.{curve-value, values, order-value}
 use Rattle.programs.specs.Costs.{program-cost}
-use Rattle.programs.proofs.Costs.{sum-cost, curve-exact-cost, curve-one-bit-cost}
+use Rattle.programs.specs.Sizes.{Size, plus-size, times-cost, times-size}
+use Rattle.programs.proofs.Sizes.{sum-sized, row-32}
 use Rattle.programs.proofs.Calibration.{ranged, exact-curve, one-bit-curve}
 use Rattle.jobs.specs.Job.{orders, ill-sized, unknown-kind, unknown-register, two-sources, ill-fourths, ill-fourth, order-fault}
+use Rattle.jobs.specs.Walk.{curve-cost, kind-costs, kind-cost}
+use Rattle.jobs.specs.CostTable.{table-counts}
+use Rattle.jobs.proofs.CostTable.{cost-table}
 use Rattle.jobs.specs.Job.{fault-at, orders-fault, job-fault, job-gates, steps-of, job-cost}
 use Rattle.calls.specs.Scripts.{job-script, script-cost}
 use Rattle.calls.specs.Lent.{or-else, dealer-lists-fault, dealer-fault}
@@ -73,9 +77,11 @@ unfolding refresh-L
 mask-lt = add-lt 32 _ _
 
 job-counts : (mode : ℕ) → job-cost 32 (trial-job mode) house ≡ counts mode
-unfolding job-cost steps-of job-steps job-gates orders program kinds curve-program program-cost counts
-job-counts zero = curve-exact-cost 0 0 (rows house) ∙ ap (λ (n : ℕ). cost-of (14 * n + 16) (24 * n + 24) (26 * n + 28) (12 * n + 12)) eight
-job-counts (suc m) = curve-one-bit-cost 0 0 (rows house) ∙ ap (λ (n : ℕ). cost-of (14 * n + 3) (24 * n + 4) (26 * n + 5) (12 * n + 2)) eight
+unfolding orders counts table-counts kind-cost kind-costs curve-cost plus
+job-counts zero =
+    cost-table .job-counts (trial-job 0) house ∙ ap (λ (n : ℕ). table-counts n (orders (trial-job 0))) eight
+job-counts (suc m) =
+    cost-table .job-counts (trial-job 1) house ∙ ap (λ (n : ℕ). table-counts n (orders (trial-job 1))) eight
 
 script-counts : (mode : ℕ) → script-cost (job-script 32 (trial-job mode) house) ≡ counts mode
 unfolding job-cost
@@ -173,12 +179,12 @@ module _ (mode m l1 l2 : ℕ) where
     source-is = refl
 
     place-a : used-before 32 S 0 .a + program-cost 32 (sum-program 32 (order-of S 0 .source) (rows (S .table))) .a ≡ 208
-    unfolding used-before first-counts order-of orders
-    place-a = zero-add _ ∙ ap (λ (k : Cost). k .a) (sum-cost 0 (rows house)) ∙ ap (λ (n : ℕ). 26 * n) eight
+    unfolding used-before first-counts order-of orders plus-size times-size times-cost plus
+    place-a = zero-add _ ∙ ap (λ (z : Size). z .cost .a) (sum-sized 32 0 (rows house)) ∙ rw (eight, row-32)
 
     place-b : used-before 32 S 0 .b + program-cost 32 (sum-program 32 (order-of S 0 .source) (rows (S .table))) .b ≡ 96
-    unfolding used-before first-counts order-of orders
-    place-b = zero-add _ ∙ ap (λ (k : Cost). k .b) (sum-cost 0 (rows house)) ∙ ap (λ (n : ℕ). 12 * n) eight
+    unfolding used-before first-counts order-of orders plus-size times-size times-cost plus
+    place-b = zero-add _ ∙ ap (λ (z : Size). z .cost .b) (sum-sized 32 0 (rows house)) ∙ rw (eight, row-32)
 
     mask-is : refresh-mask 32 S 0 ≡ refresh-L
     unfolding refresh-mask refresh-L
@@ -208,10 +214,10 @@ module _ (mode m l1 l2 : ℕ) where
         → signed 32 (curve-value 32 (rows house) (mode-word n) x refresh-L) ≡ Spec.value n z
     unfolding Spec.value Spec.Y
     curve-is zero z e r =
-        exact-curve house house-keeps-rules x (sub-lt 32 _ _) (ranged (rw e r)) refresh-L
+        exact-curve 32 (lit≤ tt) house house-keeps-rules x (sub-lt 32 _ _) (ranged (rw e r)) refresh-L
         ∙ ap (λ (y : ℤ). floor (scaled (rows house) y) 4096) e
     curve-is (suc n) z e r =
-        one-bit-curve house house-keeps-rules x (sub-lt 32 _ _) (ranged (rw e r)) refresh-L 0 mask-lt
+        one-bit-curve 32 (lit≤ tt) house house-keeps-rules x (sub-lt 32 _ _) (ranged (rw e r)) refresh-L 0 mask-lt
         ∙ ap (λ (y : ℤ). floor (scaled (rows house) y) 4096 +ℤ pos (slip 12 (wrap 12 (scaled (rows house) y)) refresh-L)) e
 
     -- "exactly floor(Y / 4096) in exact mode"; in one-bit mode that, or one more

@@ -46,7 +46,8 @@ rising-test : (p : Row) (ps : List Row) → Rising p ps → T (rises (p ∷ ps))
 unfolding rises
 rising-test p [] h = fits-test p h
 rising-test p (q ∷ ps) h =
-    and (row-fits p && ltb (p .r) (q .r)) (rises (q ∷ ps)) (and (row-fits p) (ltb (p .r) (q .r)) (fits-test p (h .0)) (lt→ltb (p .r) (q .r) (h .1))) (rising-test q ps (h .2))
+    and (row-fits p && ltb (p .r) (q .r)) (rises (q ∷ ps))
+    (and (row-fits p) (ltb (p .r) (q .r)) (fits-test p (h .0)) (lt→ltb (p .r) (q .r) (h .1))) (rising-test q ps (h .2))
 
 pub head-fits : (p : Row) (ps : List Row) → Rising p ps → Fits p
 head-fits p [] h = h
@@ -59,7 +60,8 @@ fits-at p ps h zero l = head-fits p ps h
 fits-at p [] h (suc k) l = absurd (omega arith)
 fits-at p (q ∷ ps) h (suc k) l = fits-at q ps (h .2) k (omega arith)
 
-pub rises-at : (p : Row) (ps : List Row) → Rising p ps → (k : ℕ) → suc k < length (p ∷ ps) → row-at (p ∷ ps) k .r < row-at (p ∷ ps) (suc k) .r
+pub rises-at : (p : Row) (ps : List Row) → Rising p ps → (k : ℕ) → suc k < length (p ∷ ps)
+    → row-at (p ∷ ps) k .r < row-at (p ∷ ps) (suc k) .r
 rises-at p [] h k l = absurd (omega arith)
 rises-at p (q ∷ ps) h zero l = h .1
 rises-at p (q ∷ ps) h (suc k) l = rises-at q ps (h .2) k (omega arith)
@@ -88,7 +90,8 @@ tested ws t =
     record { even = d .0; at-least = d .1; at-most = b .1; rise = a .1 }
 
 -- a law of rising rows is one of every table that keeps the rules
-pub for-table : (P : List Row → Type 0) → ((p : Row) (ps : List Row) → Rising p ps → P (p ∷ ps)) → (ws : List ℕ) → T (keeps-rules ws) → P (rows ws)
+pub for-table : (P : List Row → Type 0) → ((p : Row) (ps : List Row) → Rising p ps → P (p ∷ ps)) → (ws : List ℕ) → T (keeps-rules ws)
+    → P (rows ws)
 for-table P h ws t = go (rows ws) (leb→le 2 (length (rows ws)) (tested ws t .at-least)) (tested ws t .rise)
   where
     go : (ps : List Row) → 2 ≤ length ps → T (rises ps) → P ps
@@ -117,7 +120,8 @@ unfolding keeps-rules
 test-of ws h =
     let n : ℕ = length (rows ws) in
     and (paired ws && leb 2 n && leb n 16) (rises (rows ws))
-    (and (paired ws && leb 2 n) (leb n 16) (and (paired ws) (leb 2 n) (even (paired ws) refl) (le→leb 2 n (h .at-least))) (le→leb n 16 (h .at-most)))
+    (and (paired ws && leb 2 n) (leb n 16) (and (paired ws) (leb 2 n) (even (paired ws) refl) (le→leb 2 n (h .at-least)))
+    (le→leb n 16 (h .at-most)))
     (rise (rows ws) (h .at-least) (λ k l. (h .count-fits k l, h .value-fits k l)) (h .count-rises))
   where
     even : (b : Bool) → paired ws ≡ b → T b

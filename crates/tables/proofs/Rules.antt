@@ -54,7 +54,8 @@ module _ (ws : List ℕ) (i : ℕ) (so-far : rises (rows ws) ≡ rises (rows (dr
   unfolding rises
   no-row h = rw (so-far, no-rows (drop i ws) (rw (length-drop i ws) h))
 
-  pub last-row : length ws - i < 4 → 2 ≤ length ws - i → {b : Bool} → b ≡ row-fits (row (getD ws i 0) (getD ws (i + 1) 0)) → b ≡ rises (rows ws)
+  pub last-row : length ws - i < 4 → 2 ≤ length ws - i → {b : Bool} → b ≡ row-fits (row (getD ws i 0) (getD ws (i + 1) 0))
+      → b ≡ rises (rows ws)
   unfolding rises
   last-row h k e = rw (so-far, words-at ws i (omega arith), no-rows (drop (i + 2) ws) (rw (length-drop (i + 2) ws) (omega arith))) e
 
@@ -90,8 +91,18 @@ module _ (ws : List ℕ) where
 
     pub too-many : 4 ≤ length ws → 32 < length ws → false ≡ keeps-rules ws
     unfolding keeps-rules
-    too-many h k = rw (all-paired .0, le-leb 2 (length (rows ws)) (omega (arith, all-paired)), lt-leb (length (rows ws)) 16 (omega (arith, all-paired)))
+    too-many h k =
+        rw (
+          all-paired .0,
+          le-leb 2 (length (rows ws)) (omega (arith, all-paired)),
+          lt-leb (length (rows ws)) 16 (omega (arith, all-paired)),
+        )
 
     pub enough : 4 ≤ length ws → length ws ≤ 32 → rises (rows ws) ≡ keeps-rules ws
     unfolding keeps-rules
-    enough h k = rw (all-paired .0, le-leb 2 (length (rows ws)) (omega (arith, all-paired)), le-leb (length (rows ws)) 16 (omega (arith, all-paired)))
+    enough h k =
+        rw (
+          all-paired .0,
+          le-leb 2 (length (rows ws)) (omega (arith, all-paired)),
+          le-leb (length (rows ws)) 16 (omega (arith, all-paired)),
+        )

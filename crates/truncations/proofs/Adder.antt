@@ -59,7 +59,13 @@ module _ (w m n : ℕ) where
       let e : d + (i - d) ≡ i = omega arith in
       let c : suc i - d ≡ suc (i - d) = omega arith in
       let f : suc (i - d) - d ≡ suc i - (d + d) = omega arith in
-      rw (c, W (i - d) (omega arith), f, rw e at (bit-shl-high w d g (i - d) (omega arith)), rw e at (bit-shl-high w d p (i - d) (omega arith)))
+      rw (
+        c,
+        W (i - d) (omega arith),
+        f,
+        rw e at (bit-shl-high w d g (i - d) (omega arith)),
+        rw e at (bit-shl-high w d p (i - d) (omega arith)),
+      )
       (compose _ _ _ _ _ (bit-lt g i) (bit-lt p i) (bit-lt g (i - d)) (bit-lt p (i - d)) (carry-lt m n (suc i - (d + d)))))
       (λ (k : i < d).
       let c : suc i - d ≡ 0 = omega arith in
@@ -78,10 +84,12 @@ module _ (w m n : ℕ) where
   distance d [] g p = refl
   distance d (e ∷ ds) g p = refl
 
-  all : (f d g p : ℕ) → 1 ≤ d → w ≤ d + f → Window d g p → (i : ℕ) → i < w → bit (run w (updates (doubled f d w)) (g, p) .0) i ≡ carry m n (suc i)
+  all : (f d g p : ℕ) → 1 ≤ d → w ≤ d + f → Window d g p → (i : ℕ) → i < w
+      → bit (run w (updates (doubled f d w)) (g, p) .0) i ≡ carry m n (suc i)
   unfolding doubled run updates
   all zero d g p o l W i h = last d g p (omega arith) W i h
-  all (suc f) d g p o l W i h = go (ltb d w) refl (all f (d + d) (spread w d g p) (narrow w d p) (omega arith) (omega arith) (step d g p W) i h)
+  all (suc f) d g p o l W i h =
+      go (ltb d w) refl (all f (d + d) (spread w d g p) (narrow w d p) (omega arith) (omega arith) (step d g p W) i h)
     where
       go : (b : Bool) → ltb d w ≡ b → bit (run w (updates (doubled f (d + d) w)) (spread w d g p, narrow w d p) .0) i ≡ carry m n (suc i)
           → bit (run w (updates (cond b (d ∷ doubled f (d + d) w) [])) (g, p) .0) i ≡ carry m n (suc i)
@@ -112,7 +120,8 @@ unfolding sign add
 sign-bit w m n h =
     let e : suc (w - 2) ≡ w - 1 = omega arith in
     rw (carries-bit w m n (w - 2) (omega arith), e, bit-xor, bit-mod (m + n) w (w - 1) (omega arith), bit-add)
-    (table 3 (λ a b c. bitXor (differ a b) c) (λ a b c. differ (differ a b) c) tt _ (bit-lt m (w - 1)) _ (bit-lt n (w - 1)) _ (carry-lt m n (w - 1)))
+    (table 3 (λ a b c. bitXor (differ a b) c) (λ a b c. differ (differ a b) c) tt _ (bit-lt m (w - 1)) _ (bit-lt n (w - 1))
+    _ (carry-lt m n (w - 1)))
 
 -- the sign s of x = m - L is 1 exactly where x reads negative
 pub sign-negative : (w m L : ℕ) → 2 ≤ w → sign w m (neg w L) ≡ cond (ltZ (signed w (sub w m L)) (pos 0)) 1 0

@@ -1,8 +1,10 @@
--- The carries of a sum m + n: each from the bits and the carry below it, and what they say of the sum's bits and high part. Assumes nothing.
+-- The carries of a sum m + n: each from the bits and the carry below it, and what they say of the sum's bits and high part.
+-- Assumes nothing.
 use mathlib.Core.Path.{_≡_, sym, ap, _∙_}
 use mathlib.Core.Logic.{_↔_}
 use Prim.Native.Nat.{ℕ, suc, _+_, _-_, _*_, _/_, _%_, _^_, _≤_, _<_, min}
-use native.Mathlib.Nat.{mod-lt, mod-eq-of-lt, mod-one, div-div-eq-div-mul, pow-suc, div-lt-iff-lt-mul, le-div-iff-mul-le, div-mul-le-self, mul-add-div-right, mul-assoc, zero-lt-suc}
+use native.Mathlib.Nat.{mod-lt, mod-eq-of-lt, mod-one, div-div-eq-div-mul, pow-suc, div-lt-iff-lt-mul, le-div-iff-mul-le, div-mul-le-self}
+use native.Mathlib.Nat.{mul-add-div-right, mul-assoc, zero-lt-suc}
 use native.Mathlib.Omega.{arith}
 use lib.Bits.{differ}
 use lib.Pow.{pow-pos, pow-add, split}
@@ -29,7 +31,8 @@ full a b c ha hb hc = table 3 (λ a b c. (a + b + c) / 2) (λ a b c. differ (min
 carry-half : (m n k : ℕ) → carry m n (suc k) ≡ (bit m k + bit n k + carry m n k) / 2
 unfolding carry
 carry-half m n k =
-    let e : m % 2 ^ suc k + n % 2 ^ suc k ≡ (bit m k + bit n k + (m % 2 ^ k + n % 2 ^ k) / 2 ^ k) * 2 ^ k + (m % 2 ^ k + n % 2 ^ k) % 2 ^ k =
+    let e : m % 2 ^ suc k + n % 2 ^ suc k
+    ≡ (bit m k + bit n k + (m % 2 ^ k + n % 2 ^ k) / 2 ^ k) * 2 ^ k + (m % 2 ^ k + n % 2 ^ k) % 2 ^ k =
     omega (arith, mod-suc-pow m k, mod-suc-pow n k, split (m % 2 ^ k + n % 2 ^ k) k) in
     rw (e, pow-suc 2 k, ← div-div-eq-div-mul _ (2 ^ k) 2, digits-div _ (mod-lt (m % 2 ^ k + n % 2 ^ k) (pow-pos k)))
 
@@ -62,7 +65,8 @@ truncate w k m n hm hn l =
     let e : w - k + k ≡ w = omega arith in
     let s : carry m n w * 2 ^ (w - k) * 2 ^ k + (m + n) % 2 ^ w ≡ m + n =
     rw (mul-assoc, ← pow-add 2 (w - k) k, e, mod-eq-of-lt hm, mod-eq-of-lt hn) (split (m + n) w) in
-    let t : (m + n) / 2 ^ k ≡ carry m n w * 2 ^ (w - k) + (m + n) % 2 ^ w / 2 ^ k = sym (ap (λ (y : ℕ). y / 2 ^ k) s) ∙ mul-add-div-right (pow-pos k) (carry m n w * 2 ^ (w - k)) ((m + n) % 2 ^ w) in
+    let t : (m + n) / 2 ^ k ≡ carry m n w * 2 ^ (w - k) + (m + n) % 2 ^ w / 2 ^ k =
+    sym (ap (λ (y : ℕ). y / 2 ^ k) s) ∙ mul-add-div-right (pow-pos k) (carry m n w * 2 ^ (w - k)) ((m + n) % 2 ^ w) in
     omega (arith, t, shr-add m n k)
 
 -- bit i of a sum

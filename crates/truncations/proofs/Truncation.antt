@@ -38,7 +38,8 @@ apart t k h =
     sym (pow-add 2 (t - k) k) ∙ ap (λ (n : ℕ). 2 ^ n) e
 
 -- floor(signed(x) / 2^k) from x biased by 2^t
-shr-from : (w k t x : ℕ) → k ≤ t → t < w → signed w x ≡ subℕ (add w x (2 ^ t)) (2 ^ t) → sub w (add w x (2 ^ t) / 2 ^ k) (2 ^ (t - k)) ≡ shr-signed w k x
+shr-from : (w k t x : ℕ) → k ≤ t → t < w → signed w x ≡ subℕ (add w x (2 ^ t)) (2 ^ t)
+    → sub w (add w x (2 ^ t) / 2 ^ k) (2 ^ (t - k)) ≡ shr-signed w k x
 shr-from w k t x kt tw e =
     let c : signed w x ≡ subℕ (add w x (2 ^ t)) (2 ^ (t - k) * 2 ^ k) = rw (apart t k kt) e in
     let hq : add w x (2 ^ t) / 2 ^ k < 2 ^ w = shr-lt w k (add w x (2 ^ t)) (add-lt w x (2 ^ t)) in
@@ -49,7 +50,8 @@ shr-from w k t x kt tw e =
 
 -- the sum of the floors, with the two carries, is the floor of the sum
 floors : (w k m n : ℕ) → 1 ≤ k → k < w → m < 2 ^ w → n < 2 ^ w
-    → sub w (add w (add w (n / 2 ^ k) (m / 2 ^ k)) (bit (carries w m n) (k - 1))) (mul w (bit (carries w m n) (w - 1)) (2 ^ (w - k))) ≡ add w m n / 2 ^ k
+    → sub w (add w (add w (n / 2 ^ k) (m / 2 ^ k)) (bit (carries w m n) (k - 1))) (mul w (bit (carries w m n) (w - 1)) (2 ^ (w - k)))
+    ≡ add w m n / 2 ^ k
 unfolding add mul
 floors w k m n ok kw hm hn =
     let e : suc (k - 1) ≡ k = omega arith in
@@ -141,7 +143,8 @@ one-bit-sum w k y L h kw hy =
     let v : ℕ = w - 1 in
     let e : v - k + k ≡ v = omega arith in
     let fm : (y + L) % 2 ^ w / 2 ^ k % 2 ^ (v - k) ≡ (y + L % 2 ^ v) % 2 ^ v / 2 ^ k =
-    sym (field ((y + L) % 2 ^ w) (v - k) k) ∙ rw (e, low-low w v (y + L) (omega arith)) (ap (λ (n : ℕ). n / 2 ^ k) (sym (add-mod-mod y L (2 ^ v)))) in
+    sym (field ((y + L) % 2 ^ w) (v - k) k)
+    ∙ rw (e, low-low w v (y + L) (omega arith)) (ap (λ (n : ℕ). n / 2 ^ k) (sym (add-mod-mod y L (2 ^ v)))) in
     let fl : L / 2 ^ k % 2 ^ (v - k) ≡ L % 2 ^ v / 2 ^ k = sym (field L (v - k) k) ∙ rw e in
     rw (top-bits w y L h hy, fm, fl, ← carry-low v v y L (omega arith), ← carry-low v k y L kw)
     (truncate v k y (L % 2 ^ v) hy (mod-lt L (pow-pos v)) kw)
@@ -191,15 +194,21 @@ one-bit-floor w k m L ow kw hm hL r =
     let hh : 2 ^ (w - 2) < 2 ^ w = pow-lt (omega arith) in
     let e : add w m (2 ^ (w - 2)) ≡ add w y L =
     ap (λ (n : Word w). n .0) (bias-back (number-words w) (number-ring w) (m, hm) (2 ^ (w - 2), hh) (L, hL)) in
-    let s : slip k x L ≡ carry y L k = slip-carry k x L ∙ ap (λ (n : ℕ). (n + L % 2 ^ k) / 2 ^ k) (sym (bias-low w (w - 2) k x kw (omega arith))) in
+    let s : slip k x L ≡ carry y L k =
+    slip-carry k x L ∙ ap (λ (n : ℕ). (n + L % 2 ^ k) / 2 ^ k) (sym (bias-low w (w - 2) k x kw (omega arith))) in
     rw (e, s, ← shr-from w k (w - 2) x kw (omega arith) (in-range-biased w x ow (sub-lt w m L) r))
     (one-bit-word w k y L ow kw (in-range-low w x ow (sub-lt w m L) r))
 
 -- ---- kind 6
 
 -- (p - h) + (q - h) + c = (p + q + c) - (h + h)
-gather : {A : Type 0} (O : Ops A) → Ring O → (p q h c : A) → O .add (O .add (O .sub q h) (O .sub p h)) c ≡ O .sub (O .add (O .add p q) c) (O .add h h)
-gather O R = solve O R 4 (λ p q h c. (exprs .add (exprs .add (exprs .sub q h) (exprs .sub p h)) c, exprs .sub (exprs .add (exprs .add p q) c) (exprs .add h h))) refl
+gather : {A : Type 0} (O : Ops A) → Ring O → (p q h c : A)
+    → O .add (O .add (O .sub q h) (O .sub p h)) c ≡ O .sub (O .add (O .add p q) c) (O .add h h)
+gather O R =
+    solve O R 4 (λ p q h c. (
+      exprs .add (exprs .add (exprs .sub q h) (exprs .sub p h)) c,
+      exprs .sub (exprs .add (exprs .add p q) c) (exprs .add h h),
+    )) refl
 
 -- the sum of two floors and a carry, of words M and N that are biased by 2^(w-1)
 slack-biased : (w k M N : ℕ) → k < w → M < 2 ^ w → N < 2 ^ w
@@ -213,7 +222,8 @@ slack-biased w k M N kw hM hN =
     let e : 2 ^ (w - 1) + 2 ^ (w - 1) ≡ (h + h) * 2 ^ k = omega (arith, apart (w - 1) k (omega arith)) in
     ap (λ (n : Word w). n .0)
     (gather (number-words w) (number-ring w) (M / 2 ^ k, shr-lt w k M hM) (N / 2 ^ k, shr-lt w k N hN) (h, hh) c)
-    ∙ ap (λ (n : ℕ). sub w n ((h + h) % 2 ^ w)) (mod-add-mod (M / 2 ^ k + N / 2 ^ k) (2 ^ w) (carry M N k) ∙ ap (λ (n : ℕ). n % 2 ^ w) (sym (shr-add M N k)))
+    ∙ ap (λ (n : ℕ). sub w n ((h + h) % 2 ^ w))
+    (mod-add-mod (M / 2 ^ k + N / 2 ^ k) (2 ^ w) (carry M N k) ∙ ap (λ (n : ℕ). n % 2 ^ w) (sym (shr-add M N k)))
     ∙ sym (ap (λ (n : ℕ). wrap w (floor (subℕ (M + N) n) (2 ^ k))) e
     ∙ ap (wrap w) (floor-sub (M + N) (h + h) (2 ^ k) (pow-pos k)) ∙ wrap-sub w ((M + N) / 2 ^ k) (h + h))
 
@@ -223,10 +233,18 @@ slack-sum w k m n kw hm hn =
     let t : ℕ = w - 1 in
     let bm : signed w m ≡ subℕ (add w m (2 ^ t)) (2 ^ t) = biased-half w m (omega arith) hm in
     let bn : signed w n ≡ subℕ (add w n (2 ^ t)) (2 ^ t) = biased-half w n (omega arith) hn in
-    rw (← shr-from w k t m (omega arith) (omega arith) bm, ← shr-from w k t n (omega arith) (omega arith) bn, bm, bn, sub-add (add w m (2 ^ t)) (2 ^ t) (add w n (2 ^ t)) (2 ^ t), ← bias-carry w t k m n (omega arith) (omega arith))
+    rw (
+      ← shr-from w k t m (omega arith) (omega arith) bm,
+      ← shr-from w k t n (omega arith) (omega arith) bn,
+      bm,
+      bn,
+      sub-add (add w m (2 ^ t)) (2 ^ t) (add w n (2 ^ t)) (2 ^ t),
+      ← bias-carry w t k m n (omega arith) (omega arith),
+    )
     (slack-biased w k (add w m (2 ^ t)) (add w n (2 ^ t)) kw (add-lt w m (2 ^ t)) (add-lt w n (2 ^ t)))
 
--- What the steps of kind 6 give, for every m and L: the floor of signed(m) + signed(-L), which is x or off by 2^w, less the carry out of the low k bits
+-- What the steps of kind 6 give, for every m and L: the floor of signed(m) + signed(-L), which is x or off by 2^w, less the carry out of
+-- the low k bits
 pub large-slack-floor : (w k m L : ℕ) → k < w → m < 2 ^ w → L < 2 ^ w
     → add w (large-slack w k m L) (carry m (neg w L) k) ≡ wrap w (floor (signed w m +ℤ signed w (neg w L)) (2 ^ k))
 unfolding large-slack

@@ -11,7 +11,8 @@ use Rattle.words.specs.Words.{bit, shl}
 unfoldable pub carry : ℕ → ℕ → ℕ → ℕ
 carry m n k = (m % 2 ^ k + n % 2 ^ k) / 2 ^ k
 
--- one product of the adder, at a distance: "G becomes G xor (P and (G shifted up)), then P becomes P and (P shifted up)"
+-- one product of the adder, at a distance: "G becomes G xor (P and (G shifted up)), then P becomes P and
+-- (P shifted up)"
 pub data Update : Type 0 where
   generate propagate : (distance : ℕ) → Update
 

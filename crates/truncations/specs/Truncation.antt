@@ -1,4 +1,5 @@
--- Document 01, "Orders", kinds 6, 7 and 8: the words that their steps give for m and L, where x = m - L. Assumes nothing.
+-- Document 01, "Orders", kinds 6, 7 and 8: the words that their steps give for m and L, where x = m - L.
+-- Assumes nothing.
 use mathlib.Core.Bool.{cond}
 use Prim.Native.Nat.{ℕ, _+_, _-_, _%_, _^_}
 use lib.Dec.{leb}

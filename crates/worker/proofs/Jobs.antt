@@ -18,7 +18,7 @@ use Rattle.jobs.proofs.Accepted.{Good, accepted-orders, curve-ruled}
 use Rattle.jobs.proofs.Conditions as Conditions
 use Rattle.jobs.specs.Walk.{order-at}
 use Rattle.worker.specs.Jobs.{Sized}
-use Rattle.worker.proofs.Sizes.{few-gates}
+use Rattle.programs.proofs.Sizes.{few-gates}
 
 -- ---- orders by index
 

@@ -6,13 +6,15 @@ use Prim.Native.Nat.{_*_, _-_, _+_, _≤_}
 use native.Mathlib.Omega.{arith}
 use borrow.Author.Needs.{needs}
 use lib.ListN.{length}
+use Rattle.jobs.proofs.Sums.{job-counts}
 use Rattle.jobs.proofs.Turns.{Given, given, Going, refused, accepted, ill, starts, small, done, faulty, turn}
 use Rattle.jobs.proofs.Marks.{Marked, unmarked, next-mark, all-marked}
 use Rattle.job_check.proofs.survey.Statement.{statement}
 use Rattle.job_check.proofs.survey.Tie as tie
 
 abbrev Inv-loop : tie.InvT-loop
-Inv-loop job table place ruled rows n whole₀ before₀ i₀ whole before i = Given job table ruled rows × Going job table i whole × Marked job table place i before
+Inv-loop job table place ruled rows n whole₀ before₀ i₀ whole before i =
+    Given job table ruled rows × Going 32 job table i whole × Marked 32 job table place i before
 
 abbrev μ-loop : tie.MeasureT-loop
 μ-loop job table place ruled rows n whole₀ before₀ i₀ whole before i = n - i
@@ -43,8 +45,12 @@ none-requires-2 c κs = search needs
 
 loop-holds : tie.Need-loop-holds Inv-loop μ-loop
 loop-holds c =
-    let s = c .before .before .before .before in
-    (given _ _ (sym (s .before .ill-sized .ensures) ∙ s .if1 .left) (c .before .before .before .keeps-rules .ensures) (c .before .before .rows-of .ensures), starts _ _ _ (c .before .none .ensures), unmarked _ _ _ _ (c .none2 .ensures))
+    let s = c .before .before .before .before in (
+      given _ _ (sym (s .before .ill-sized .ensures) ∙ s .if1 .left) (c .before .before .before .keeps-rules .ensures)
+          (c .before .before .rows-of .ensures),
+      starts 32 _ _ job-counts _ (c .before .none .ensures),
+      unmarked 32 _ _ _ job-counts _ (c .none2 .ensures),
+    )
 
 order-at-requires : tie.Need-order-at-requires Inv-loop μ-loop
 order-at-requires c κs = search needs
@@ -60,11 +66,14 @@ turned-down-requires-2 c κs = search needs
 
 returns-2 : tie.Need-returns-2 Inv-loop μ-loop
 returns-2 c =
-    let l = c .before .before .before .before .before .loop in
-    let h : l .i * 4 + 4 ≤ length (now (c .before .before .before .before .before .before .before .before .before .before .before .before .before .before .args .job)) = omega arith in
+    let b = c .before .before .before .before .before in
+    let l = b .loop in
+    let s = b .before .before .before .before .before .before .before .before .before in
+    let h : l .i * 4 + 4 ≤ length (now (s .args .job)) = omega arith in
     let t = c .turned-down2 .ensures in
     let ne = c .before .if2 .taken in
-    let q = refused 32 _ _ _ _ _ (faulty _ _ (l .inv .1) (l .inv .0) h (c .before .before .before .order-at .ensures) (c .before .before .order-fault .ensures) ne) ne in
+    let q = refused 32 _ _ _ _ _ (faulty 32 _ _ (l .inv .1) (l .inv .0) h (c .before .before .before .order-at .ensures)
+    (c .before .before .order-fault .ensures) ne) ne in
     (t .0 ∙ q .0, t .1 ∙ q .1)
 
 order-counts-requires : tie.Need-order-counts-requires Inv-loop μ-loop
@@ -72,9 +81,12 @@ order-counts-requires c κs = omega arith
 
 plus-requires : tie.Need-plus-requires Inv-loop μ-loop
 plus-requires c κs =
-    let l = c .before .before .before .before .before .loop in
-    let h : l .i * 4 + 4 ≤ length (now (c .before .before .before .before .before .before .before .before .before .before .before .before .before .before .args .job)) = omega arith in
-    small _ _ (l .inv .1) (l .inv .0) h (c .before .before .before .order-at .ensures) (c .before .before .order-fault .ensures) (c .before .if2 .left) (c .order-counts .ensures)
+    let b = c .before .before .before .before .before in
+    let l = b .loop in
+    let s = b .before .before .before .before .before .before .before .before .before in
+    let h : l .i * 4 + 4 ≤ length (now (s .args .job)) = omega arith in
+    small 32 _ _ (l .inv .1) (l .inv .0) h (c .before .before .before .order-at .ensures) (c .before .before .order-fault .ensures)
+    (c .before .if2 .left) (c .order-counts .ensures)
 
 add-i : tie.Need-add-i Inv-loop μ-loop
 add-i c = omega arith
@@ -85,16 +97,23 @@ loop-less c = omega arith
 loop-again : tie.Need-loop-again Inv-loop μ-loop
 loop-again c =
     let e = c .before .before .before in
-    let l = e .before .before .before .before .loop in
-    let h : l .i * 4 + 4 ≤ length (now (c .before .before .before .before .before .before .before .before .before .before .before .before .before .before .before .before .args .job)) = omega arith in
-    let g = turn _ _ (l .inv .1) (l .inv .0) h (e .before .before .order-at .ensures) (e .before .order-fault .ensures) (e .if2 .left) (c .before .before .order-counts .ensures) (c .before .plus .ensures) in
-    (l .inv .0, g, next-mark _ _ _ (l .inv .2) g (omega arith) (⊎-elim (λ t. inl (t .0 .taken, t .1)) (λ t. inr (t .0 .left, t .1)) (c .if3 .came)))
+    let b = e .before .before .before .before in
+    let l = b .loop in
+    let s = b .before .before .before .before .before .before .before .before .before in
+    let h : l .i * 4 + 4 ≤ length (now (s .args .job)) = omega arith in
+    let g = turn 32 _ _ (l .inv .1) (l .inv .0) h (e .before .before .order-at .ensures) (e .before .order-fault .ensures) (e .if2 .left)
+    (c .before .before .order-counts .ensures) (c .before .plus .ensures) in (
+      l .inv .0,
+      g,
+      next-mark 32 _ _ _ (l .inv .2) job-counts g (omega arith)
+          (⊎-elim (λ t. inl (t .0 .taken, t .1)) (λ t. inr (t .0 .left, t .1)) (c .if3 .came)),
+    )
 
 returns-3 : tie.Need-returns-3 Inv-loop μ-loop
 returns-3 c =
     let l = c .before .loop in
-    let d = done _ _ (l .inv .1) (l .inv .0) (c .loop-test .left) in
-    accepted 32 _ _ _ _ _ (d .0) (d .1) (all-marked _ _ _ (l .inv .2) (omega (arith, l .inv .0 .fours)))
+    let d = done 32 _ _ (l .inv .1) (l .inv .0) (c .loop-test .left) in
+    accepted 32 _ _ _ _ _ (d .0) (d .1) (all-marked 32 _ _ _ (l .inv .2) (omega (arith, l .inv .0 .fours)))
 
 pub survey-spec : {M : Type 1} → statement M
 survey-spec =

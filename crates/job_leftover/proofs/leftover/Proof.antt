@@ -24,7 +24,8 @@ cast-first c = search needs
 returns : tie.Need-returns
 returns c =
     let k = c .before .before .before in
-    too-short 32 _ _ _ _ _ _ _ _ _ (sym (ap verdict (k .a .given .1)) ∙ k .before .before .check .ensures) (c .before .need .ensures) (c .if1 .taken)
+    too-short 32 _ _ _ _ _ _ _ _ _ (sym (ap verdict (k .a .given .1)) ∙ k .before .before .check .ensures) (c .before .need .ensures)
+    (c .if1 .taken)
 
 mul-result : tie.Need-mul-result
 mul-result c = search needs
@@ -44,7 +45,8 @@ returns-2 c = let k = c .before in after-refusal 32 _ _ _ _ _ _ (sym (ap verdict
 returns-3 : tie.Need-returns-3
 returns-3 c =
     let k = c .before .before .before .before in
-    long-enough 32 _ _ _ _ _ _ _ _ _ (sym (ap verdict (k .a .given .1)) ∙ k .before .before .check .ensures) (c .before .before .need .ensures) (c .before .if1 .left)
+    long-enough 32 _ _ _ _ _ _ _ _ _ (sym (ap verdict (k .a .given .1)) ∙ k .before .before .check .ensures)
+    (c .before .before .need .ensures) (c .before .if1 .left)
 
 pub leftover-spec : {M : Type 1} → statement M
 leftover-spec =

@@ -33,7 +33,8 @@ word-at-requires-4 c κs = search needs
 returns-2 : tie.Need-returns-2
 returns-2 c =
     let s = c .before .before .before .before .before .before .args in
-    words-of (s .job .now) (s .i) (c .before .before .before .word-at .ensures) (c .before .before .word-at2 .ensures) (c .before .word-at3 .ensures) (c .word-at4 .ensures)
+    words-of (s .job .now) (s .i) (c .before .before .before .word-at .ensures) (c .before .before .word-at2 .ensures)
+    (c .before .word-at3 .ensures) (c .word-at4 .ensures)
 
 pub order-at-spec : {M : Type 1} → statement M
 order-at-spec =

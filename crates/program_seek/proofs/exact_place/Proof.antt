@@ -15,10 +15,10 @@ placed-requires : tie.Need-placed-requires
 placed-requires c κs = search needs
 
 returns : tie.Need-returns
-returns c = λ k x d. c .placed .ensures ∙ place-at exact-place-table _ (exact-places k x d) _ _ _ _ (omega arith)
+returns c = λ k x d. c .placed .ensures ∙ place-at 32 exact-place-table _ (exact-places k x d) _ _ _ _ (omega arith)
 
 returns-2 : tie.Need-returns-2
-returns-2 c = λ k x d. place-past exact-place-table _ (exact-places k x d) _ _ _ _ (omega arith)
+returns-2 c = λ k x d. place-past 32 exact-place-table _ (exact-places k x d) _ _ _ _ (omega arith)
 
 pub exact-place-spec : {M : Type 1} → statement M
 exact-place-spec =

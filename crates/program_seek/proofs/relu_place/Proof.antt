@@ -15,10 +15,10 @@ placed-requires : tie.Need-placed-requires
 placed-requires c κs = search needs
 
 returns : tie.Need-returns
-returns c = λ x d. c .placed .ensures ∙ place-at relu-place-table _ (relu-places x d) _ _ _ _ (omega arith)
+returns c = λ x d. c .placed .ensures ∙ place-at 32 relu-place-table _ (relu-places x d) _ _ _ _ (omega arith)
 
 returns-2 : tie.Need-returns-2
-returns-2 c = λ x d. place-past relu-place-table _ (relu-places x d) _ _ _ _ (omega arith)
+returns-2 c = λ x d. place-past 32 relu-place-table _ (relu-places x d) _ _ _ _ (omega arith)
 
 pub relu-place-spec : {M : Type 1} → statement M
 relu-place-spec =

@@ -48,7 +48,7 @@ unfolding program kinds
 returns-6 c = told _ _ _ _ (simp (c .before .match .keys6) (c .curve-place .ensures _ _))
 
 returns-7 : tie.Need-returns-7
-returns-7 c = let s = c .before .before in told _ _ _ _ (no-exchange _ (s .args .o) (s .args .turn) (c .match .rest))
+returns-7 c = let s = c .before .before in told _ _ _ _ (no-exchange 32 _ (s .args .o) (s .args .turn) (c .match .rest))
 
 pub seek-spec : {M : Type 1} → statement M
 seek-spec =

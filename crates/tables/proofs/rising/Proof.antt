@@ -57,7 +57,8 @@ returns c =
 returns-2 : tie.Need-returns-2 Inv-loop μ-loop
 returns-2 c =
     let s = c .before .before .before .before .before .before in
-    not-rising _ (s .before .loop .i) (s .before .loop .inv .1) (s .loop-test .taken) (c .before .before .fits2 .ensures) (not-false _ (c .before .if1 .left)) (omega arith)
+    not-rising _ (s .before .loop .i) (s .before .loop .inv .1) (s .loop-test .taken) (c .before .before .fits2 .ensures)
+    (not-false _ (c .before .if1 .left)) (omega arith)
 
 add-i : tie.Need-add-i Inv-loop μ-loop
 add-i c = omega arith
@@ -69,7 +70,8 @@ loop-again : tie.Need-loop-again Inv-loop μ-loop
 loop-again c =
     let s = c .before .before .before .before .before .before in (
       omega arith,
-      go-on _ (s .before .loop .i) (s .before .loop .inv .1) (s .loop-test .taken) (c .before .before .fits2 .ensures) (not-false _ (c .before .if1 .left)) (omega arith),
+      go-on _ (s .before .loop .i) (s .before .loop .inv .1) (s .loop-test .taken) (c .before .before .fits2 .ensures)
+          (not-false _ (c .before .if1 .left)) (omega arith),
     )
 
 sub-if3 : tie.Need-sub-if3 Inv-loop μ-loop
@@ -99,7 +101,8 @@ fits-requires-2 c κs = search needs
 returns-4 : tie.Need-returns-4 Inv-loop μ-loop
 returns-4 c =
     let s = c .before .before .before in
-    last-row _ (s .before .before .loop .i) (s .before .before .loop .inv .1) (s .before .loop-test .left) (s .if3 .left) (c .fits3 .ensures)
+    last-row _ (s .before .before .loop .i) (s .before .before .loop .inv .1) (s .before .loop-test .left) (s .if3 .left)
+    (c .fits3 .ensures)
 
 pub rising-spec : {M : Type 1} → statement M
 rising-spec =

@@ -12,7 +12,7 @@ use Rattle.walks.specs.Dealers.{dealer, dealing, Room}
 use Rattle.walks.proofs.Gates.{inside}
 use Rattle.walks.proofs.Dealers.{joined}
 use Rattle.walks.proofs.Preparing.{Midway, begins, gate-room, gate-done, gates-done}
-use Rattle.dealer.proofs.Programs.{few}
+use Rattle.programs.proofs.Sizes.{few}
 use Rattle.dealer.proofs.preparing.deal_order.Statement.{statement}
 use Rattle.dealer.proofs.preparing.deal_order.Tie as tie
 

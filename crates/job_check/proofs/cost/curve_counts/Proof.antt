@@ -64,6 +64,7 @@ unfolding kind-cost kind-costs curve-cost
 returns c = c .count-of .ensures ∙ rw (c .before .if1 .taken)
 
 returns-2 : tie.Need-returns-2
+unfolding curve-cost
 returns-2 c = c .count-of2 .ensures ∙ one-bit-cost _ _ (c .before .if1 .left)
 
 pub curve-counts-spec : {M : Type 1} → statement M

@@ -57,7 +57,10 @@ returns-7 : tie.Need-returns-7
 returns-7 c = c .curve-counts .ensures ∙ rw (c .before .match .keys7)
 
 returns-8 : tie.Need-returns-8
-returns-8 c = let n = c .before .match .rest in c .none .ensures ∙ no-cost _ _ _ (n .0 .0 .0 .0 .0 .0 .1) (n .0 .0 .0 .0 .0 .1) (n .0 .0 .0 .0 .1) (n .0 .0 .0 .1) (n .0 .0 .1) (n .0 .1) (n .1)
+returns-8 c =
+    let n = c .before .match .rest in
+    c .none .ensures ∙ no-cost _ _ _ (n .0 .0 .0 .0 .0 .0 .1) (n .0 .0 .0 .0 .0 .1) (n .0 .0 .0 .0 .1) (n .0 .0 .0 .1) (n .0 .0 .1)
+    (n .0 .1) (n .1)
 
 pub order-counts-spec : {M : Type 1} → statement M
 order-counts-spec =

@@ -45,7 +45,9 @@ returns-7 c = rw (c .before .match .keys6, c .if1 .left) (or-all (ltb 1 (c .befo
 
 returns-8 : tie.Need-returns-8
 unfolding ill-fourth
-returns-8 c = let n = c .match .rest in any-fourth 32 (c .before .args .ruled) _ _ (n .0 .0 .0 .0 .0 .1) (n .0 .0 .0 .0 .1) (n .0 .0 .0 .1) (n .0 .0 .1) (n .0 .1) (n .1)
+returns-8 c =
+    let n = c .match .rest in
+    any-fourth 32 (c .before .args .ruled) _ _ (n .0 .0 .0 .0 .0 .1) (n .0 .0 .0 .0 .1) (n .0 .0 .0 .1) (n .0 .0 .1) (n .0 .1) (n .1)
 
 pub ill-fourth-spec : {M : Type 1} → statement M
 ill-fourth-spec =

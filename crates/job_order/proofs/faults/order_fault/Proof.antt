@@ -10,16 +10,24 @@ unknown-register-requires : tie.Need-unknown-register-requires
 unknown-register-requires c κs = search needs
 
 returns-2 : tie.Need-returns-2
-returns-2 c = fault-4 32 (c .before .before .before .before .args .ruled) _ (c .before .before .if1 .left) (c .before .unknown-register .ensures) (c .if2 .taken)
+returns-2 c =
+    fault-4 32 (c .before .before .before .before .args .ruled) _ (c .before .before .if1 .left) (c .before .unknown-register .ensures)
+    (c .if2 .taken)
 
 ill-fourth-requires : tie.Need-ill-fourth-requires
 ill-fourth-requires c κs = search needs
 
 returns-3 : tie.Need-returns-3
-returns-3 c = let e = c .before .before in fault-5 32 (e .before .before .before .before .args .ruled) _ (e .before .before .if1 .left) (e .before .unknown-register .ensures) (e .if2 .left) (c .before .ill-fourth .ensures) (c .if3 .taken)
+returns-3 c =
+    let e = c .before .before in
+    fault-5 32 (e .before .before .before .before .args .ruled) _ (e .before .before .if1 .left) (e .before .unknown-register .ensures)
+    (e .if2 .left) (c .before .ill-fourth .ensures) (c .if3 .taken)
 
 returns-4 : tie.Need-returns-4
-returns-4 c = let e = c .before .before in no-fault 32 (e .before .before .before .before .args .ruled) _ (e .before .before .if1 .left) (e .before .unknown-register .ensures) (e .if2 .left) (c .before .ill-fourth .ensures) (c .if3 .left)
+returns-4 c =
+    let e = c .before .before in
+    no-fault 32 (e .before .before .before .before .args .ruled) _ (e .before .before .if1 .left) (e .before .unknown-register .ensures)
+    (e .if2 .left) (c .before .ill-fourth .ensures) (c .if3 .left)
 
 pub order-fault-spec : {M : Type 1} → statement M
 order-fault-spec =

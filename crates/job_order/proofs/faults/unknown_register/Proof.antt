@@ -22,7 +22,8 @@ unfolding two-sources
 returns-5 c = let m = c .before in second-source _ (m .before .before .before .if1 .left) (m .before .if2 .left) (rw (m .match .keys3))
 
 returns-6 : tie.Need-returns-6
-returns-6 c = let n = c .match .rest in one-source _ (c .before .before .before .if1 .left) (c .before .if2 .left) (n .0 .0 .1) (n .0 .1) (n .1)
+returns-6 c =
+    let n = c .match .rest in one-source _ (c .before .before .before .if1 .left) (c .before .if2 .left) (n .0 .0 .1) (n .0 .1) (n .1)
 
 pub unknown-register-spec : {M : Type 1} → statement M
 unknown-register-spec =

@@ -1,6 +1,7 @@
 use mathlib.Core.Path.{_∙_}
 use native.Mathlib.Omega.{arith}
 use borrow.Author.Needs.{needs}
+use Rattle.programs.proofs.Sizes.{relu-32}
 use Rattle.program_fetch.proofs.Indices.{inside, row-plus, row-relu, row-scale, row-add, row-past}
 use Rattle.program_fetch.proofs.curve_gates.row_gate.Statement.{statement}
 use Rattle.program_fetch.proofs.curve_gates.row_gate.Tie as tie
@@ -29,19 +30,19 @@ relu-gate-requires c κs = search needs
 returns : tie.Need-returns
 returns c =
     let s = c .before .before .before .before in
-    row-plus (s .args .table .now) (s .args .x) (s .args .row) _ (s .pre) (c .minus .ensures) (c .before .before .match .keys1)
+    row-plus 32 (s .args .table .now) (s .args .x) (s .args .row) _ (s .pre) (c .minus .ensures) (c .before .before .match .keys1)
 
 returns-2 : tie.Need-returns-2
-returns-2 c = simp (c .before .match .keys2, c .slope-change .ensures) (row-scale _ _ _)
+returns-2 c = simp (c .slope-change .ensures) (row-scale 32 _ _ _ _ (rw relu-32 (c .before .match .keys2)))
 
 returns-3 : tie.Need-returns-3
-returns-3 c = simp (c .match .keys3) (row-add _ _ _)
+returns-3 c = row-add 32 _ _ _ _ (rw relu-32 (c .match .keys3))
 
 returns-4 : tie.Need-returns-4
-returns-4 c = c .relu-gate .ensures ∙ row-relu _ _ _ _ (c .before .before .match .rest .0 .0 .1) (c .before .if1 .taken)
+returns-4 c = c .relu-gate .ensures ∙ row-relu 32 _ _ _ _ (c .before .before .match .rest .0 .0 .1) (rw relu-32 (c .before .if1 .taken))
 
 returns-5 : tie.Need-returns-5
-returns-5 c = row-past _ _ _ _ (c .if1 .left) (c .before .match .rest .0 .1) (c .before .match .rest .1)
+returns-5 c = let r = c .before .match .rest in row-past 32 _ _ _ _ (rw relu-32 (c .if1 .left)) (rw relu-32 (r .0 .1)) (rw relu-32 (r .1))
 
 pub row-gate-spec : {M : Type 1} → statement M
 row-gate-spec =

@@ -18,7 +18,8 @@ returns c = simp (c .match .keys1)
 returns-2 : tie.Need-returns-2
 returns-2 c =
     let s = c .before .before .before in
-    toZ-ofZ (record { sfits = c .slope-after .ok }) ∙ c .slope-after .ensures ∙ some-slope-before (slopes (rows (s .args .table .now))) _ (c .before .match .rest .1)
+    toZ-ofZ (record { sfits = c .slope-after .ok }) ∙ c .slope-after .ensures
+    ∙ some-slope-before (slopes (rows (s .args .table .now))) _ (c .before .match .rest .1)
 
 pub slope-before-spec : {M : Type 1} → statement M
 slope-before-spec = tie.close (tie.spec sub-slope-after slope-after-requires returns returns-2)

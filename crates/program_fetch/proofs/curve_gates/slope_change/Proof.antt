@@ -24,7 +24,8 @@ returns : tie.Need-returns
 returns c = let s = c .before .before .before .before .before .before in
     let a = c .before .before .before .before .slope-after in
     let b = c .before .before .slope-before in
-    changed (rows (s .args .table .now)) (s .args .row) (record { sfits = a .ok }) (record { sfits = b .ok }) (a .ensures) (b .ensures) (c .before .before .before .word-of .ensures)
+    changed 32 (rows (s .args .table .now)) (s .args .row) (record { sfits = a .ok }) (record { sfits = b .ok }) (a .ensures) (b .ensures)
+    (c .before .before .before .word-of .ensures)
     (c .before .word-of2 .ensures) (omega arith) (omega arith) (c .wrapping-sub-u32 .ensures)
 
 pub slope-change-spec : {M : Type 1} → statement M

@@ -1,7 +1,7 @@
 use mathlib.Core.Path.{_∙_}
 use native.Mathlib.Omega.{arith}
 use borrow.Author.Needs.{needs}
-use Rattle.program_fetch.proofs.ByKind.{any-table, no-gates}
+use Rattle.program_fetch.proofs.ByKind.{whatever-table, no-gates}
 use Rattle.programs.specs.Orders.{program, kinds}
 use Rattle.program_fetch.proofs.fetching.fetch.Statement.{statement}
 use Rattle.program_fetch.proofs.fetching.fetch.Tie as tie
@@ -45,10 +45,10 @@ unfolding program kinds
 returns-5 c = simp (c .before .match .keys5) (c .curve-gate .ensures)
 
 returns-6 : tie.Need-returns-6
-returns-6 c = c .one-gate .ensures ∙ any-table _ (c .before .if1 .taken) _ _
+returns-6 c = c .one-gate .ensures ∙ whatever-table 32 _ (c .before .if1 .taken) _ _
 
 returns-7 : tie.Need-returns-7
-returns-7 c = let s = c .before .before .before in no-gates _ (s .args .o) (s .args .i) (omega arith)
+returns-7 c = let s = c .before .before .before in no-gates 32 _ (s .args .o) (s .args .i) (omega arith)
 
 pub fetch-spec : {M : Type 1} → statement M
 fetch-spec =

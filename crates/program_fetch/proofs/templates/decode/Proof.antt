@@ -15,7 +15,13 @@ slots-gate-requires c κs = search needs
 
 returns : tie.Need-returns
 unfolding unpacked gate-of
-returns c = simp (c .slots-gate .ensures, c .before .before .before .slot .ensures, c .before .before .slot2 .ensures, lt-ltb _ _ (c .before .if1 .taken))
+returns c =
+    simp (
+      c .slots-gate .ensures,
+      c .before .before .before .slot .ensures,
+      c .before .before .slot2 .ensures,
+      lt-ltb _ _ (c .before .if1 .taken),
+    )
 
 constant-requires : tie.Need-constant-requires
 constant-requires c κs = search needs
@@ -26,7 +32,14 @@ constant-gate-requires c κs = search needs
 returns-2 : tie.Need-returns-2
 unfolding unpacked gate-of
 returns-2 c = let s = c .before .before .before .before in
-    simp (c .constant-gate .ensures, c .before .constant .ensures, s .before .slot .ensures, s .slot2 .ensures, le-ltb _ _ (c .before .before .before .if1 .left), lt-ltb _ _ (c .before .before .if2 .taken))
+    simp (
+      c .constant-gate .ensures,
+      c .before .constant .ensures,
+      s .before .slot .ensures,
+      s .slot2 .ensures,
+      le-ltb _ _ (c .before .before .before .if1 .left),
+      lt-ltb _ _ (c .before .before .if2 .taken),
+    )
 
 part-requires : tie.Need-part-requires
 part-requires c κs = search needs
@@ -37,7 +50,14 @@ part-gate-requires c κs = search needs
 returns-3 : tie.Need-returns-3
 unfolding unpacked gate-of
 returns-3 c = let s = c .before .before .before .before in
-    simp (c .part-gate .ensures, c .before .part .ensures, s .before .slot .ensures, s .slot2 .ensures, le-ltb _ _ (c .before .before .before .if1 .left), le-ltb _ _ (c .before .before .if2 .left))
+    simp (
+      c .part-gate .ensures,
+      c .before .part .ensures,
+      s .before .slot .ensures,
+      s .slot2 .ensures,
+      le-ltb _ _ (c .before .before .before .if1 .left),
+      le-ltb _ _ (c .before .before .if2 .left),
+    )
 
 pub decode-spec : {M : Type 1} → statement M
 decode-spec =

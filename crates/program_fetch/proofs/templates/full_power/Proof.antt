@@ -1,4 +1,5 @@
 use mathlib.Core.Path.{_∙_}
+use native.Mathlib.Omega.{arith}
 use borrow.Author.Needs.{needs}
 use Rattle.program_fetch.proofs.Packing.{full}
 use Rattle.program_fetch.proofs.templates.full_power.Statement.{statement}
@@ -14,7 +15,7 @@ returns : tie.Need-returns
 returns c = simp (c .match .keys1)
 
 returns-2 : tie.Need-returns-2
-returns-2 c = c .power .ensures ∙ full _ (c .before .match .rest .1)
+returns-2 c = c .power .ensures ∙ full 32 _ (omega arith) (c .before .match .rest .1)
 
 pub full-power-spec : {M : Type 1} → statement M
 full-power-spec = tie.close (tie.spec sub-power power-requires returns returns-2)

@@ -13,7 +13,7 @@ shl-result : tie.Need-shl-result
 shl-result c = search needs
 
 returns : tie.Need-returns
-returns c = ap (λ (n : ℕ). 1 * 2 ^ n % 2 ^ 32) (c .less .ensures) ∙ shifted _ (omega arith)
+returns c = ap (λ (n : ℕ). 1 * 2 ^ n % 2 ^ 32) (c .less .ensures) ∙ shifted 32 _ (omega arith)
 
 pub power-spec : {M : Type 1} → statement M
 power-spec = tie.close (tie.spec less-requires shl-result returns)

@@ -13,7 +13,8 @@ unpack-requires c κs = search needs
 
 -- the decoded table is the program, by computation
 returns : tie.Need-returns
-unfolding unpacked gate-of on-slots with-constant with-part slot-of constant-of part-of relu-program adder rounds update-gates updates distances doubled to-number
+unfolding unpacked gate-of on-slots with-constant with-part slot-of constant-of part-of relu-program adder rounds update-gates updates
+    distances doubled to-number
 returns c = c .unpack .ensures
 
 pub relu-gate-spec : {M : Type 1} → statement M

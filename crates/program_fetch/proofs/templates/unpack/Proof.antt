@@ -15,7 +15,9 @@ decode-requires : tie.Need-decode-requires
 decode-requires c κs = search needs
 
 returns : tie.Need-returns
-returns c = let s = c .before .before .before .before .args in ap At (c .decode .ensures) ∙ packed-at _ _ _ (s .template .now) (s .i) (c .before .before .if1 .taken)
+returns c =
+    let s = c .before .before .before .before .args in
+    ap At (c .decode .ensures) ∙ packed-at _ _ _ (s .template .now) (s .i) (c .before .before .if1 .taken)
 
 returns-2 : tie.Need-returns-2
 returns-2 c = let s = c .before .before .args in packed-past (s .k) (s .x) (s .d) (s .template .now) (s .i) (c .if1 .left)
