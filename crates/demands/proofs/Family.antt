@@ -2,7 +2,7 @@
 -- that word plus a fixed one. Assumes nothing.
 use mathlib.Core.Path.{_≡_, refl, sym, ap, _∙_}
 use mathlib.Core.List.{List, [], _∷_, _++_}
-use Prim.Native.Nat.{ℕ, _+_, _≤_, _<_}
+use Prim.Native.Nat.{ℕ, _+_, _<_}
 use native.Mathlib.Omega.{arith}
 use lib.ListN.{getD, length, set, take}
 use lib.Seq.{getD-set-same, getD-set-other}
@@ -13,10 +13,10 @@ use Rattle.tables.specs.Table.{rows}
 use Rattle.gates.specs.declared.Gate.{Gate}
 use Rattle.gates.specs.declared.Gate.the-variants.{Refresh}
 use Rattle.gates.specs.Steps.{at, origin}
-use Rattle.gates.specs.Meaning.{meaning, order-steps, job-steps}
+use Rattle.gates.specs.Meaning.{job-steps}
 use Rattle.gates.specs.Walk.{Conf, whole, far}
 use Rattle.gates.specs.Hosts.{Triple, act, share}
-use Rattle.gates.specs.Costs.{Cost, step-cost, cost, plus}
+use Rattle.gates.specs.Costs.{Cost, plus}
 use Rattle.gates.proofs.Needs.{far-used, whole-alike}
 use Rattle.programs.specs.Programs.{sum-program, one-bit-program, curve-one-bit}
 use Rattle.programs.specs.Orders.{curve-program, kinds, program}

@@ -6,7 +6,6 @@ use native.Mathlib.Numerals.{towards-suc}
 use native.Mathlib.Omega.{arith}
 use lib.ListN.{length, getD, drop, length-drop, List·getD-eq-default}
 use lib.Seq.{drop-cons}
-use Rattle.programs.specs.declared.Order.{Order}
 use Rattle.jobs.specs.Job.{orders}
 use Rattle.jobs.specs.Walk.{order-at}
 

@@ -2,14 +2,12 @@
 use mathlib.Core.Path.{_≡_, refl, sym, ap, ap₂, _∙_, subst}
 use mathlib.Core.Bool.{Bool, true, false, cond}
 use mathlib.Core.List.{List, [], _∷_, map}
-use Prim.Native.Nat.{ℕ, zero, suc, _+_, _*_, _/_, _≤_}
+use Prim.Native.Nat.{ℕ, zero, suc, _*_, _/_, _≤_}
 use native.Mathlib.Omega.{arith}
 use lib.Dec.{T}
 use lib.ListN.{length, getD, List·getD-map}
 use Rattle.tables.specs.Table.{Row, rows, keeps-rules}
 use Rattle.tables.proofs.Rows.{rules}
-use Rattle.gates.specs.declared.Gate.{Gate}
-use Rattle.gates.specs.Steps.{Step}
 use Rattle.gates.specs.Meaning.{meaning, order-steps, job-steps}
 use Rattle.gates.specs.Costs.{Cost, cost-of, plus, step-cost, cost}
 use Rattle.gates.proofs.Needs.{cost-path}
@@ -17,7 +15,7 @@ use Rattle.programs.specs.declared.Order.{Order}
 use Rattle.programs.specs.Orders.{program}
 use Rattle.programs.specs.Costs.{program-cost}
 use Rattle.programs.specs.Sizes.{Size, size-of, plus-size, times-cost, times-size, end-size, curve-size, kind-sizes}
-use Rattle.programs.proofs.Sizes.{order-sized, slack-number, one-bit-number, exact-32, relu-32, row-32}
+use Rattle.programs.proofs.Sizes.{order-sized, slack-number, one-bit-number, exact-32, relu-32, row-32, order-cost}
 use Rattle.jobs.specs.Job.{orders, job-gates, steps-of, job-cost, order-fault}
 use Rattle.jobs.specs.Walk.{curve-cost, kind-costs, kind-cost}
 use Rattle.jobs.specs.CostTable.{table-counts}
@@ -65,11 +63,6 @@ of-order ps o =
 
 -- ---- a job's counts
 
-program-then : (w : ℕ) (gs : List Gate) (ss : List Step) → cost (order-steps w gs ss) ≡ plus (program-cost w gs) (cost ss)
-unfolding program-cost order-steps cost step-cost plus
-program-then w [] ss = cost-path (omega arith) (omega arith) (omega arith) (omega arith)
-program-then w (g ∷ gs) ss = rw (program-then w gs ss) (cost-path (omega arith) (omega arith) (omega arith) (omega arith))
-
 -- at the width w a job's counts are those of the table
 abbrev pub Tabled : ℕ → Type 0
 Tabled w = (job table : List ℕ) → job-cost w job table ≡ table-counts (length (rows table)) (orders job)
@@ -79,7 +72,7 @@ orders-counts : (w : ℕ) → Listed w → (ps : List Row) (os : List Order)
 unfolding job-steps cost table-counts
 orders-counts w listed ps [] = refl
 orders-counts w listed ps (o ∷ os) =
-    program-then w (program w ps o) (job-steps w (map (program w ps) os)) ∙ ap₂ plus (listed ps o) (orders-counts w listed ps os)
+    order-cost w (program w ps o) (job-steps w (map (program w ps) os)) ∙ ap₂ plus (listed ps o) (orders-counts w listed ps os)
 
 pub job-counts : Tabled 32
 unfolding job-cost steps-of job-gates

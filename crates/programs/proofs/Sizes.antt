@@ -14,6 +14,7 @@ use Rattle.gates.specs.declared.Part.the-variants.{Field}
 use Rattle.gates.specs.declared.Dealt.the-variants.{OfNegated}
 use Rattle.gates.specs.declared.Gate.{Gate}
 use Rattle.gates.specs.declared.Gate.the-variants.{Add, Sub, Xor, Mul, Refresh, Scale, Plus, Bit, Const, Public, Deal}
+use Rattle.gates.specs.Steps.{Step}
 use Rattle.gates.specs.Meaning.{meaning, order-steps}
 use Rattle.gates.specs.Costs.{Cost, cost-of, plus, step-cost, cost}
 use Rattle.gates.proofs.Needs.{cost-path}
@@ -34,6 +35,12 @@ use Rattle.programs.proofs.CurveGates.{truncation, curve-gates, sum-gat
 
 size-path : {x y : Size} → x .gates ≡ y .gates → x .cost ≡ y .cost → x ≡ y
 size-path p q = λ i. record { gates = p i; cost = q i }
+
+-- an order's gates, and the steps behind it
+pub order-cost : (w : ℕ) (gs : List Gate) (ss : List Step) → cost (order-steps w gs ss) ≡ plus (program-cost w gs) (cost ss)
+unfolding program-cost order-steps cost step-cost plus
+order-cost w [] ss = cost-path (omega arith) (omega arith) (omega arith) (omega arith)
+order-cost w (g ∷ gs) ss = rw (order-cost w gs ss) (cost-path (omega arith) (omega arith) (omega arith) (omega arith))
 
 pub cost-after : (w : ℕ) (gs hs : List Gate) → program-cost w (gs ++ hs) ≡ plus (program-cost w gs) (program-cost w hs)
 unfolding program-cost order-steps cost step-cost plus

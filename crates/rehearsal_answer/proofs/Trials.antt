@@ -2,7 +2,7 @@
 use mathlib.Core.Path.{_≡_, refl, sym, ap, ap₂, _∙_}
 use mathlib.Core.Bool.{Bool, true, false}
 use mathlib.Core.List.{List}
-use Prim.Native.Nat.{ℕ, zero, suc, _+_, _*_, _^_, _<_}
+use Prim.Native.Nat.{ℕ, zero, suc, _+_, _^_, _<_}
 use native.Mathlib.Nat.{zero-add}
 use native.Mathlib.Omega.{arith}
 use lib.Dec.{T, lit≤, lit<}
@@ -18,10 +18,9 @@ use Rattle.tables.specs.Table.{rows, keeps-rules, house}
 use Rattle.curves.specs.Curve.{scaled}
 use Rattle.tables.proofs.HouseTable.{house-keeps-rules}
 use Rattle.gates.specs.Steps.{at}
-use Rattle.gates.specs.Meaning.{job-steps}
 use Rattle.gates.specs.Costs.{Cost, cost-of, plus}
 use Rattle.programs.specs.Programs.{sum-program}
-use Rattle.programs.specs.Orders.{curve-program, kinds, program}
+use Rattle.programs.specs.Orders.{program}
 use Rattle.programs.specs.Opens.{curve-value, values, order-value}
 use Rattle.programs.specs.Costs.{program-cost}
 use Rattle.programs.specs.Sizes.{Size, plus-size, times-cost, times-size}
@@ -37,7 +36,8 @@ use Rattle.calls.specs.Lent.{or-else, dealer-lists-fault, dealer-fault}
 use Rattle.calls.specs.Calls.{fresh}
 use Rattle.calls.proofs.Faults.{long-enough}
 use Rattle.runs.specs.Runs.{Setting, staged, opened-slot}
-use Rattle.runs.specs.Orders.{Words, before-order, after-order, value-after, order-of, first-counts, used-before, refresh-mask, source-value}
+use Rattle.runs.specs.Orders.{Words, before-order, after-order, value-after, order-of, first-counts, used-before, refresh-mask}
+use Rattle.runs.specs.Orders.{source-value}
 use Rattle.runs.proofs.Opened.{order-leaves}
 use Rattle.sample_masks.proofs.Multiples.{multiples-length, multiples-at, multiples-fit}
 use Rattle.gates.specs.Hosts.{Triple, share}

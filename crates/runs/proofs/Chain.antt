@@ -10,9 +10,9 @@ use Rattle.gates.specs.Steps.{Step, end, past}
 use Rattle.gates.specs.Meaning.{meaning, order-steps, job-steps}
 use Rattle.gates.specs.Walk.{Conf, mark, whole}
 use Rattle.gates.specs.Hosts.{Triple, act}
-use Rattle.gates.specs.Costs.{Cost, plus, step-cost, cost}
-use Rattle.gates.proofs.Needs.{cost-path}
+use Rattle.gates.specs.Costs.{Cost, plus, cost}
 use Rattle.programs.specs.Costs.{program-cost}
+use Rattle.programs.proofs.Sizes.{order-cost}
 use Rattle.programs.proofs.Gates.{Fits}
 use Rattle.programs.proofs.Points.{Point, after, afters}
 use Rattle.jobs.specs.Job.{orders, job-gates, steps-of}
@@ -102,11 +102,6 @@ module _ (w : ℕ) (A B : List ℕ) (hA : Fits w A) (hB : Fits w B) where
       ap (λ (p : Conf Triple). p .state) (whole-order o G (job-steps w (take q os)) t) ∙ state-before os (ended (run o G)) q _
 
 -- ---- the counts of a job, order by order
-
-order-cost : (w : ℕ) (gs : List Gate) (ss : List Step) → cost (order-steps w gs ss) ≡ plus (program-cost w gs) (cost ss)
-unfolding order-steps program-cost cost step-cost plus
-order-cost w [] ss = cost-path (omega arith) (omega arith) (omega arith) (omega arith)
-order-cost w (g ∷ gs) ss = rw (order-cost w gs ss) (cost-path (omega arith) (omega arith) (omega arith) (omega arith))
 
 pub first-cost : (w : ℕ) (os : List (List Gate)) (q : ℕ) → cost (job-steps w (take q os)) ≡ first-counts w q os
 unfolding job-steps first-counts cost

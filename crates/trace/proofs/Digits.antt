@@ -10,7 +10,6 @@ use borrow.Author.Tests.{ltb-true, ltb-false, lt-ltb, le-ltb, le-leb, lt-leb}
 use lib.Dec.{ltb}
 use lib.ListN.{length, getD, take, drop, drop-of-length-le}
 use lib.Seq.{drop-cons}
-use Rattle.trace.specs.declared.parsing.Parsed.{Parsed}
 use Rattle.trace.specs.Decimal.{digit, digits, decimal, Written, no-word, word-at}
 
 module _ (l : List ℕ) (at : ℕ) where

@@ -12,10 +12,10 @@ use lib.Dec.{T, ltb, leb, ltb→lt, leb→le, leb·suc-zero}
 use lib.Pow.{pow-pos}
 use lib.IntN.{ℤ, pos, negsuc, subℕ, negℤ}
 use lib.Signed.{mag, leZ, ltZ}
-use Rattle.words.specs.Words.{add, sub, neg, bit}
+use Rattle.words.specs.Words.{add, sub, bit}
 use Rattle.words.specs.Signed.{floor, signed, wrap, shr-signed, in-range}
 use Rattle.words.proofs.Digits.{both}
-use Rattle.words.proofs.Words.{sub-of, sub-is, sub-lt}
+use Rattle.words.proofs.Words.{sub-of}
 use Rattle.words.proofs.Integers.{le-or-lt, neg-pos, sub-ge, sub-below, sub-same, floor-sub}
 
 -- 2^w is twice the word's half

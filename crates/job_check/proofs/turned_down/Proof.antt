@@ -1,5 +1,3 @@
-use mathlib.Core.Path.{ap}
-use Rattle.gates.specs.Costs.{Cost}
 use borrow.Author.Needs.{needs}
 use Rattle.job_check.proofs.turned_down.Statement.{statement}
 use Rattle.job_check.proofs.turned_down.Tie as tie

@@ -1,7 +1,6 @@
 -- `trace::parsing::with_digit` meets its contract.
 use borrow.Author.Needs.{needs}
 use borrow.Author.Tests.{lt-ltb, le-ltb}
-use native.Mathlib.Omega.{arith}
 use Rattle.trace.proofs.parsing.with_digit.Statement.{statement}
 use Rattle.trace.proofs.parsing.with_digit.Tie as tie
 
