@@ -1,7 +1,7 @@
 -- An order opens what it opens where the script ends with it. Assumes nothing.
 use mathlib.Core.Path.{_≡_, refl, sym, ap, _∙_, subst}
-use mathlib.Core.List.{List, [], _∷_, _++_, map, map-append}
-use Prim.Native.Nat.{ℕ, zero, suc, _*_, _≤_, _<_}
+use mathlib.Core.List.{List, [], _++_, map, map-append}
+use Prim.Native.Nat.{ℕ, suc, _*_, _≤_, _<_}
 use native.Mathlib.Omega.{arith}
 use lib.ListN.{getD, length, take, drop, length-take, List·getD-append}
 use Rattle.words.specs.Words.{numbers}
@@ -17,6 +17,7 @@ use Rattle.gates.proofs.Needs.{whole-append, cost-append}
 use Rattle.walks.proofs.Gates.{programs-append}
 use Rattle.programs.specs.declared.Order.{Order}
 use Rattle.programs.specs.Orders.{program}
+use Rattle.jobs.proofs.Indices.{Cut, cut}
 use Rattle.jobs.specs.Job.{orders, job-gates, steps-of}
 use Rattle.jobs.specs.FirstFault.{order, IllSized, no-words, above-256, not-by-4, Meets, Faultless}
 use Rattle.jobs.proofs.FirstFault.{number-0}
@@ -70,28 +71,7 @@ same w S′ S F q v v′ G G′ i =
     (after-same S′ S F q (finished-order S′ v′ (G′ .run) q (G′ .finished)))
     ∙ sym (finished-opens S′ w v′ (G′ .run) q i (G′ .finished))
 
--- ---- a job's orders up to an index
-
-record Cut (ws : List ℕ) (i : ℕ) : Type 0 where
-  pub fits : i * 4 ≤ length ws
-  pub count : length (orders (take (i * 4) ws)) ≡ i
-  pub splits : orders ws ≡ orders (take (i * 4) ws) ++ orders (drop (i * 4) ws)
-
-cut : (ws : List ℕ) (i : ℕ) → i ≤ length (orders ws) → Cut ws i
-unfolding orders
-cut ws zero h = record { fits = omega arith; count = refl; splits = refl }
-cut [] (suc i) h = absurd (omega arith)
-cut (k ∷ []) (suc i) h = absurd (omega arith)
-cut (k ∷ d ∷ []) (suc i) h = absurd (omega arith)
-cut (k ∷ d ∷ a ∷ []) (suc i) h = absurd (omega arith)
-cut (k ∷ d ∷ a ∷ c ∷ ws) (suc i) h =
-    let e : suc i * 4 ≡ suc (suc (suc (suc (i * 4)))) = omega arith in
-    let r = cut ws i (omega arith) in
-    record {
-      fits = omega (arith, r .fits);
-      count = rw e (ap suc (r .count));
-      splits = rw e (ap (λ (os : List Order). record { kind = k; target = d; source = a; fourth = c } ∷ os) (r .splits));
-    }
+-- ---- a job: its orders up to order q
 
 module _ (w : ℕ) (S : Setting) (q : ℕ) (hq : q < length (orders (S .job))) where
   abbrev n : ℕ

@@ -1,6 +1,7 @@
 pub mod Accepted
 pub mod Conditions
 pub mod Orders
+pub mod Indices
 pub mod Sums
 pub mod CostTable
 pub mod Turns

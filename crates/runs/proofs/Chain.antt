@@ -3,7 +3,7 @@ use mathlib.Core.Path.{_≡_, refl, sym, ap, _∙_}
 use mathlib.Core.List.{List, [], _∷_, _++_, map, append-nil, append-assoc}
 use Prim.Native.Nat.{ℕ, zero, suc, _+_, _≤_, _<_}
 use native.Mathlib.Omega.{arith}
-use lib.ListN.{getD, length, take, length-map}
+use lib.ListN.{getD, length, take}
 use Rattle.gates.specs.declared.Gate.{Gate}
 use Rattle.gates.specs.declared.Gate.the-variants.{Add, Sub, Xor, Mul, And, Refresh, Scale, Plus, Up, Bit, Const, Public, Deal, DealBits}
 use Rattle.gates.specs.Steps.{Step, end, past}
@@ -15,6 +15,7 @@ use Rattle.programs.specs.Costs.{program-cost}
 use Rattle.programs.proofs.Sizes.{order-cost}
 use Rattle.programs.proofs.Gates.{Fits}
 use Rattle.programs.proofs.Points.{Point, after, afters}
+use Rattle.jobs.proofs.Indices.{gates-length}
 use Rattle.jobs.specs.Job.{orders, job-gates, steps-of}
 use Rattle.calls.specs.Scripts.{job-script, ends, Closed, Orderly}
 use Rattle.runs.specs.Orders.{first-counts}
@@ -149,10 +150,6 @@ ends-job w [] = refl
 ends-job w (o ∷ os) = ends-order w o (job-steps w os) ∙ ap suc (ends-job w os)
 
 -- a job has as many lists of gates as orders
-pub gates-length : (w : ℕ) (job table : List ℕ) → length (job-gates w job table) ≡ length (orders job)
-unfolding job-gates
-gates-length w job table = length-map (orders job) _
-
 pub job-orders : (w : ℕ) (job table : List ℕ) → ends (steps-of w job table) ≡ length (orders job)
 unfolding steps-of
 job-orders w job table = ends-job w (job-gates w job table) ∙ gates-length w job table

@@ -21,7 +21,8 @@ use Rattle.runs.proofs.Lists.{getD-map}
 use Rattle.runs.specs.Runs.{Setting, staged}
 use Rattle.runs.specs.Orders.{Words, share-before, share-after, value-after, Unwritten, order-of, Untargeted, used-before}
 use Rattle.runs.specs.Orders.{refresh-mask, source-value, source-mask, second-value}
-use Rattle.runs.proofs.Chain.{gates-length, job-orders, job-orderly}
+use Rattle.jobs.proofs.Indices.{gates-length}
+use Rattle.runs.proofs.Chain.{job-orders, job-orderly}
 use Rattle.runs.proofs.Gated.{program-leaves}
 use Rattle.runs.proofs.Spared.{slot-kept}
 use Rattle.runs.proofs.Written.{spares-program}

@@ -6,7 +6,8 @@ use Prim.Native.Nat.{ℕ, zero, suc, _≤_, _<_, _/_}
 use lib.ListN.{length}
 use Rattle.gates.specs.Steps.{Lane}
 use Rattle.gates.specs.Hosts.{Triple, of0, of1, of2}
-use Rattle.worker.proofs.Jobs.{order-count, sized}
+use Rattle.jobs.proofs.Indices.{order-count}
+use Rattle.worker.proofs.Jobs.{sized}
 use Rattle.calls.specs.Calls.{State, Answer, Prepared, fresh, unless, given, start, prepare}
 use Rattle.calls.specs.Scripts.{Script, job-script, orders-in, Closed}
 use Rattle.calls.specs.Lent.{lent, dealer-fault}

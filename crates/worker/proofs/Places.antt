@@ -31,7 +31,7 @@ use Rattle.walks.proofs.Gates.{never}
 use Rattle.walks.proofs.Before.{before}
 use Rattle.walks.proofs.Places.{no-place, found-at}
 use Rattle.worker.specs.Jobs.{Sized, Standing}
-use Rattle.worker.proofs.Jobs.{gates-count, gates-at, cost-before}
+use Rattle.jobs.proofs.Indices.{gates-count, gates-at, cost-before}
 
 -- a state stands there, all its numbers are small, and it is what `seek` finds: the gate i, with a words of A, b of B and so many
 -- deals used before it

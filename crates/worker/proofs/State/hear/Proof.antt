@@ -7,7 +7,8 @@ use Rattle.jobs.specs.Walk.{counted}
 use Rattle.calls.specs.Scripts.{job-script}
 use Rattle.calls.proofs.Scripts.{job-made}
 use Rattle.worker.specs.Answers.{state-of}
-use Rattle.worker.proofs.Jobs.{gates-count, gates-drop, sized}
+use Rattle.jobs.proofs.Indices.{gates-count, gates-drop}
+use Rattle.worker.proofs.Jobs.{sized}
 use Rattle.walks.proofs.Gates.{steps-at}
 use Rattle.walks.proofs.Answers.{hear-refused, at-nowhere, at-exchange, past-programs}
 use Rattle.worker.proofs.Places.{There, accepted, none-there, found-there}

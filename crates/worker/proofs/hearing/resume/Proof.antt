@@ -6,7 +6,7 @@ use Rattle.gates.specs.Meaning.{meaning}
 use Rattle.jobs.specs.Job.{job-gates}
 use Rattle.worker.specs.Answers.{state-of}
 use Rattle.gates.proofs.Uses.{few-used}
-use Rattle.worker.proofs.Jobs.{gates-drop}
+use Rattle.jobs.proofs.Indices.{gates-drop}
 use Rattle.walks.proofs.Programs.{resumed}
 use Rattle.worker.proofs.Places.{not-past, fetched-there, speaks-there}
 use borrow.Author.Needs.{needs}

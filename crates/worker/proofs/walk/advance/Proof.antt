@@ -8,7 +8,8 @@ use Rattle.jobs.specs.Job.{job-gates}
 use Rattle.walks.specs.Workers.{cursor}
 use Rattle.walks.specs.Halts.{steps-from, reported}
 use Rattle.walks.proofs.Programs.{finished, halted, next-program}
-use Rattle.worker.proofs.Jobs.{order-there, gates-over, short-order}
+use Rattle.jobs.proofs.Indices.{order-there, gates-over}
+use Rattle.worker.proofs.Jobs.{short-order}
 use Rattle.worker.proofs.walk.advance.Statement.{statement}
 use Rattle.worker.proofs.walk.advance.Tie as tie
 use Rattle.calls.specs.Lent.{worker-with}
