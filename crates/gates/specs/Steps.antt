@@ -77,12 +77,12 @@ origin = record { order = 0; turn = 0; a = 0; b = 0; deals = 0 }
 unfoldable pub past : Step → Cursor → Cursor
 past (local d m l) c = c
 past (deal d f) c = record { order = c.order; turn = c.turn; a = suc c.a; b = c.b; deals = suc c.deals }
-past (exchange d e) c = record {
-  order = c.order;
-  turn = suc c.turn;
-  a = suc (new-at e c.a);
-  b = suc c.b;
-  deals =
-      past-deal e c.deals;
-}
+past (exchange d e) c =
+    record {
+      order = c.order;
+      turn = suc c.turn;
+      a = suc (new-at e c.a);
+      b = suc c.b;
+      deals = past-deal e c.deals;
+    }
 past end c = record { order = suc c.order; turn = 0; a = c.a; b = c.b; deals = c.deals }
