@@ -19,5 +19,6 @@ unfoldable pub seek : (o x : ℕ) → List Step → Cursor → Found
 seek o x [] c = cond (here o x c) (found [] c) nowhere
 seek o x (local d m l ∷ ss) c = seek o x ss (past (local d m l) c)
 seek o x (deal d f ∷ ss) c = seek o x ss (past (deal d f) c)
-seek o x (exchange d e ∷ ss) c = cond (here o x c) (found (exchange d e ∷ ss) c) (seek o x ss (past (exchange d e) c))
+seek o x (exchange d e ∷ ss) c = cond (here o x c) (found (exchange d e ∷ ss) c)
+    (seek o x ss (past (exchange d e) c))
 seek o x (end ∷ ss) c = seek o x ss (past end c)

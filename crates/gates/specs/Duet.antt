@@ -16,14 +16,16 @@ module _ (A B D : List ℕ) where
   duet end c s = (act1 A end c (s .0), act2 B D end c (s .1))
 
 -- what is spoken at a step, in front of what is spoken later
-unfoldable pub utter : {S : Type 0} → (Exchange → Cursor → S → ℕ) → Step → Cursor → S → List ℕ → List ℕ
+unfoldable pub utter : {S : Type 0} → (Exchange → Cursor → S → ℕ) → Step → Cursor → S → List ℕ
+    → List ℕ
 utter say (local d m l) c s ws = ws
 utter say (deal d f) c s ws = ws
 utter say (exchange d e) c s ws = say e c s ∷ ws
 utter say end c s ws = ws
 
 -- the words spoken on a walk, in order
-unfoldable pub words : {S : Type 0} → (Step → Cursor → S → S) → (Exchange → Cursor → S → ℕ) → List Step → Cursor → S
+unfoldable pub words : {S : Type 0} → (Step → Cursor → S → S) → (Exchange → Cursor → S → ℕ)
+    → List Step → Cursor → S
     → List ℕ
 words f say [] c s = []
 words f say (x ∷ ss) c s = utter say x c s (words f say ss (past x c) (f x c s))

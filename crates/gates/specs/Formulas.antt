@@ -32,9 +32,9 @@ pub record Effect : Type 0 where
   pub says2 : List ℕ
   pub left : Share ℕ
 
--- "Product of a and b: host 0 takes g1 from A and sends g2 = La × Lb - g1 to host 2. New masks: L1 from A, after g1,
--- and L2 from B. Host 1 speaks ma × mb - ma × Lb1 - mb × La1 + g1 + L1; host 2 speaks g2 - ma × Lb2 - mb × La2 + L2.
--- The new m is the sum of the two spoken words." "For bits: and for times, xor for plus and minus."
+-- "Product of a and b: host 0 takes g1 from A and sends g2 = La × Lb - g1 to host 2. New masks: L1 from A, after
+-- g1, and L2 from B. Host 1 speaks ma × mb - ma × Lb1 - mb × La1 + g1 + L1; host 2 speaks g2 - ma × Lb2 - mb × La2
+-- + L2. The new m is the sum of the two spoken words." "For bits: and for times, xor for plus and minus."
 abbrev pub a-product : Ops ℕ → (x y : Share ℕ) (g1 l1 l2 : ℕ) → Effect
 a-product O x y g1 l1 l2 =
     record {
@@ -42,7 +42,8 @@ a-product O x y g1 l1 l2 =
       b = l2 ∷ [];
       deals = product-deal O (x .l1) (x .l2) (y .l1) (y .l2) g1 ∷ [];
       says1 = product-word1 O (x .m) (y .m) (x .l1) (y .l1) g1 l1 ∷ [];
-      says2 = product-word2 O (x .m) (y .m) (x .l2) (y .l2) (product-deal O (x .l1) (x .l2) (y .l1) (y .l2) g1) l2 ∷ [];
+      says2 = product-word2 O (x .m) (y .m) (x .l2) (y .l2) (product-deal O (x .l1) (x .l2) (y .l1) (y .l2) g1) l2
+          ∷ [];
       left = Shares.product O x y g1 l1 l2;
     }
 
@@ -110,17 +111,21 @@ module _ (A B : List ℕ) (c : Cursor) (j : Triple) where
 
     -- every gate, of the target d and the sources a and b
     pub record Formulas : Type 0 where
-      pub product : (d a b g1 l1 l2 : ℕ) → Does (Mul d a b) d (a-product (numbers w) (share j a) (share j b) g1 l1 l2)
-      pub product-bits : (d a b g1 l1 l2 : ℕ) → Does (And d a b) d (a-product (bits w) (share j a) (share j b) g1 l1 l2)
+      pub product : (d a b g1 l1 l2 : ℕ)
+          → Does (Mul d a b) d (a-product (numbers w) (share j a) (share j b) g1 l1 l2)
+      pub product-bits : (d a b g1 l1 l2 : ℕ)
+          → Does (And d a b) d (a-product (bits w) (share j a) (share j b) g1 l1 l2)
       pub refresh : (d a l1 l2 : ℕ) → Does (Refresh d a) d (a-refresh (numbers w) (share j a) l1 l2)
       -- a value of the masks of a
       pub deal : (d a : ℕ) (f : Dealt) (l1 : ℕ)
           → Does (Deal d a f) d (a-deal (numbers w) (dealt-of w f (share j a .l1) (share j a .l2)) l1)
       -- "Let n = -L. The adder deals n as bits"
-      pub deal-bits : (d a l1 : ℕ) → Does (DealBits d a) d (a-deal (bits w) (neg w (mask (numbers w) (share j a))) l1)
+      pub deal-bits : (d a l1 : ℕ) → Does (DealBits d a) d
+          (a-deal (bits w) (neg w (mask (numbers w) (share j a))) l1)
       -- "Known value v of hosts 1 and 2: m = v, masks 0."
       pub const : (d n : ℕ) → Does (Const d n) d (alone (known (numbers w) (n % 2 ^ w)))
-      pub public : (d a : ℕ) (f : Part) → Does (Public d a f) d (alone (known (numbers w) (part w f (share j a .m))))
+      pub public : (d a : ℕ) (f : Part) → Does (Public d a f) d
+          (alone (known (numbers w) (part w f (share j a .m))))
       -- the same on m and on both masks
       pub sum : (d a b : ℕ) → Does (Add d a b) d (alone (each2 (add w) (share j a) (share j b)))
       pub difference : (d a b : ℕ) → Does (Sub d a b) d (alone (each2 (sub w) (share j a) (share j b)))

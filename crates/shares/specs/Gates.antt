@@ -74,5 +74,6 @@ pub record Open {A : Type 0} (O : Ops A) : Type 0 where
   pub masked-opens : (x l1 l2 : A) → value O (masked O x l1 l2) ≡ x
   pub deal-opens : (v a : A) → value O (deal O v a) ≡ v
   pub known-opens : (v : A) → value O (known O v) ≡ v
-  pub product-opens : (a b : Share A) (g1 l1 l2 : A) → value O (product O a b g1 l1 l2) ≡ O .mul (value O a) (value O b)
+  pub product-opens : (a b : Share A) (g1 l1 l2 : A)
+      → value O (product O a b g1 l1 l2) ≡ O .mul (value O a) (value O b)
   pub refresh-opens : (a : Share A) (l1 l2 : A) → value O (refresh O a l1 l2) ≡ value O a
