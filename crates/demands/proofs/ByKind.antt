@@ -154,6 +154,6 @@ by-kind w wide =
       larger = larger w wide;
       curve-exact = curve-exact w wide;
       curve-one-bit = curve-one-bit w wide;
-      curve-sum = same-sum w;
+      curve-sum = same-sum;
       curve-range = λ o S q v F. curve-range w wide S q v F o;
     }

@@ -20,7 +20,7 @@ use Rattle.calls.specs.Calls.{State, Answer, fresh, report, unless, given, star
 use Rattle.calls.specs.Calls.{resume, hear, prepared, prepare}
 use Rattle.demands.specs.Conditions.{places-from, Terms, Single}
 use Rattle.demands.specs.Numbers.{Told}
-use Rattle.demands.specs.Demand1.{terms-of, job-terms, gate-terms, given-back, Demand1}
+use Rattle.demands.specs.Demand1.{terms-of, job-terms, gate-terms, given-back, Demand1At, Demand1}
 use Rattle.runs.proofs.Chain.{job-orders, job-orderly}
 use Rattle.runs.proofs.Refusals.{start-state, hear-state, prepare-back}
 use Rattle.demands.proofs.Placed.{gates-placed}
@@ -88,7 +88,7 @@ module _ (w : ℕ) (needs : (job table : List ℕ) → Cost) (costs : (job table
   job-told : (job table : List ℕ) → Told (job-script w job table) (terms job table)
   job-told job table = told w job table (needs job table) (costs job table)
 
-  demanded : Demand1 w terms
+  demanded : Demand1At w terms
   demanded =
       record {
         preparing = λ job table A B D r. numbers .preparing (job-script w job table) (terms job table) (job-told job table) A B D r;
@@ -108,9 +108,9 @@ module _ (w : ℕ) (needs : (job table : List ℕ) → Cost) (costs : (job table
       }
 
 -- at every width, by the costs of the orders' gates
-pub demand1-at : (w : ℕ) → Demand1 w (gate-terms w)
+pub demand1-at : (w : ℕ) → Demand1At w (gate-terms w)
 demand1-at w = demanded w (job-cost w) (λ job table. refl)
 
 -- at 32 bits, by document 01's table of costs
-pub demand1 : Demand1 32 job-terms
+pub demand1 : Demand1
 demand1 = demanded 32 (λ job table. table-counts (length (rows table)) (orders job)) (cost-table .job-counts)

@@ -11,7 +11,7 @@ use Rattle.runs.specs.Runs.{Stage, Setting, staged, Spoken, ready, going, World
 use Rattle.runs.specs.Runs.{Completes, prepares, starts1, starts2, hears1, hears2, given-out, begin, Finished, Accepted}
 use Rattle.demands.specs.Conditions.{places-from, Terms, PreparationIs, of-itself, of-lists, of-buffer, prepares-well}
 use Rattle.demands.specs.Numbers.{Told}
-use Rattle.demands.specs.Demand1.{job-terms, gate-terms, Demand1}
+use Rattle.demands.specs.Demand1.{job-terms, gate-terms, Demand1At}
 use Rattle.runs.specs.Strict.{Calls, none, completes}
 use Rattle.demands.specs.Whole.{WholeRun, first-world, Whole}
 use Rattle.runs.proofs.Kept.{kept}
@@ -111,7 +111,7 @@ module _ (S : Stage) (E : List ℕ) where
 
 -- ---- a job
 
-module _ (w : ℕ) (terms : (job table : List ℕ) → Terms) (d : Demand1 w terms) (S : Setting) (buf : List ℕ) where
+module _ (w : ℕ) (terms : (job table : List ℕ) → Terms) (d : Demand1At w terms) (S : Setting) (buf : List ℕ) where
   abbrev JobIs : ℕ → ℕ → Type 0
   JobIs = PreparationIs (terms (S .job) (S .table)) (S .A) (S .B) buf
 

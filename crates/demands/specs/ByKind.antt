@@ -77,8 +77,8 @@ pub record ByKind (w : ℕ) : Type 0 where
   pub curve-one-bit : (S : Setting) (q : ℕ) (v : World) → Finishes w (staged w S) q v → OneBit S q
       → opens w S v q
       ≡ (0, signed w (one-bit w 12 (add w (W-of w S q) (refresh-mask w S q)) (refresh-mask w S q)))
-  -- W is the sum that the hosts form of words, row by row: for every x and whatever the rows
-  pub curve-sum : (ps : List Row) (x : ℕ) → word-curve w ps x ≡ word-scaled w ps x
+  -- W is the sum that the hosts form of words, row by row: at any width, for every x and whatever the rows
+  pub curve-sum : (w′ : ℕ) (ps : List Row) (x : ℕ) → word-curve w′ ps x ≡ word-scaled w′ ps x
   -- "and nothing wraps": for a reading in range W reads Y, which takes at most 28 bits
   pub curve-range : 28 ≤ w → (S : Setting) (q : ℕ) (v : World) → Finishes w (staged w S) q v
       → order-of S q .kind ≡ 10

@@ -51,8 +51,8 @@ hear-job w h job table M D s v = hear (lent h (job-script w job table) M D) s v
 abbrev pub given-back : Pair → State
 given-back r = record { m = r .0 ++ replicate 8 0; mask = r .1 ++ replicate 8 0; order = 0; turn = 0 }
 
--- at the width w, in these terms: at 32 bits `job-terms`, at every width `gate-terms w`
-pub record Demand1 (w : ℕ) (terms : (job table : List ℕ) → Terms) : Type 0 where
+-- at the width w, in these terms
+pub record Demand1At (w : ℕ) (terms : (job table : List ℕ) → Terms) : Type 0 where
   -- "A call that meets a condition of document 01's list .. gives the number its checking order reaches first", and the
   -- order's index; "every other call completes its work": its number is 0
   pub preparing : (job table A B buffer : List ℕ) (r : Pair)
@@ -78,3 +78,7 @@ pub record Demand1 (w : ℕ) (terms : (job table : List ℕ) → Terms) : Type 0
       → (start loan r .state ≡ given-back r) × (start loan r .spoken ≡ 0) × (start loan r .word ≡ 0)
   pub hearing-unchanged : (loan : Lent) (s : State) (v : ℕ) → hear loan s v .number ≢ 0
       → (hear loan s v .state ≡ s) × (hear loan s v .spoken ≡ 0) × (hear loan s v .word ≡ 0)
+
+-- the customer's: at 32 bits, by document 01's table of costs
+abbrev pub Demand1 : Type 0
+Demand1 = Demand1At 32 job-terms

@@ -6,7 +6,7 @@ use Rattle.gates.specs.Costs.{plus}
 use Rattle.gates.proofs.Needs.{cost-path}
 use Rattle.jobs.specs.Walk.{curve-cost, kind-costs, kind-cost}
 use Rattle.jobs.specs.CostTable.{CostTable}
-use Rattle.jobs.proofs.Sums.{job-counts}
+use Rattle.jobs.proofs.Sums.{of-order, job-counts}
 
 row-more : (mode n : ℕ) → kind-cost 10 mode (suc n) ≡ plus (kind-cost 9 mode n) (kind-cost 10 mode n)
 unfolding kind-cost kind-costs curve-cost plus
@@ -15,4 +15,12 @@ row-more (suc m) n = cost-path (omega arith) (omega arith) (omega arith) (omega 
 
 pub cost-table : CostTable
 unfolding kind-cost kind-costs curve-cost
-cost-table = record { job-counts = job-counts; lines = λ c n. refl; eight-exact = refl; eight-one-bit = refl; row-more = row-more }
+cost-table =
+    record {
+      order-counts = of-order;
+      job-counts = job-counts;
+      lines = λ c n. refl;
+      eight-exact = refl;
+      eight-one-bit = refl;
+      row-more = row-more;
+    }

@@ -46,15 +46,15 @@ unfolding curve-size end-size plus-size times-size times-cost curve-cost program
 curve-tied zero n = rw (row-32, exact-32) (cost-path (omega arith) (omega arith) (omega arith) (omega arith))
 curve-tied (suc c) n = rw (row-32, one-bit-number 32) (cost-path (omega arith) (omega arith) (omega arith) (omega arith))
 
-tied : (c n : ℕ) → map (λ (z : Size). z .cost) (kind-sizes 32 c n) ≡ kind-costs c n
+pub tied : (c n : ℕ) → map (λ (z : Size). z .cost) (kind-sizes 32 c n) ≡ kind-costs c n
 unfolding kind-sizes kind-costs program-cost order-steps meaning cost step-cost plus
 tied c n = rw (slack-number 32, one-bit-number 32, exact-32, relu-32, curve-tied c n)
 
 -- at the width w an order's counts are its entry in the table
-abbrev Listed : ℕ → Type 0
+abbrev pub Listed : ℕ → Type 0
 Listed w = (ps : List Row) (o : Order) → program-cost w (program w ps o) ≡ kind-cost (o .kind) (o .fourth) (length ps)
 
-of-order : Listed 32
+pub of-order : Listed 32
 unfolding kind-cost program-cost order-steps cost step-cost plus
 of-order ps o =
     ap (λ (z : Size). z .cost) (order-sized 32 ps o)

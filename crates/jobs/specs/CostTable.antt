@@ -3,9 +3,11 @@ use mathlib.Core.Path.{_≡_}
 use mathlib.Core.List.{List, [], _∷_, map}
 use Prim.Native.Nat.{ℕ, suc}
 use lib.ListN.{length}
-use Rattle.tables.specs.Table.{rows}
+use Rattle.tables.specs.Table.{Row, rows}
 use Rattle.gates.specs.Costs.{Cost, cost-of, plus}
 use Rattle.programs.specs.declared.Order.{Order}
+use Rattle.programs.specs.Orders.{program}
+use Rattle.programs.specs.Costs.{program-cost}
 use Rattle.jobs.specs.Job.{orders, job-cost}
 use Rattle.jobs.specs.Walk.{kind-cost}
 
@@ -15,6 +17,9 @@ table-counts n [] = cost-of 0 0 0 0
 table-counts n (o ∷ os) = plus (kind-cost (o .kind) (o .fourth) n) (table-counts n os)
 
 pub record CostTable : Type 0 where
+  -- an order's gates cost its entry, whatever its kind, its words and the rows
+  pub order-counts : (ps : List Row) (o : Order)
+      → program-cost 32 (program 32 ps o) ≡ kind-cost (o .kind) (o .fourth) (length ps)
   -- "A job's counts .. equal .. these sums": for every job and table, turned down or not
   pub job-counts : (job table : List ℕ) → job-cost 32 job table ≡ table-counts (length (rows table)) (orders job)
   -- "Kinds 0 to 3 use none", and the lines of kinds 4 to 9: deals, words spoken, A, B; whatever the fourth word and
