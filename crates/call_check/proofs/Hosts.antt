@@ -14,7 +14,7 @@ use Rattle.jobs.specs.Walk.{counted}
 use Rattle.calls.specs.Scripts.{Script, job-script}
 use Rattle.calls.specs.Lent.{lent, or-else, lists-fault, lent-fault, passed, dealer-lists-fault}
 use Rattle.calls.proofs.Faults.{Accepts, accepted-tells, or-accepted, no-host, none-passed}
-use Rattle.call_check.specs.declared.lending.Lending.{Lending}
+use Rattle.call_check.specs.declared.checking.Finding.{Finding}
 use Rattle.call_check.specs.Faults.{fault-of, needs-of}
 
 -- an accepted job has the lists' number
@@ -61,6 +61,6 @@ other-host h σ M D n =
     no-host h σ M D (λ (z : h ≡ 1). n (omega arith) (omega arith)) (λ (z : h ≡ 2). n (omega arith) (omega arith))
 
 -- a call that is turned down has no counts
-pub none-counted : (r : Lending) (n i : ℕ) (k : Cost) → (fault-of r ≡ (n, i)) × (counted (r .counts) ≡ cost-of 0 0 0 0)
+pub none-counted : (r : Finding) (n i : ℕ) (k : Cost) → (fault-of r ≡ (n, i)) × (counted (r .counts) ≡ cost-of 0 0 0 0)
     → (n ≡ 0 → ⊥) → counted (r .counts) ≡ passed (r .number) k
 none-counted r n i k t ne = t .1 ∙ none-passed (r .number) k (λ z. ne (sym (ap (λ (f : Fault). f .0) (t .0)) ∙ z))

@@ -4,9 +4,9 @@ use Prim.Native.Nat.{ℕ}
 use lib.Dec.{eqb}
 use Rattle.gates.specs.Costs.{Cost, cost-of}
 use Rattle.jobs.specs.Job.{Fault}
-use Rattle.call_check.specs.declared.lending.Lending.{Lending}
+use Rattle.call_check.specs.declared.checking.Finding.{Finding}
 
-abbrev pub fault-of : Lending → Fault
+abbrev pub fault-of : Finding → Fault
 fault-of f = (f .number, f .index)
 
 -- host 1: A; host 2: B and the deals; host 0: all three

@@ -3,11 +3,11 @@
 ghost use mathlib.Core.Path.{_≡_};
 ghost use Rattle.calls.specs.Calls as Calls;
 
-mod lending;
+mod checking;
 
-pub use lending::Lending;
-pub use lending::check_dealer;
-pub use lending::check_lent;
+pub use checking::Finding;
+pub use checking::check_dealer;
+pub use checking::check_lent;
 
 // Sixteen registers, and kept words that are 0.
 pub fn fresh(registers: [u32; 16]) -> [u32; 24]

@@ -9,7 +9,7 @@ ghost use Rattle.jobs.specs.Walk.{counted, Small, kind-cost};
 use jobs::Counts;
 use programs::Order;
 
-// The sizes of a curve's row, which are a ReLU's, and of the exact truncation; at each exchange both hosts speak.
+// The counts of a curve's row, which are its ReLU's, and of the two truncations; at each exchange both hosts speak.
 const ROW_EXCHANGES: u32 = programs::ROW_EXCHANGES as u32;
 
 const ROW_WORDS: u32 = 2 * ROW_EXCHANGES;
@@ -25,6 +25,21 @@ const EXACT_WORDS: u32 = 2 * EXACT_EXCHANGES;
 const EXACT_WORDS_A: u32 = programs::EXACT_WORDS_A as u32;
 
 const EXACT_DEALS: u32 = programs::EXACT_DEALS as u32;
+
+const ONE_BIT_EXCHANGES: u32 = programs::ONE_BIT_EXCHANGES as u32;
+
+const ONE_BIT_WORDS: u32 = 2 * ONE_BIT_EXCHANGES;
+
+const ONE_BIT_WORDS_A: u32 = programs::ONE_BIT_WORDS_A as u32;
+
+const ONE_BIT_DEALS: u32 = programs::ONE_BIT_DEALS as u32;
+
+// A refresh, which deals nothing, and the one-bit truncation.
+const REFRESHED_WORDS: u32 = 2 + ONE_BIT_WORDS;
+
+const REFRESHED_WORDS_A: u32 = 1 + ONE_BIT_WORDS_A;
+
+const REFRESHED_EXCHANGES: u32 = 1 + ONE_BIT_EXCHANGES;
 
 pub(crate) fn count_of(deals: u32, words: u32, a: u32, b: u32) -> Counts
     ensures { λ r. ⌜ counted r ≡ cost-of deals words a b ⌝ }
@@ -73,10 +88,10 @@ fn curve_counts(mode: u32, rows: u32) -> Counts
         )
     } else {
         count_of(
-            ROW_DEALS * rows + 3,
-            ROW_WORDS * rows + 4,
-            ROW_WORDS_A * rows + 5,
-            ROW_EXCHANGES * rows + 2,
+            ROW_DEALS * rows + ONE_BIT_DEALS,
+            ROW_WORDS * rows + REFRESHED_WORDS,
+            ROW_WORDS_A * rows + REFRESHED_WORDS_A,
+            ROW_EXCHANGES * rows + REFRESHED_EXCHANGES,
         )
     }
 }
@@ -92,7 +107,12 @@ pub(crate) fn order_counts(o: Order, rows: u32) -> Counts
         4 => count_of(1, 2, 2, 1),
         5 => count_of(0, 2, 1, 1),
         6 => count_of(1, 0, 1, 0),
-        7 => count_of(3, 2, 4, 1),
+        7 => count_of(
+            ONE_BIT_DEALS,
+            ONE_BIT_WORDS,
+            ONE_BIT_WORDS_A,
+            ONE_BIT_EXCHANGES,
+        ),
         8 => count_of(EXACT_DEALS, EXACT_WORDS, EXACT_WORDS_A, EXACT_EXCHANGES),
         9 => count_of(ROW_DEALS, ROW_WORDS, ROW_WORDS_A, ROW_EXCHANGES),
         10 => curve_counts(fourth, rows),

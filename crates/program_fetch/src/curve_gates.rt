@@ -15,6 +15,7 @@ use crate::templates::minus;
 use crate::templates::one_bit_gate;
 use crate::templates::relu_gate;
 use gates::Gate;
+use programs::RELU_GATES;
 use programs::ROW_GATES;
 
 // 4096 times the first row's value, with which the sum starts.
@@ -75,7 +76,7 @@ fn row_gate(x: u32, table: &[u32], row: usize, i: usize) -> Fetched
                 n: minus(table[2 * row]),
             },
         },
-        1..=39 => relu_gate(21, 23, i - 1),
+        1..=RELU_GATES => relu_gate(21, 23, i - 1),
         40 => Fetched::At {
             gate: Gate::Scale {
                 d: 23,

@@ -9,6 +9,7 @@ ghost use Rattle.programs.specs.Programs.{relu-program, one-bit-program, exact-
 ghost use Rattle.programs.specs.Orders.{curve-program, program};
 ghost use Rattle.program_seek.specs.Seek.{sought, Seeks};
 ghost use Rattle.program_seek.specs.Packed.{moved, place-of};
+use programs::EXACT_EXCHANGES;
 use programs::Order;
 use programs::ROW_DEALS;
 use programs::ROW_EXCHANGES;
@@ -68,7 +69,7 @@ fn relu_place(n: usize, gate: usize, a: usize, deals: usize) -> Sought
     requires { ⌜ (gate ≤ 2 ^ 62) × (a ≤ 2 ^ 62) × (deals ≤ 2 ^ 62) ⌝ }
     ensures { λ s. ⌜ ((x d : ℕ) → s ≡ sought 32 (relu-program 32 x d) n gate a deals) ⌝ }
 {
-    if n < 12 {
+    if n < ROW_EXCHANGES {
         placed(RELU_PLACES[n], gate, a, deals)
     } else {
         Sought::Nowhere
@@ -79,7 +80,7 @@ fn exact_place(n: usize, gate: usize, a: usize, deals: usize) -> Sought
     requires { ⌜ (gate ≤ 2 ^ 62) × (a ≤ 2 ^ 62) × (deals ≤ 2 ^ 62) ⌝ }
     ensures { λ s. ⌜ ((k x d : ℕ) → s ≡ sought 32 (exact-program 32 k x d) n gate a deals) ⌝ }
 {
-    if n < 12 {
+    if n < EXACT_EXCHANGES {
         placed(EXACT_PLACES[n], gate, a, deals)
     } else {
         Sought::Nowhere

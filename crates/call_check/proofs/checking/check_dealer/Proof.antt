@@ -4,8 +4,8 @@ use Rattle.jobs.specs.Job.{job-cost}
 use Rattle.calls.specs.Lent.{dealer-fault}
 use Rattle.call_check.specs.Faults.{needs-of}
 use Rattle.call_check.proofs.Hosts.{all-before}
-use Rattle.call_check.proofs.lending.check_dealer.Statement.{statement}
-use Rattle.call_check.proofs.lending.check_dealer.Tie as tie
+use Rattle.call_check.proofs.checking.check_dealer.Statement.{statement}
+use Rattle.call_check.proofs.checking.check_dealer.Tie as tie
 
 check-job-requires : tie.Need-check-job-requires
 check-job-requires c κs = search needs

@@ -5,8 +5,8 @@ use Rattle.jobs.specs.Job.{Fault}
 use Rattle.jobs.proofs.Turns.{as-refusal, as-counts}
 use Rattle.calls.proofs.Faults.{or-refused, all-passed, counts-passed}
 use Rattle.call_check.proofs.Hosts.{lists-tell, none-counted}
-use Rattle.call_check.proofs.lending.check_job.Statement.{statement}
-use Rattle.call_check.proofs.lending.check_job.Tie as tie
+use Rattle.call_check.proofs.checking.check_job.Statement.{statement}
+use Rattle.call_check.proofs.checking.check_job.Tie as tie
 
 survey-requires : tie.Need-survey-requires
 survey-requires c κs = search needs

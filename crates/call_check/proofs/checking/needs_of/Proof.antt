@@ -1,7 +1,7 @@
 use borrow.Author.Tests.{ne-eqb}
 use Rattle.call_check.specs.Faults.{needs-of}
-use Rattle.call_check.proofs.lending.needs_of.Statement.{statement}
-use Rattle.call_check.proofs.lending.needs_of.Tie as tie
+use Rattle.call_check.proofs.checking.needs_of.Statement.{statement}
+use Rattle.call_check.proofs.checking.needs_of.Tie as tie
 
 returns : tie.Need-returns
 unfolding needs-of

@@ -13,16 +13,16 @@ use jobs::Counts;
 
 // The number, 0 for none, and the order's index; where there is none, the counts of the orders before the host's place,
 // or for host 0 of the whole job.
-pub struct Lending {
+pub struct Finding {
     pub number: u32,
     pub index: u32,
     pub counts: Counts,
 }
 
-fn turned_down(number: u32, index: u32) -> Lending
+fn turned_down(number: u32, index: u32) -> Finding
     ensures { λ r. ⌜ (fault-of r ≡ (number, index)) × (counted (r .counts) ≡ cost-of 0 0 0 0) ⌝ }
 {
-    Lending {
+    Finding {
         number,
         index,
         counts: Counts {
@@ -81,7 +81,7 @@ fn check_job(
     b: &[u32],
     deals: &[u32],
     place: usize,
-) -> Lending
+) -> Finding
     ensures fault { λ r.
         ⌜ fault-of r
         ≡ or-else (job-fault 32 (now (job .entry)) (now (table .entry)))
@@ -102,7 +102,7 @@ fn check_job(
         return turned_down(number, 0);
     }
     let counts = found.before;
-    Lending {
+    Finding {
         number: 0,
         index: 0,
         counts,
@@ -117,7 +117,7 @@ pub fn check_lent(
     masks: &[u32],
     deals: &[u32],
     place: usize,
-) -> Lending
+) -> Finding
     ensures fault { λ r.
         ⌜ fault-of r
         ≡ lent-fault
@@ -134,7 +134,7 @@ pub fn check_lent(
 }
 
 // Host 0: conditions 2 to 7, and the counts of all orders, as before a place that none reaches.
-pub fn check_dealer(job: &[u32], table: &[u32], a: &[u32], b: &[u32], deals: &[u32]) -> Lending
+pub fn check_dealer(job: &[u32], table: &[u32], a: &[u32], b: &[u32], deals: &[u32]) -> Finding
     ensures fault { λ r.
         ⌜ fault-of r
         ≡ dealer-fault (job-script 32 (now (job .entry)) (now (table .entry))) (now (a .entry)) (now (b .entry))

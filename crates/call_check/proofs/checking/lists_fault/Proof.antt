@@ -1,7 +1,7 @@
 use borrow.Author.Needs.{needs}
 use Rattle.calls.proofs.Faults.{short-list-a, short-list-b, short-buffer, long-enough}
-use Rattle.call_check.proofs.lending.lists_fault.Statement.{statement}
-use Rattle.call_check.proofs.lending.lists_fault.Tie as tie
+use Rattle.call_check.proofs.checking.lists_fault.Statement.{statement}
+use Rattle.call_check.proofs.checking.lists_fault.Tie as tie
 
 cast-if1 : tie.Need-cast-if1
 cast-if1 c = search needs

@@ -3,8 +3,8 @@ use mathlib.Core.Logic.{⊎-elim}
 use native.Mathlib.Omega.{arith}
 use borrow.Author.Needs.{needs}
 use Rattle.call_check.proofs.Hosts.{of-host, other-host, none-counted}
-use Rattle.call_check.proofs.lending.check_lent.Statement.{statement}
-use Rattle.call_check.proofs.lending.check_lent.Tie as tie
+use Rattle.call_check.proofs.checking.check_lent.Statement.{statement}
+use Rattle.call_check.proofs.checking.check_lent.Tie as tie
 
 check-job-requires : tie.Need-check-job-requires
 check-job-requires c κs = search needs
