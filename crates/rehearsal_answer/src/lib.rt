@@ -6,6 +6,12 @@ ghost use Rattle.text_lines.specs.Buffers.{filled};
 ghost use Rattle.text_prints.specs.Answers.{held};
 ghost use Rattle.rehearsal_answer.specs.Rehearsal.{answer, answer-of};
 ghost use Rattle.rehearsal_answer.specs.Trial.{mode-word, in-first, trial, Ran};
+use programs::EXACT_DEALS;
+use programs::EXACT_EXCHANGES;
+use programs::EXACT_WORDS_A;
+use programs::ROW_DEALS;
+use programs::ROW_EXCHANGES;
+use programs::ROW_WORDS_A;
 use sample_masks::fill;
 use shares::Opening;
 use shares::Shares;
@@ -43,15 +49,22 @@ fn in_first(word: u32) -> [u32; 16]
     lane
 }
 
+// What an exact curve on the house table's eight rows needs; one-bit mode needs less.
+const LIST_A: usize = 8 * ROW_WORDS_A + EXACT_WORDS_A;
+
+const LIST_B: usize = 8 * ROW_EXCHANGES + EXACT_EXCHANGES;
+
+const DEALS: usize = 8 * ROW_DEALS + EXACT_DEALS;
+
 // The curve order on a share in register 0.
 fn curve(mode: u32, m: u32, l1: u32, l2: u32) -> Trio
     ensures { λ r. ⌜ Ran r (trial mode m l1 l2) ⌝ }
 {
-    let mut a = [0u32; 236];
+    let mut a = [0u32; LIST_A];
     fill(&mut a, A, 1);
-    let mut b = [0u32; 108];
+    let mut b = [0u32; LIST_B];
     fill(&mut b, B, 1);
-    let mut deals = [0u32; 128];
+    let mut deals = [0u32; DEALS];
     let job = [10, 0, 0, mode_word(mode)];
     let lane_m = in_first(m);
     let lane_l1 = in_first(l1);

@@ -3,6 +3,12 @@ use crate::fronts::front;
 use crate::printing::put_line;
 use dealer::Masks;
 use dealer::prepare;
+use programs::EXACT_DEALS;
+use programs::EXACT_EXCHANGES;
+use programs::EXACT_WORDS_A;
+use programs::ROW_DEALS;
+use programs::ROW_EXCHANGES;
+use programs::ROW_WORDS_A;
 use sample_masks::fill;
 use shares::Opening;
 use trio_open::opened;
@@ -10,15 +16,15 @@ use worker::Answer;
 use worker::Registers;
 use worker::start;
 
-// The longest accepted job is 64 exact curve orders on 16 rows. One of them needs 444 words of A, 204 of B and
-// 240 deals, and each host speaks 204 words.
-const LIST_A: usize = 28416;
+// The longest accepted job is 64 exact curve orders on 16 rows: what it needs of A, of B and in deals. Each host speaks
+// a word for each word of B.
+const LIST_A: usize = 64 * (16 * ROW_WORDS_A + EXACT_WORDS_A);
 
-const LIST_B: usize = 13056;
+const LIST_B: usize = 64 * (16 * ROW_EXCHANGES + EXACT_EXCHANGES);
 
-const DEALS: usize = 15360;
+const DEALS: usize = 64 * (16 * ROW_DEALS + EXACT_DEALS);
 
-const SPOKEN: usize = 13056;
+const SPOKEN: usize = LIST_B;
 
 // The last answers of hosts 1 and 2.
 struct Both {
