@@ -12,10 +12,10 @@ use Rattle.curves.specs.Count.{count}
 use Rattle.truncations.proofs.Truncation.{low-low}
 
 -- tests that agree below n
-same : (n : ℕ) (f g : ℕ → Bool) → ((a : ℕ) → a < n → f a ≡ g a) → count n f ≡ count n g
+pub count-same : (n : ℕ) (f g : ℕ → Bool) → ((a : ℕ) → a < n → f a ≡ g a) → count n f ≡ count n g
 unfolding count
-same zero f g h = refl
-same (suc n) f g h = ap₂ (λ (x : ℕ) (b : Bool). x + cond b 1 0) (same n f g (λ a l. h a (omega arith))) (h n (omega arith))
+count-same zero f g h = refl
+count-same (suc n) f g h = ap₂ (λ (x : ℕ) (b : Bool). x + cond b 1 0) (count-same n f g (λ a l. h a (omega arith))) (h n (omega arith))
 
 split : (n m : ℕ) (f : ℕ → Bool) → count (n + m) f ≡ count n f + count m (λ a. f (n + a))
 unfolding count
@@ -42,13 +42,13 @@ module _ (m : ℕ) (f : ℕ → Bool) (period : (a : ℕ) → f (m + a) ≡ f a)
   periods (suc j) =
       let e : suc j * m ≡ m + j * m = omega arith in
       ap (λ (x : ℕ). count x f) e ∙ split m (j * m) f
-      ∙ omega (arith, same (j * m) (λ a. f (m + a)) f (λ a l. period a), periods j)
+      ∙ omega (arith, count-same (j * m) (λ a. f (m + a)) f (λ a l. period a), periods j)
 
   shifted : (b : ℕ) → count m (λ a. f (b + a)) ≡ count m f
   shifted b =
       let e : count b f + count m (λ a. f (b + a)) ≡ count m f + count b (λ a. f (m + a)) =
       sym (split b m f) ∙ ap (λ (x : ℕ). count x f) (add-comm b m) ∙ split m b f in
-      omega (arith, e, same b (λ a. f (m + a)) f (λ a l. period a))
+      omega (arith, e, count-same b (λ a. f (m + a)) f (λ a l. period a))
 
 -- the carries of y and a number below m
 carried : (m y : ℕ) → y ≤ m → count m (λ a. leb m (y + a)) ≡ y
@@ -56,21 +56,21 @@ carried m y h =
     let e : m ≡ m - y + y = omega arith in
     ap (λ (x : ℕ). count x (λ a. leb m (y + a))) e ∙ split (m - y) y (λ a. leb m (y + a))
     ∙ ap₂ _+_
-    (same (m - y) (λ a. leb m (y + a)) (λ a. false) (λ a l. lt-leb m (y + a) (omega arith)) ∙ none (m - y))
-    (same y (λ a. leb m (y + (m - y + a))) (λ a. true) (λ a l. le-leb m (y + (m - y + a)) (omega arith)) ∙ all y)
+    (count-same (m - y) (λ a. leb m (y + a)) (λ a. false) (λ a l. lt-leb m (y + a) (omega arith)) ∙ none (m - y))
+    (count-same y (λ a. leb m (y + (m - y + a))) (λ a. true) (λ a l. le-leb m (y + (m - y + a)) (omega arith)) ∙ all y)
     ∙ zero-add y
 
 -- of the 2^w words a, y × 2^(w-k) have a carry of y and the low k bits of a + b
 pub slips : (w k y b : ℕ) → k ≤ w → y ≤ 2 ^ k → count (2 ^ w) (λ a. leb (2 ^ k) (y + add w a b % 2 ^ k)) ≡ y * 2 ^ (w - k)
 unfolding add
 slips w k y b h l =
-    same (2 ^ w) (λ a. leb (2 ^ k) (y + (a + b) % 2 ^ w % 2 ^ k)) (λ a. test (b + a))
+    count-same (2 ^ w) (λ a. leb (2 ^ k) (y + (a + b) % 2 ^ w % 2 ^ k)) (λ a. test (b + a))
     (λ a _. ap (λ (x : ℕ). leb (2 ^ k) (y + x)) (low-low w k (a + b) h ∙ ap (λ (x : ℕ). x % 2 ^ k) (add-comm a b)))
     ∙ ap (λ (n : ℕ). count n (λ a. test (b + a))) (ap (λ (x : ℕ). 2 ^ x) (omega arith) ∙ pow-add 2 (w - k) k)
     ∙ periods (2 ^ k) (λ a. test (b + a)) (λ a. ap test (omega arith) ∙ period (b + a)) (2 ^ (w - k))
     ∙ ap (λ (n : ℕ). 2 ^ (w - k) * n)
     (shifted (2 ^ k) test period b
-    ∙ same (2 ^ k) test (λ a. leb (2 ^ k) (y + a)) (λ a i. ap (λ (x : ℕ). leb (2 ^ k) (y + x)) (mod-eq-of-lt i))
+    ∙ count-same (2 ^ k) test (λ a. leb (2 ^ k) (y + a)) (λ a i. ap (λ (x : ℕ). leb (2 ^ k) (y + x)) (mod-eq-of-lt i))
     ∙ carried (2 ^ k) y l)
     ∙ mul-comm (2 ^ (w - k)) y
   where
@@ -80,7 +80,7 @@ slips w k y b h l =
     period : (a : ℕ) → test (2 ^ k + a) ≡ test a
     period a = ap (λ (x : ℕ). leb (2 ^ k) (y + x)) (ap (λ (x : ℕ). x % 2 ^ k) (add-comm (2 ^ k) a) ∙ add-mod-right a (2 ^ k))
 
--- "exactly (Y mod 4096) × 2^20 give one more", of words of 32 bits
+-- "exactly (Y mod 4096) × 2^20 give one more" at 32 bits, and so at every width of 12 or more
 pub slips-of-words : (w y b : ℕ) → 12 ≤ w → y < 4096
     → count (2 ^ w) (λ a. leb 4096 (y + (a + b) % 2 ^ w % 4096)) ≡ y * 2 ^ (w - 12)
 unfolding add

@@ -25,8 +25,7 @@ use program_fetch::Fetched;
 use program_fetch::fetch;
 use programs::Order;
 
-// ---- the lanes: the registers, with temporaries behind them that are 0 at first
-
+// The registers of a lane, before the temporaries.
 fn registers(lane: [u32; 24]) -> [u32; 16]
     ensures { λ r. ⌜ r ≡ take 16 lane ⌝ }
 {

@@ -20,7 +20,7 @@ use Rattle.calls.specs.Calls.{State, Answer, fresh, report, unless, given, star
 use Rattle.calls.specs.Calls.{resume, hear, prepared, prepare}
 use Rattle.demands.specs.Conditions.{places-from, Terms, Single}
 use Rattle.demands.specs.Numbers.{Told}
-use Rattle.demands.specs.Demand1.{terms-of, job-terms, gate-terms, given-back, Demand1At, Demand1}
+use Rattle.demands.specs.Demand1.{terms-of, gate-terms, given-back, Demand1At, Demand1}
 use Rattle.runs.proofs.Chain.{job-orders, job-orderly}
 use Rattle.runs.proofs.Refusals.{start-state, hear-state, prepare-back}
 use Rattle.demands.proofs.Placed.{gates-placed}

@@ -1,5 +1,5 @@
 -- Demand 3, proved for every run. Assumes nothing.
-use mathlib.Core.Path.{_≡_, refl, sym, ap, ap₂, _∙_, subst}
+use mathlib.Core.Path.{_≡_, refl, sym, ap, _∙_, subst}
 use mathlib.Core.Bool.{Bool, true, false, cond}
 use mathlib.Core.Logic.{⊎-elim}
 use mathlib.Core.List.{List}
@@ -21,7 +21,7 @@ use Rattle.tables.specs.Table.{rows}
 use Rattle.curves.specs.Curve.{scaled, last-count, line, Near}
 use Rattle.curves.specs.Count.{count}
 use Rattle.curves.proofs.Curve.{exact-near, one-bit-near, scaled-level}
-use Rattle.curves.proofs.Counting.{slips-of-words}
+use Rattle.curves.proofs.Counting.{count-same, slips-of-words}
 use Rattle.gates.specs.Steps.{at}
 use Rattle.programs.specs.declared.Order.{Order}
 use Rattle.programs.specs.Programs.{sum-program}
@@ -59,11 +59,6 @@ module _ (S : Setting) (q : ℕ) (v : World) (F : Finishes 32 (staged 32 S) q v)
   near-one-bit e = rw (one-bit e) (one-bit-near (S .table) (rules-kept 32 S q v F (e .kind)) (reading 32 S q) (refresh-mask 32 S q))
 
 -- ---- the count
-
-pub count-same : (n : ℕ) (f g : ℕ → Bool) → ((a : ℕ) → a < n → f a ≡ g a) → count n f ≡ count n g
-unfolding count
-count-same zero f g h = refl
-count-same (suc n) f g h = ap₂ (λ (x : ℕ) (b : Bool). x + cond b 1 0) (count-same n f g (λ a l. h a (omega arith))) (h n (omega arith))
 
 less : (z : ℤ) → eqZ z (z +ℤ pos 1) ≡ false
 less (pos n) = rw (le-leb n (n + 1) (omega arith), lt-leb (n + 1) n (omega arith))

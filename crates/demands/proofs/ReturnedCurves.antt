@@ -20,7 +20,8 @@ use Rattle.runs.specs.Strict.{Done}
 use Rattle.demands.specs.Whole.{first-world}
 use Rattle.demands.specs.ReturnedCurves.{Stays, target-opens, ReturnedCurves}
 use Rattle.runs.proofs.Chain.{job-orders}
-use Rattle.demands.proofs.Demand3.{count-same, demand3}
+use Rattle.curves.proofs.Counting.{count-same}
+use Rattle.demands.proofs.Demand3.{demand3}
 use Rattle.runs.proofs.Returned.{returned}
 use Rattle.runs.proofs.Strict.{wide-on, given-back}
 use Rattle.runs.proofs.Same.{strict}

@@ -30,10 +30,10 @@ module _ (A B : List ℕ) where
   seen1 = record { keeps = λ x ss c s g. tt; same = λ x ss c s g o. of1-act x c s o }
 
   module _ (D : List ℕ) where
-    supply-exchange : (e : Exchange) (k x : ℕ) (ds : List ℕ) → Starts D k (emit e x ds) → Starts D (past-deal e k) ds
+    supply-exchange : (e : Exchange) (n x : ℕ) (ds : List ℕ) → Starts D n (emit e x ds) → Starts D (past-deal e n) ds
     unfolding emit past-deal
-    supply-exchange (product O a b) k x ds h = h .1
-    supply-exchange (refresh O a) k x ds h = h
+    supply-exchange (product O a b) n x ds h = h .1
+    supply-exchange (refresh O a) n x ds h = h
 
     keeps2 : (x : Step) (ss : List Step) (c : Cursor) (j : Triple) → Supplied A B D (x ∷ ss) c j
         → Supplied A B D ss (past x c) (act A B x c j)
@@ -59,11 +59,11 @@ module _ (A B : List ℕ) where
     unfolding word-of1 joint1
     says1 e c j = refl
 
-    say2-part : (e : Exchange) (k x : ℕ) (ds : List ℕ) (m l : Lane) (new : ℕ) → Starts D k (emit e x ds)
-        → say2 e m l (at D k) new ≡ say2 e m l x new
+    say2-part : (e : Exchange) (n x : ℕ) (ds : List ℕ) (m l : Lane) (new : ℕ) → Starts D n (emit e x ds)
+        → say2 e m l (at D n) new ≡ say2 e m l x new
     unfolding emit say2
-    say2-part (product O a b) k x ds m l new h = rw (h .0)
-    say2-part (refresh O a) k x ds m l new h = refl
+    say2-part (product O a b) n x ds m l new h = rw (h .0)
+    say2-part (refresh O a) n x ds m l new h = refl
 
     pub says2 : (d : ℕ) (e : Exchange) (ss : List Step) (c : Cursor) (j : Triple) → Supplied A B D (exchange d e ∷ ss) c j
         → word-of2 B D e c (of2 j) ≡ joint2 A B e c j

@@ -79,10 +79,10 @@ words-length f say (x ∷ ss) c s = omega (
 )
 
 -- preparation writes as many deals as the steps need
-emitted : (e : Exchange) (x k : ℕ) (ds : List ℕ) → length (emit e x ds) + k ≡ length ds + past-deal e k
+emitted : (e : Exchange) (x n : ℕ) (ds : List ℕ) → length (emit e x ds) + n ≡ length ds + past-deal e n
 unfolding emit past-deal
-emitted (product O a b) x k ds = omega arith
-emitted (refresh O a) x k ds = refl
+emitted (product O a b) x n ds = omega arith
+emitted (refresh O a) x n ds = refl
 
 swap : (n k : ℕ) → suc n + k ≡ n + suc k
 swap n k = omega arith

@@ -113,10 +113,10 @@ module _ (A B : List ℕ) where
       (set (j .0) d (meet e (joint1 e c j) (joint2 e c j)), set (j .1) d (at A (new-at e c.a)), set (j .2) d (at B c.b))
   act end c j = j
 
--- the list D has ds from place k on
+-- the list D has ds from place i on
 abbrev pub Starts : List ℕ → ℕ → List ℕ → Type 0
-Starts D k [] = Unit
-Starts D k (d ∷ ds) = (at D k ≡ d) × Starts D (suc k) ds
+Starts D i [] = Unit
+Starts D i (d ∷ ds) = (at D i ≡ d) × Starts D (suc i) ds
 
 -- D has what host 0 deals from here on
 abbrev pub Supplied : (A B D : List ℕ) → List Step → Cursor → Triple → Type 0

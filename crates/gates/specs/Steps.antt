@@ -53,8 +53,8 @@ new-at (product O a b) i = suc i
 new-at (refresh O a) i = i
 
 unfoldable pub past-deal : Exchange → ℕ → ℕ
-past-deal (product O a b) k = suc k
-past-deal (refresh O a) k = k
+past-deal (product O a b) n = suc n
+past-deal (refresh O a) n = n
 
 unfoldable pub emit : Exchange → ℕ → List ℕ → List ℕ
 emit (product O a b) x ds = x ∷ ds

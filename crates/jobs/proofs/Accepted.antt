@@ -1,4 +1,4 @@
--- What is known of an accepted job: its words, and each of its orders. Assumes nothing.
+-- What is known of each order of an accepted job. Assumes nothing.
 use mathlib.Core.Path.{_≡_, refl}
 use mathlib.Core.Bool.{Bool, true, false, not, _&&_, _||_, cond}
 use mathlib.Core.List.{List, [], _∷_}

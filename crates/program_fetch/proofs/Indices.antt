@@ -125,8 +125,8 @@ module _ (w x r k : ℕ) where
   abbrev last-two : List Gate
   last-two = Scale res-slot res-slot k ∷ Add acc-slot acc-slot res-slot ∷ []
 
-  row-length : length (row-program w x r k) ≡ row-gates w
-  row-length = ap (λ (z : Size). z .gates) (row-sized w x r k)
+  row-long : length (row-program w x r k) ≡ row-gates w
+  row-long = ap (λ (z : Size). z .gates) (row-sized w x r k)
 
   relu-length : length (relu-program w y-slot res-slot) ≡ relu-size w .gates
   relu-length = ap (λ (z : Size). z .gates) (relu-sized w y-slot res-slot)
@@ -197,12 +197,12 @@ module _ (w x : ℕ) (hs : List Gate) where
       let R : List Gate = row-program w x (p .r) (coefficient w s p ps) in
       let z : i ≡ e = omega arith in
       ap (λ (k : ℕ). fetched (row-program w x (p .r) k) e) (sym (change-first w s p ps))
-      ∙ sym (fetched-first R (rows-program w x (slope-after p ps) ps ++ hs) e (rw (row-length w x (p .r) (coefficient w s p ps)) l))
+      ∙ sym (fetched-first R (rows-program w x (slope-after p ps) ps ++ hs) e (rw (row-long w x (p .r) (coefficient w s p ps)) l))
       ∙ rw (append-assoc R (rows-program w x (slope-after p ps) ps) hs, z)
   rows-at (p ∷ ps) s (suc j) e i h l q =
       let R : List Gate = row-program w x (p .r) (coefficient w s p ps) in
       let T : List Gate = rows-program w x (slope-after p ps) ps in
-      let n : length R ≡ row-gates w = row-length w x (p .r) (coefficient w s p ps) in
+      let n : length R ≡ row-gates w = row-long w x (p .r) (coefficient w s p ps) in
       ap (λ (k : ℕ). fetched (row-program w x (row-at ps j .r) k) e) (sym (change-next w s p ps j (omega arith)))
       ∙ rows-at ps (slope-after p ps) j e (j * row-gates w + e) (omega arith) l refl
       ∙ sym (fetched-after R (T ++ hs) i (j * row-gates w + e) (omega (arith, suc-mul j (row-gates w))))
@@ -215,7 +215,7 @@ module _ (w x : ℕ) (hs : List Gate) where
   rows-end (p ∷ ps) s e i q =
       let R : List Gate = row-program w x (p .r) (coefficient w s p ps) in
       let T : List Gate = rows-program w x (slope-after p ps) ps in
-      let n : length R ≡ row-gates w = row-length w x (p .r) (coefficient w s p ps) in
+      let n : length R ≡ row-gates w = row-long w x (p .r) (coefficient w s p ps) in
       rows-end ps (slope-after p ps) e (length ps * row-gates w + e) refl
       ∙ sym (fetched-after R (T ++ hs) i (length ps * row-gates w + e) (omega (arith, suc-mul (length ps) (row-gates w))))
       ∙ ap (λ (gs : List Gate). fetched gs i) (sym (append-assoc R T hs))

@@ -1,4 +1,4 @@
--- What the curve's programs open: the floor of the sum of words, and in one-bit mode that plus the slip. Assumes nothing.
+-- What a row and the sum of a curve's program open: the ReLU of x - r times the change of slope, added up. Assumes nothing.
 use mathlib.Core.Path.{_≡_, refl, sym, ap, ap₂, _∙_}
 use mathlib.Core.Bool.{false}
 use mathlib.Core.List.{List, [], _∷_}

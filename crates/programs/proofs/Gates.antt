@@ -1,4 +1,4 @@
--- What each gate opens, and what it leaves alone, on the joint walk. Assumes nothing.
+-- What each gate opens, over the operations of numbers and of bits. Assumes nothing.
 use mathlib.Core.Path.{_≡_, refl}
 use Prim.Native.Nat.{ℕ, _^_, _<_}
 use Rattle.words.specs.Ring.{Ops}

@@ -1,4 +1,4 @@
--- A point of the joint walk, the point after a gate, and what the gate's target then opens; other slots keep their shares. Assumes nothing.
+-- A point of the joint walk, and the point after a gate: what it writes fits, and other slots keep their shares. Assumes nothing.
 use mathlib.Core.Logic.{_≢_}
 use mathlib.Core.Path.{_≡_, refl, ap, _∙_}
 use mathlib.Core.Bool.{true, false}

@@ -1,4 +1,4 @@
--- Document 01's table of deals, words spoken, A and B: the counts of a program. Assumes nothing.
+-- The counts of a program: deals, words spoken, A and B. Assumes nothing.
 use mathlib.Core.List.{List, []}
 use Prim.Native.Nat.{ℕ}
 use Rattle.gates.specs.declared.Gate.{Gate}

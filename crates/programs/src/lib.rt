@@ -1,4 +1,5 @@
-// The gate program of each kind of order, what it opens and what it costs: definitions and laws, and the sizes by number.
+// The gate program of each kind of order, what it opens and what it costs: definitions and laws, and the sizes by
+// number.
 
 // An order's four words (document 01: kind, target, first source, fourth word).
 pub struct Order {
@@ -8,8 +9,8 @@ pub struct Order {
     pub fourth: u32,
 }
 
-// The sizes of programs at 32 bits; programs/proofs/Sizes.antt computes them from the programs. A curve's row: its gates,
-// its exchanges (each uses a word of B), and the words of A and the deals that it uses.
+// The sizes of programs at 32 bits; programs/proofs/Sizes.antt computes them from the programs. A curve's row: its
+// gates, its exchanges (each uses a word of B), and the words of A and the deals that it uses.
 pub const ROW_GATES: usize = 42;
 
 pub const ROW_EXCHANGES: usize = 12;

@@ -77,7 +77,7 @@ module _ (start e : ℕ) (l : List ℕ) (ends : e ≡ start + digits l) where
       let many : 10 < digits l = omega arith in
       rw (lt-ltb 0 (digits l) some, lt-leb (digits l) 10 many)
 
-  module _ (h : start < e) (t : e - start ≤ 10) (v : ℕ) (w : Written v (take (e - start) l)) where
+  module _ (h : start < e) (t : e - start ≤ 10) (v : ℕ) (p : Written v (take (e - start) l)) where
     some : 0 < digits l
     some = omega arith
 
@@ -85,7 +85,7 @@ module _ (start e : ℕ) (l : List ℕ) (ends : e ≡ start + digits l) where
     few = omega arith
 
     written : Written v (take (digits l) l)
-    written = let count : e - start ≡ digits l = omega arith in rw count at w
+    written = let count : e - start ≡ digits l = omega arith in rw count at p
 
     pub too-large : 4294967295 < v → no-word start ≡ word-at start l
     too-large m = rw (

@@ -22,7 +22,7 @@ use Rattle.runs.proofs.Buffers.{buffers}
 use Rattle.runs.proofs.InOrder.{in-order}
 use Rattle.demands.proofs.Whole.{whole}
 use Rattle.trio.specs.Together.{Trio, after-preparation, end-answer, together}
-use Rattle.trio.specs.Ran.{ran, RunTo, TurnedDown, TrioRun}
+use Rattle.trio.specs.Ran.{ran, RunTo, TurnedDown, TrioRan}
 use Rattle.trio.proofs.Positions.{P, D, at-n, standing}
 use Rattle.trio.proofs.Leaves.{over-is}
 use Rattle.trio.proofs.Ends.{no-step, cur-is, finish}
@@ -145,7 +145,7 @@ module _ (S : Stage) (tidy : Orderly (S .script)) (buf : List ℕ) (done : P S b
           spoken2 = ap suc (b .spoken) ∙ sym (k .words2);
         }
 
-pub trio-ran : TrioRun
+pub trio-ran : TrioRan
 unfolding together after-preparation
 trio-ran =
     record {

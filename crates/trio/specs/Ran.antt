@@ -52,7 +52,7 @@ pub record TurnedDown (S : Stage) (buf : List ℕ) (t : Trio) : Type 0 where
   pub one : t .one ≡ not-started t (S .rm, S .r1)
   pub two : t .two ≡ not-started t (S .rm, S .r2)
 
-pub record TrioRun : Type 0 where
+pub record TrioRan : Type 0 where
   -- where it is not refused, from any registers that open, whatever the hosts keep beside them
   pub is-run : (S : Stage) → Orderly (S .script) → (E buffer : List ℕ) (one two : State)
       → held S one ≡ (S .rm, S .r1)

@@ -1,4 +1,4 @@
--- A job's words as its orders: the gates at an index, the orders before it, and what acceptance says of their sizes. Assumes nothing.
+-- An accepted job is small: its words, and the gates of its orders. Assumes nothing.
 use mathlib.Core.Path.{_≡_, refl, sym, subst}
 use mathlib.Core.Bool.{Bool, true, false, cond}
 use mathlib.Core.List.{List, []}
