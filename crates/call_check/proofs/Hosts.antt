@@ -10,7 +10,7 @@ use lib.ListN.{length, take}
 use lib.Seq.{take-all}
 use Rattle.gates.specs.Costs.{Cost, cost-of}
 use Rattle.jobs.specs.Job.{Fault, job-fault, job-cost, short-a, short-b, short-deals}
-use Rattle.jobs.specs.Walk.{counted}
+use Rattle.jobs.specs.Counts.{counted}
 use Rattle.calls.specs.Scripts.{Script, job-script}
 use Rattle.calls.specs.Lent.{lent, or-else, lists-fault, lent-fault, passed, dealer-lists-fault}
 use Rattle.calls.proofs.Faults.{Accepts, accepted-tells, or-accepted, no-host, none-passed}

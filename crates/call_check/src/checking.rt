@@ -4,7 +4,7 @@ ghost use Prim.Native.Nat.{_*_};
 ghost use lib.ListN.{take};
 ghost use Rattle.gates.specs.Costs.{cost-of};
 ghost use Rattle.jobs.specs.Job.{job-fault, job-cost};
-ghost use Rattle.jobs.specs.Walk.{counted};
+ghost use Rattle.jobs.specs.Counts.{counted};
 ghost use Rattle.calls.specs.Scripts.{job-script};
 ghost use Rattle.calls.specs.Lent.{lent, or-else, lent-fault, passed, dealer-lists-fault, dealer-fault};
 ghost use Rattle.call_check.specs.Faults.{fault-of, needs-of};

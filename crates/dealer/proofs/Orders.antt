@@ -9,8 +9,7 @@ use Rattle.gates.specs.Meaning.{order-steps, job-steps}
 use Rattle.tables.specs.Table.{rows}
 use Rattle.programs.specs.declared.Order.{Order}
 use Rattle.programs.specs.Orders.{program}
-use Rattle.jobs.specs.Job.{job-gates, steps-of}
-use Rattle.jobs.specs.Walk.{order-at}
+use Rattle.jobs.specs.Job.{job-gates, steps-of, order-at}
 use Rattle.jobs.proofs.Orders.{orders-from, no-more}
 use Rattle.walks.specs.Dealers.{Dealer, deal-all, Room}
 use Rattle.walks.proofs.Preparing.{Midway, done, program-room, program-done}

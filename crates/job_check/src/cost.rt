@@ -5,7 +5,8 @@ ghost use Prim.Native.Nat.{_+_, _≤_};
 ghost use lib.ListN.{length};
 ghost use Rattle.tables.specs.Table.{rows, keeps-rules};
 ghost use Rattle.gates.specs.Costs.{cost-of, plus};
-ghost use Rattle.jobs.specs.Walk.{counted, Small, kind-cost};
+ghost use Rattle.jobs.specs.CostTable.{kind-cost};
+ghost use Rattle.jobs.specs.Counts.{counted, Small};
 use jobs::Counts;
 use programs::Order;
 

@@ -2,7 +2,7 @@
 ghost use mathlib.Core.Path.{_≡_};
 ghost use Rattle.gates.specs.Costs.{cost-of};
 ghost use Rattle.jobs.specs.Job.{ill-sized};
-ghost use Rattle.jobs.specs.Walk.{counted};
+ghost use Rattle.jobs.specs.Counts.{counted};
 ghost use Rattle.jobs.specs.Answers.{verdict, surveyed, numbered, check-job, counts-before};
 use crate::cost::none;
 use crate::cost::order_counts;

@@ -1,6 +1,6 @@
 // One order of a job: its words, and its faults.
 ghost use mathlib.Core.Path.{_≡_};
-ghost use Rattle.jobs.specs.Walk.{order-at};
+ghost use Rattle.jobs.specs.Job.{order-at};
 use programs::Order;
 use word_lists::word_at;
 

@@ -4,8 +4,7 @@ use Prim.Native.Nat.{ℕ, zero, suc}
 use native.Mathlib.Omega.{arith}
 use Rattle.gates.specs.Costs.{plus}
 use Rattle.gates.proofs.Needs.{cost-path}
-use Rattle.jobs.specs.Walk.{curve-cost, kind-costs, kind-cost}
-use Rattle.jobs.specs.CostTable.{CostTable}
+use Rattle.jobs.specs.CostTable.{CostTable, curve-cost, kind-costs, kind-cost}
 use Rattle.jobs.proofs.Sums.{of-order, job-counts}
 
 row-more : (mode n : ℕ) → kind-cost 10 mode (suc n) ≡ plus (kind-cost 9 mode n) (kind-cost 10 mode n)

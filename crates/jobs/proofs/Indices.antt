@@ -11,9 +11,8 @@ use Rattle.gates.specs.Meaning.{job-steps}
 use Rattle.gates.specs.Costs.{cost}
 use Rattle.programs.specs.declared.Order.{Order}
 use Rattle.programs.specs.Orders.{program}
-use Rattle.jobs.specs.Job.{orders, job-gates, steps-of, job-cost}
+use Rattle.jobs.specs.Job.{orders, job-gates, steps-of, job-cost, order-at}
 use Rattle.jobs.proofs.Conditions as Conditions
-use Rattle.jobs.specs.Walk.{order-at}
 
 -- ---- orders by index
 

@@ -12,7 +12,7 @@ use Rattle.gates.specs.Costs.{Cost, cost-of, plus}
 use Rattle.gates.proofs.Needs.{cost-path}
 use Rattle.jobs.specs.declared.Counts.{Counts}
 use Rattle.jobs.specs.Job.{orders, job-cost}
-use Rattle.jobs.specs.Walk.{counted}
+use Rattle.jobs.specs.Counts.{counted}
 use Rattle.jobs.specs.CostTable.{table-counts}
 use Rattle.jobs.proofs.Sums.{Tabled}
 use Rattle.jobs.proofs.Turns.{Going}

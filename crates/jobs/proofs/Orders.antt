@@ -6,8 +6,7 @@ use native.Mathlib.Numerals.{towards-suc}
 use native.Mathlib.Omega.{arith}
 use lib.ListN.{length, getD, drop, length-drop, List·getD-eq-default}
 use lib.Seq.{drop-cons}
-use Rattle.jobs.specs.Job.{orders}
-use Rattle.jobs.specs.Walk.{order-at}
+use Rattle.jobs.specs.Job.{orders, order-at}
 
 -- four words of a list
 pub four-words : (l : List ℕ) (b : ℕ) → b + 4 ≤ length l

@@ -17,8 +17,7 @@ use Rattle.programs.specs.Costs.{program-cost}
 use Rattle.programs.specs.Sizes.{Size, size-of, plus-size, times-cost, times-size, end-size, curve-size, kind-sizes}
 use Rattle.programs.proofs.Sizes.{order-sized, slack-number, one-bit-number, exact-32, relu-32, row-32, order-cost}
 use Rattle.jobs.specs.Job.{orders, job-gates, steps-of, job-cost, order-fault}
-use Rattle.jobs.specs.Walk.{curve-cost, kind-costs, kind-cost}
-use Rattle.jobs.specs.CostTable.{table-counts}
+use Rattle.jobs.specs.CostTable.{table-counts, curve-cost, kind-costs, kind-cost}
 use Rattle.jobs.proofs.Accepted.{good, curve-ruled}
 
 -- ---- kind by kind

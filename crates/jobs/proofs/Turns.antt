@@ -13,9 +13,9 @@ use Rattle.gates.specs.Costs.{Cost, cost-of, plus}
 use Rattle.gates.proofs.Needs.{cost-path}
 use Rattle.programs.specs.declared.Order.{Order}
 use Rattle.jobs.specs.declared.Counts.{Counts}
-use Rattle.jobs.specs.Job.{Fault, orders, ill-sized, order-fault, fault-at, orders-fault, job-fault, job-cost}
-use Rattle.jobs.specs.Walk.{order-at, counted, Small, kind-cost}
-use Rattle.jobs.specs.CostTable.{table-counts}
+use Rattle.jobs.specs.Job.{Fault, orders, ill-sized, order-fault, fault-at, orders-fault, job-fault, job-cost, order-at}
+use Rattle.jobs.specs.Counts.{counted, Small}
+use Rattle.jobs.specs.CostTable.{table-counts, kind-cost}
 use Rattle.jobs.specs.Answers.{Verdict, refusal, judged, check-job, numbered, counts-before}
 use Rattle.jobs.proofs.Orders.{orders-from, no-more}
 use Rattle.jobs.proofs.Sums.{Tabled, rows-right, Below, few, rows-few}

@@ -10,7 +10,7 @@ use Rattle.jobs.specs.declared.Checked.the-variants.{Accepted, Refused}
 use Rattle.jobs.specs.declared.Which.{Which}
 use Rattle.jobs.specs.declared.Which.the-variants.{ListA, ListB}
 use Rattle.jobs.specs.declared.Findings.{Findings}
-use Rattle.jobs.specs.Walk.{counted}
+use Rattle.jobs.specs.Counts.{counted}
 use Rattle.jobs.specs.Job.{Fault, job-fault, job-cost, short-a, short-b}
 
 -- accepted or refused; a number, 0 for none; the order's index; the counts, 0 where refused

@@ -1,15 +1,29 @@
 -- Document 01's table of costs, and a job's counts as the sum of its orders' entries. Assumes nothing.
 use mathlib.Core.Path.{_≡_}
 use mathlib.Core.List.{List, [], _∷_, map}
-use Prim.Native.Nat.{ℕ, suc}
-use lib.ListN.{length}
+use Prim.Native.Nat.{ℕ, zero, suc, _+_, _*_}
+use lib.ListN.{length, getD}
 use Rattle.tables.specs.Table.{Row, rows}
 use Rattle.gates.specs.Costs.{Cost, cost-of, plus}
 use Rattle.programs.specs.declared.Order.{Order}
 use Rattle.programs.specs.Orders.{program}
 use Rattle.programs.specs.Costs.{program-cost}
 use Rattle.jobs.specs.Job.{orders, job-cost}
-use Rattle.jobs.specs.Walk.{kind-cost}
+
+-- "10 exact" and "10 one-bit", on n rows: "a row more or fewer is one kind 9 more or fewer"
+unfoldable pub curve-cost : (mode n : ℕ) → Cost
+curve-cost zero n = cost-of (14 * n + 16) (24 * n + 24) (26 * n + 28) (12 * n + 12)
+curve-cost (suc m) n = cost-of (14 * n + 3) (24 * n + 4) (26 * n + 5) (12 * n + 2)
+
+-- "deals, words spoken, A, B", kind by kind: "Kinds 0 to 3 use none"
+unfoldable pub kind-costs : (mode n : ℕ) → List Cost
+kind-costs mode n =
+    cost-of 0 0 0 0 ∷ cost-of 0 0 0 0 ∷ cost-of 0 0 0 0 ∷ cost-of 0 0 0 0 ∷ cost-of 1 2 2 1 ∷ cost-of 0 2 1 1
+    ∷ cost-of 1 0 1 0 ∷ cost-of 3 2 4 1
+    ∷ cost-of 16 24 28 12 ∷ cost-of 14 24 26 12 ∷ curve-cost mode n ∷ []
+
+unfoldable pub kind-cost : (kind mode n : ℕ) → Cost
+kind-cost kind mode n = getD (kind-costs mode n) kind (cost-of 0 0 0 0)
 
 -- the sum of the orders' entries, where the table has n rows
 unfoldable pub table-counts : (n : ℕ) → List Order → Cost

@@ -1,12 +1,12 @@
 -- Document 01, "Orders" and "Turned down": a job's orders, conditions 2 to 7, and the job's counts. Assumes nothing.
 use mathlib.Core.Bool.{Bool, false, not, _&&_, _||_, cond}
 use mathlib.Core.List.{List, [], _∷_, map}
-use Prim.Native.Nat.{ℕ, zero, suc, _-_, _%_}
+use Prim.Native.Nat.{ℕ, zero, suc, _+_, _-_, _*_, _%_}
 use lib.Dec.{eqb, ltb}
 use lib.ListN.{length, getD}
 use Rattle.tables.specs.Table.{rows, keeps-rules}
 use Rattle.gates.specs.declared.Gate.{Gate}
-use Rattle.gates.specs.Steps.{Step}
+use Rattle.gates.specs.Steps.{at, Step}
 use Rattle.gates.specs.Meaning.{job-steps}
 use Rattle.gates.specs.Costs.{Cost, cost}
 use Rattle.programs.specs.declared.Order.{Order}
@@ -19,6 +19,11 @@ orders (k ∷ []) = []
 orders (k ∷ d ∷ []) = []
 orders (k ∷ d ∷ a ∷ []) = []
 orders (k ∷ d ∷ a ∷ c ∷ ws) = record { kind = k; target = d; source = a; fourth = c } ∷ orders ws
+
+-- the order at index i of a job's words; past the end stand zeros
+abbrev pub order-at : List ℕ → ℕ → Order
+order-at ws i =
+    record { kind = at ws (i * 4); target = at ws (i * 4 + 1); source = at ws (i * 4 + 2); fourth = at ws (i * 4 + 3) }
 
 -- ---- the conditions
 

@@ -1,5 +1,5 @@
 pub mod Job
-pub mod Walk
+pub mod Counts
 pub mod CostTable
 pub mod Answers
 pub mod FirstFault

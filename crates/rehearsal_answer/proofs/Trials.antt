@@ -27,8 +27,7 @@ use Rattle.programs.specs.Sizes.{Size, plus-size, times-cost, times-size}
 use Rattle.programs.proofs.Sizes.{sum-sized, row-32}
 use Rattle.programs.proofs.Calibration.{ranged, exact-curve, one-bit-curve}
 use Rattle.jobs.specs.Job.{orders, ill-sized, unknown-kind, unknown-register, two-sources, ill-fourths, ill-fourth, order-fault}
-use Rattle.jobs.specs.Walk.{curve-cost, kind-costs, kind-cost}
-use Rattle.jobs.specs.CostTable.{table-counts}
+use Rattle.jobs.specs.CostTable.{table-counts, curve-cost, kind-costs, kind-cost}
 use Rattle.jobs.proofs.CostTable.{cost-table}
 use Rattle.jobs.specs.Job.{fault-at, orders-fault, job-fault, job-gates, steps-of, job-cost}
 use Rattle.calls.specs.Scripts.{job-script, script-cost}

@@ -11,10 +11,9 @@ use Rattle.tables.proofs.Rows.{rules}
 use Rattle.programs.specs.declared.Order.{Order}
 use Rattle.programs.specs.Orders.{program}
 use Rattle.jobs.proofs.Indices.{order-count, orders-drop, head-of}
-use Rattle.jobs.specs.Job.{orders, ill-sized, orders-fault, job-fault}
+use Rattle.jobs.specs.Job.{orders, ill-sized, orders-fault, job-fault, order-at}
 use Rattle.jobs.proofs.Accepted.{Good, accepted-orders, curve-ruled}
 use Rattle.jobs.proofs.Conditions as Conditions
-use Rattle.jobs.specs.Walk.{order-at}
 use Rattle.worker.specs.Jobs.{Sized}
 use Rattle.programs.proofs.Sizes.{few-gates}
 

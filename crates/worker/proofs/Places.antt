@@ -19,8 +19,7 @@ use Rattle.program_seek.specs.declared.Sought.{Sought}
 use Rattle.program_seek.specs.declared.Sought.the-variants.{Nowhere}
 use Rattle.program_seek.specs.declared.Sought.the-variants as Sought
 use Rattle.program_seek.specs.Seek.{sought}
-use Rattle.jobs.specs.Job.{Fault, job-fault, job-gates, job-cost}
-use Rattle.jobs.specs.Walk.{order-at}
+use Rattle.jobs.specs.Job.{Fault, job-fault, job-gates, job-cost, order-at}
 use Rattle.calls.specs.Scripts.{job-script}
 use Rattle.calls.specs.Lent.{lent-fault, lent, passed}
 use Rattle.calls.specs.Places.{nowhere, found, seek}

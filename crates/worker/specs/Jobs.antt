@@ -10,7 +10,7 @@ use Rattle.program_fetch.specs.declared.Fetched.the-variants.{At}
 use Rattle.program_fetch.specs.Fetch.{fetched}
 use Rattle.programs.specs.Orders.{program}
 use Rattle.tables.specs.Table.{rows}
-use Rattle.jobs.specs.Walk.{order-at}
+use Rattle.jobs.specs.Job.{order-at}
 
 -- what is known of an accepted job: at most 64 orders, each of at most 1000 gates, and a curve's table is short
 pub record Sized (w : ℕ) (job table : List ℕ) : Type 0 where

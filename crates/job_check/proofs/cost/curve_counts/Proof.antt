@@ -1,5 +1,5 @@
 use mathlib.Core.Path.{_∙_}
-use Rattle.jobs.specs.Walk.{kind-cost, kind-costs, curve-cost}
+use Rattle.jobs.specs.CostTable.{kind-cost, kind-costs, curve-cost}
 use Rattle.jobs.proofs.Sums.{one-bit-cost}
 use borrow.Author.Needs.{needs}
 use Rattle.job_check.proofs.cost.curve_counts.Statement.{statement}

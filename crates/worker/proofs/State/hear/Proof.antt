@@ -3,7 +3,7 @@ use denote.Ref.{now}
 use native.Mathlib.Omega.{arith}
 use Prim.Native.Nat.{_+_}
 use Rattle.jobs.specs.Job.{job-gates, steps-of}
-use Rattle.jobs.specs.Walk.{counted}
+use Rattle.jobs.specs.Counts.{counted}
 use Rattle.calls.specs.Scripts.{job-script}
 use Rattle.calls.proofs.Scripts.{job-made}
 use Rattle.worker.specs.Answers.{state-of}
