@@ -21,8 +21,8 @@ use gate_shape::used_by;
 use gates::Gate;
 use gates::Used;
 use job_order::order_at;
-use program_fetch::Fetched;
 use program_fetch::fetch;
+use programs::Fetched;
 use programs::Order;
 
 // The registers of a lane, before the temporaries.

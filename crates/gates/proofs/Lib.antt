@@ -1,3 +1,4 @@
+pub mod GateSteps
 pub mod Seen
 pub mod Lanes
 pub mod Formulas

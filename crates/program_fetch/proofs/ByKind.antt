@@ -10,8 +10,8 @@ use Rattle.gates.specs.declared.Gate.{Gate}
 use Rattle.programs.specs.declared.Order.{Order}
 use Rattle.programs.specs.Orders.{kinds, program}
 use Rattle.programs.proofs.Sizes.{any-table}
-use Rattle.program_fetch.specs.declared.Fetched.the-variants.{Past}
-use Rattle.program_fetch.specs.Fetch.{fetched}
+use Rattle.programs.specs.declared.Fetched.the-variants.{Past}
+use Rattle.programs.specs.Fetch.{fetched}
 use Rattle.program_fetch.proofs.Packing.{fetched-past}
 
 module _ (w : ℕ) where

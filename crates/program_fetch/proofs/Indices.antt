@@ -17,12 +17,12 @@ use Rattle.gates.specs.declared.Gate.the-variants.{Add, Refresh, Scale, Plus, C
 use Rattle.tables.specs.Table.{Row, row, rows, row-at, slope, slopes}
 use Rattle.curves.specs.Curve.{slope-after, coefficient}
 use Rattle.curves.proofs.Wrapping.{wrap-minus}
-use Rattle.program_fetch.specs.declared.Fetched.the-variants.{At, Past}
+use Rattle.programs.specs.declared.Fetched.the-variants.{At, Past}
 use Rattle.programs.specs.Programs.{y-slot, acc-slot, res-slot, relu-program, one-bit-program, exact-program}
 use Rattle.programs.specs.Programs.{row-program, rows-program, sum-program}
 use Rattle.programs.specs.Orders.{curve-program}
 use Rattle.programs.specs.Sizes.{Size, relu-size, row-gates}
-use Rattle.program_fetch.specs.Fetch.{fetched}
+use Rattle.programs.specs.Fetch.{fetched}
 use Rattle.program_fetch.specs.Packed.{change}
 use Rattle.programs.proofs.CurveGates.{rows-count, truncation, refreshed, curve-gates, sum-gates}
 use Rattle.programs.proofs.Sizes.{relu-sized, row-sized, row-some}

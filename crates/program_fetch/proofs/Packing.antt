@@ -13,8 +13,8 @@ use Rattle.gates.specs.declared.Part.the-variants.{Signed}
 use Rattle.gates.specs.declared.Dealt.the-variants.{OfSum, OfNegated, OfBits}
 use Rattle.gates.specs.declared.Gate.{Gate}
 use Rattle.gates.specs.declared.Gate.the-variants.{Add, Sub, Xor, Mul, And, Scale, Plus, Up, Bit, Const, Public, Deal, DealBits}
-use Rattle.program_fetch.specs.declared.Fetched.the-variants.{At, Past}
-use Rattle.program_fetch.specs.Fetch.{fetched}
+use Rattle.programs.specs.declared.Fetched.the-variants.{At, Past}
+use Rattle.programs.specs.Fetch.{fetched}
 use Rattle.program_fetch.specs.Packed.{constants, constant-of, parts, part-of, on-slots, with-constant, with-part, unpacked}
 
 -- ---- a `match` on the numbers below n

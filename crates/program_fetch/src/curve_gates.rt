@@ -7,14 +7,14 @@ ghost use lib.ListN.{length, getD};
 ghost use Rattle.tables.specs.Table.{rows, row-at, slopes};
 ghost use Rattle.programs.specs.Programs.{row-program};
 ghost use Rattle.programs.specs.Orders.{curve-program};
-ghost use Rattle.program_fetch.specs.Fetch.{fetched};
+ghost use Rattle.programs.specs.Fetch.{fetched};
 ghost use Rattle.program_fetch.specs.Packed.{change};
-use crate::Fetched;
 use crate::templates::exact_gate;
 use crate::templates::minus;
 use crate::templates::one_bit_gate;
 use crate::templates::relu_gate;
 use gates::Gate;
+use programs::Fetched;
 use programs::RELU_GATES;
 use programs::ROW_GATES;
 

@@ -4,14 +4,14 @@ ghost use mathlib.Core.List.{[]};
 ghost use Prim.Native.Nat.{_<_};
 ghost use Rattle.tables.specs.Table.{rows};
 ghost use Rattle.programs.specs.Orders.{program};
-ghost use Rattle.program_fetch.specs.Fetch.{fetched};
-use crate::Fetched;
+ghost use Rattle.programs.specs.Fetch.{fetched};
 use crate::curve_gates::curve_gate;
 use crate::templates::exact_gate;
 use crate::templates::one_bit_gate;
 use crate::templates::relu_gate;
 use crate::templates::slack_gate;
 use gates::Gate;
+use programs::Fetched;
 use programs::Order;
 
 // Kinds 0 to 5: a program of one gate.

@@ -4,10 +4,3 @@ mod fetching;
 mod templates;
 
 pub use fetching::fetch;
-use gates::Gate;
-
-// The gate at an index, or past the last one.
-pub enum Fetched {
-    At { gate: Gate },
-    Past,
-}

@@ -5,13 +5,13 @@ ghost use mathlib.Core.List.{map};
 ghost use Prim.Native.Nat.{_-_, _%_, _^_, _≤_};
 ghost use Rattle.words.specs.Words.{neg};
 ghost use Rattle.programs.specs.Programs.{relu-program, slack-program, one-bit-program, exact-program};
-ghost use Rattle.program_fetch.specs.Fetch.{fetched};
+ghost use Rattle.programs.specs.Fetch.{fetched};
 ghost use Rattle.program_fetch.specs.Packed.{slot-of, constant-of, part-of, on-slots, with-constant};
 ghost use Rattle.program_fetch.specs.Packed.{with-part, unpacked};
-use crate::Fetched;
 use gates::Dealt;
 use gates::Gate;
 use gates::Part;
+use programs::Fetched;
 
 // Codes 24 and 25 stand for the source and the target of the order.
 fn slot(code: u32, x: u32, d: u32) -> u32

@@ -10,9 +10,9 @@ use Rattle.tables.specs.Table.{Row}
 use Rattle.programs.specs.declared.Order.{Order}
 use Rattle.programs.specs.Programs.{slack-program}
 use Rattle.programs.specs.Orders.{kinds, program}
-use Rattle.program_seek.specs.declared.Sought.{Sought}
-use Rattle.program_seek.specs.declared.Sought.the-variants.{Found, Nowhere}
-use Rattle.program_seek.specs.Seek.{sought-at, sought}
+use Rattle.programs.specs.declared.Sought.{Sought}
+use Rattle.programs.specs.declared.Sought.the-variants.{Found, Nowhere}
+use Rattle.programs.specs.Seek.{sought-at, sought}
 
 -- neither a product, a refresh, a truncation nor a ReLU
 abbrev pub Quiet : ℕ → Type 0

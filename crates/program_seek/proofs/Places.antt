@@ -17,14 +17,14 @@ use Rattle.gates.specs.Speech.{shape}
 use Rattle.gates.specs.Costs.{Cost, plus, step-cost, cost}
 use Rattle.tables.specs.Table.{Row, rows}
 use Rattle.curves.specs.Curve.{slope-after, coefficient}
-use Rattle.program_seek.specs.declared.Sought.{Sought}
-use Rattle.program_seek.specs.declared.Sought.the-variants.{Found, Nowhere}
+use Rattle.programs.specs.declared.Sought.{Sought}
+use Rattle.programs.specs.declared.Sought.the-variants.{Found, Nowhere}
 use Rattle.programs.specs.Programs.{y-slot, acc-slot, res-slot, update-gates, rounds, adder, to-number, relu-program}
 use Rattle.programs.specs.Programs.{one-bit-program, exact-program, row-program, rows-program, sum-program}
 use Rattle.programs.specs.Orders.{curve-program}
 use Rattle.programs.specs.Costs.{program-cost}
 use Rattle.programs.specs.Sizes.{Size, row-gates, row-deals, row-words-a, row-exchanges}
-use Rattle.program_seek.specs.Seek.{sought-at, sought}
+use Rattle.programs.specs.Seek.{sought-at, sought}
 use Rattle.program_seek.specs.Packed.{moved, place-of}
 use Rattle.programs.proofs.CurveGates.{rows-count, truncation, refreshed, curve-gates, sum-gates}
 use Rattle.programs.proofs.Sizes.{relu-sized, row-sized, row-cost, row-speaks}

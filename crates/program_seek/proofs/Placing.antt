@@ -12,8 +12,8 @@ use Rattle.gates.specs.Meaning.{meaning, order-steps}
 use Rattle.gates.specs.Speech.{shape}
 use Rattle.gates.specs.Costs.{plus, step-cost, cost}
 use Rattle.programs.specs.Costs.{program-cost}
-use Rattle.program_seek.specs.declared.Sought.{Sought}
-use Rattle.program_seek.specs.Seek.{sought-at, sought, placing, Seeks}
+use Rattle.programs.specs.declared.Sought.{Sought}
+use Rattle.programs.specs.Seek.{sought-at, sought, placing, Seeks}
 
 -- 8 from b on
 abbrev from : (n b : ℕ) → ℕ

@@ -1,7 +1,7 @@
 -- How the code packs places into constants. Assumes nothing.
 use Prim.Native.Nat.{ℕ, _+_, _/_, _%_}
-use Rattle.program_seek.specs.declared.Sought.{Sought}
-use Rattle.program_seek.specs.declared.Sought.the-variants.{Found, Nowhere}
+use Rattle.programs.specs.declared.Sought.{Sought}
+use Rattle.programs.specs.declared.Sought.the-variants.{Found, Nowhere}
 
 -- a place further on by so many gates, words of A and deals
 unfoldable pub moved : (i a deals : ℕ) → Sought → Sought

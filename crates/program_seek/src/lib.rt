@@ -7,7 +7,7 @@ ghost use Rattle.gates.specs.declared.Gate.the-variants.{Mul, Refresh};
 ghost use Rattle.tables.specs.Table.{rows};
 ghost use Rattle.programs.specs.Programs.{relu-program, one-bit-program, exact-program};
 ghost use Rattle.programs.specs.Orders.{curve-program, program};
-ghost use Rattle.program_seek.specs.Seek.{sought, Seeks};
+ghost use Rattle.programs.specs.Seek.{sought, Seeks};
 ghost use Rattle.program_seek.specs.Packed.{moved, place-of};
 use programs::EXACT_EXCHANGES;
 use programs::Order;
@@ -15,13 +15,7 @@ use programs::ROW_DEALS;
 use programs::ROW_EXCHANGES;
 use programs::ROW_GATES;
 use programs::ROW_WORDS_A;
-
-// Where an order's n-th product or refresh stands: the gate's index, and the words of A and the deals that the order
-// uses before it.
-pub enum Sought {
-    Found { gate: usize, a: usize, deals: usize },
-    Nowhere,
-}
+use programs::Sought;
 
 const RELU_PLACES: [usize; 12] = [
     02_01_01,

@@ -3,3 +3,5 @@ pub mod Orders
 pub mod Opens
 pub mod Costs
 pub mod Sizes
+pub mod Fetch
+pub mod Seek

@@ -1,12 +1,27 @@
 // The gate program of each kind of order, what it opens and what it costs: definitions and laws, and the sizes by
 // number.
 
+use gates::Gate;
+
 // An order's four words (document 01: kind, target, first source, fourth word).
 pub struct Order {
     pub kind: u32,
     pub target: u32,
     pub source: u32,
     pub fourth: u32,
+}
+
+// The gate at an index of a program, or past the last one.
+pub enum Fetched {
+    At { gate: Gate },
+    Past,
+}
+
+// Where a program's n-th product or refresh stands: the gate's index, and the words of A and the deals that the program
+// uses before it.
+pub enum Sought {
+    Found { gate: usize, a: usize, deals: usize },
+    Nowhere,
 }
 
 // The sizes of programs at 32 bits; programs/proofs/Sizes.antt computes them from the programs. A curve's row: its

@@ -5,12 +5,12 @@ use Prim.Native.Nat.{ℕ, zero, suc, _+_, _≤_, _<_}
 use native.Mathlib.Omega.{arith}
 use lib.ListN.{getD, length, take}
 use Rattle.gates.specs.declared.Gate.{Gate}
-use Rattle.gates.specs.declared.Gate.the-variants.{Add, Sub, Xor, Mul, And, Refresh, Scale, Plus, Up, Bit, Const, Public, Deal, DealBits}
-use Rattle.gates.specs.Steps.{Step, end, past}
+use Rattle.gates.specs.Steps.{Step, local, deal, exchange, end, past}
 use Rattle.gates.specs.Meaning.{meaning, order-steps, job-steps}
 use Rattle.gates.specs.Walk.{Conf, mark, whole}
 use Rattle.gates.specs.Hosts.{Triple, act}
 use Rattle.gates.specs.Costs.{Cost, plus, cost}
+use Rattle.gates.proofs.GateSteps.{OfGate, of-gate}
 use Rattle.programs.specs.Costs.{program-cost}
 use Rattle.programs.proofs.Sizes.{order-cost}
 use Rattle.programs.proofs.Gates.{Fits}
@@ -21,21 +21,13 @@ use Rattle.calls.specs.Scripts.{job-script, ends, Closed, Orderly}
 use Rattle.runs.specs.Orders.{first-counts}
 
 pub mark-gate : {S : Type 0} (w : ℕ) (g : Gate) (s : S) (t : List S) → mark (meaning w g) s t ≡ t
-unfolding meaning
-mark-gate w (Add d a b) s t = refl
-mark-gate w (Sub d a b) s t = refl
-mark-gate w (Xor d a b) s t = refl
-mark-gate w (Mul d a b) s t = refl
-mark-gate w (And d a b) s t = refl
-mark-gate w (Refresh d a) s t = refl
-mark-gate w (Scale d a n) s t = refl
-mark-gate w (Plus d a n) s t = refl
-mark-gate w (Up d a n) s t = refl
-mark-gate w (Bit d a n) s t = refl
-mark-gate w (Const d n) s t = refl
-mark-gate w (Public d a f) s t = refl
-mark-gate w (Deal d a f) s t = refl
-mark-gate w (DealBits d a) s t = refl
+mark-gate {S} w g s t = go (meaning w g) (of-gate w g)
+  where
+    go : (y : Step) → OfGate y → mark y s t ≡ t
+    go (local d m l) h = refl
+    go (deal d f) h = refl
+    go (exchange d e) h = refl
+    go end h = absurd h
 
 module _ (w : ℕ) (A B : List ℕ) (hA : Fits w A) (hB : Fits w B) where
   abbrev Pt : Type 0
@@ -123,21 +115,14 @@ used-within w (o ∷ os) (suc q) h =
 -- ---- as many ends as orders
 
 ends-gate : (w : ℕ) (g : Gate) (ss : List Step) → ends (meaning w g ∷ ss) ≡ ends ss
-unfolding meaning ends
-ends-gate w (Add d a b) ss = refl
-ends-gate w (Sub d a b) ss = refl
-ends-gate w (Xor d a b) ss = refl
-ends-gate w (Mul d a b) ss = refl
-ends-gate w (And d a b) ss = refl
-ends-gate w (Refresh d a) ss = refl
-ends-gate w (Scale d a n) ss = refl
-ends-gate w (Plus d a n) ss = refl
-ends-gate w (Up d a n) ss = refl
-ends-gate w (Bit d a n) ss = refl
-ends-gate w (Const d n) ss = refl
-ends-gate w (Public d a f) ss = refl
-ends-gate w (Deal d a f) ss = refl
-ends-gate w (DealBits d a) ss = refl
+unfolding ends
+ends-gate w g ss = go (meaning w g) (of-gate w g)
+  where
+    go : (y : Step) → OfGate y → ends (y ∷ ss) ≡ ends ss
+    go (local d m l) h = refl
+    go (deal d f) h = refl
+    go (exchange d e) h = refl
+    go end h = absurd h
 
 ends-order : (w : ℕ) (gs : List Gate) (ss : List Step) → ends (order-steps w gs ss) ≡ suc (ends ss)
 unfolding ends order-steps

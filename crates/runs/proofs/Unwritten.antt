@@ -12,6 +12,7 @@ use Rattle.gates.specs.Steps.{Step, local, deal, exchange, end, Cursor}
 use Rattle.gates.specs.Meaning.{meaning, order-steps, job-steps}
 use Rattle.gates.specs.Hosts.{Triple, share, act}
 use Rattle.programs.proofs.Points.{target}
+use Rattle.gates.proofs.GateSteps.{OfGate, of-gate}
 use Rattle.calls.specs.Scripts.{ends, Closed}
 use Rattle.runs.specs.Orders.{Unwritten}
 use Rattle.runs.proofs.Spared.{other-slot}
@@ -65,21 +66,13 @@ unwritten-gate w i (Deal d a f) ss h u = (h, u)
 unwritten-gate w i (DealBits d a) ss h u = (h, u)
 
 skip-gate : (w i k : ℕ) (g : Gate) (ss : List Step) → Unwritten i (suc k) ss → Unwritten i (suc k) (meaning w g ∷ ss)
-unfolding meaning
-skip-gate w i k (Add d a b) ss h = h
-skip-gate w i k (Sub d a b) ss h = h
-skip-gate w i k (Xor d a b) ss h = h
-skip-gate w i k (Mul d a b) ss h = h
-skip-gate w i k (And d a b) ss h = h
-skip-gate w i k (Refresh d a) ss h = h
-skip-gate w i k (Scale d a n) ss h = h
-skip-gate w i k (Plus d a n) ss h = h
-skip-gate w i k (Up d a n) ss h = h
-skip-gate w i k (Bit d a n) ss h = h
-skip-gate w i k (Const d n) ss h = h
-skip-gate w i k (Public d a f) ss h = h
-skip-gate w i k (Deal d a f) ss h = h
-skip-gate w i k (DealBits d a) ss h = h
+skip-gate w i k g ss h = go (meaning w g) (of-gate w g)
+  where
+    go : (y : Step) → OfGate y → Unwritten i (suc k) (y ∷ ss)
+    go (local d m l) o = h
+    go (deal d f) o = h
+    go (exchange d e) o = h
+    go end o = absurd o
 
 unwritten-order : (w i : ℕ) (gs : List Gate) (ss : List Step) → Spares i gs → Unwritten i 0 (order-steps w gs ss)
 unfolding order-steps

@@ -12,7 +12,7 @@ use Rattle.gates.specs.Meaning.{meaning, order-steps, job-steps}
 use Rattle.gates.specs.Walk.{far}
 use Rattle.gates.specs.Costs.{Cost, plus, step-cost, cost}
 use Rattle.calls.specs.Places.{seek}
-use Rattle.walks.proofs.Gates.{OfGate, of-gate}
+use Rattle.gates.proofs.GateSteps.{OfGate, of-gate}
 use Rattle.walks.proofs.Seeking.{not-here}
 
 -- ---- the programs before a place are passed

@@ -13,7 +13,7 @@ use Rattle.calls.specs.Places.{found}
 use Rattle.calls.specs.Calls.{State, word-at, spoken-at, report, hear-walk}
 use Rattle.walks.specs.Workers.{cursor, heard-at}
 use Rattle.walks.specs.Halts.{going-on, reported}
-use Rattle.walks.proofs.Gates.{OfGate}
+use Rattle.gates.proofs.GateSteps.{OfGate}
 
 pub trail-free : (P : Worker) (ss : List Step) (c : Cursor) (s : Pair) (t u : List Pair)
     → report P (walk (P .act) ss c s t) ≡ report P (walk (P .act) ss c s u)

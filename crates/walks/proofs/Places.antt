@@ -12,11 +12,11 @@ use Rattle.gates.specs.Steps.{Step, Cursor, origin}
 use Rattle.gates.specs.Meaning.{meaning, order-steps, job-steps}
 use Rattle.gates.specs.Walk.{Exchanging}
 use Rattle.gates.proofs.Needs.{Further, far-used}
-use Rattle.program_fetch.specs.declared.Fetched.the-variants.{At}
-use Rattle.program_fetch.specs.Fetch.{fetched}
-use Rattle.program_seek.specs.declared.Sought.the-variants.{Nowhere}
-use Rattle.program_seek.specs.declared.Sought.the-variants as Sought
-use Rattle.program_seek.specs.Seek.{sought}
+use Rattle.programs.specs.declared.Fetched.the-variants.{At}
+use Rattle.programs.specs.Fetch.{fetched}
+use Rattle.programs.specs.declared.Sought.the-variants.{Nowhere}
+use Rattle.programs.specs.declared.Sought.the-variants as Sought
+use Rattle.programs.specs.Seek.{sought}
 use Rattle.calls.specs.Places.{nowhere, found, seek}
 use Rattle.walks.specs.Workers.{cursor}
 use Rattle.walks.specs.Halts.{steps-from}

@@ -15,9 +15,9 @@ use Rattle.gates.specs.Speech.{dealt-word, shape}
 use Rattle.gates.specs.Meaning.{meaning, order-steps, job-steps}
 use Rattle.gates.specs.Costs.{Cost, plus, step-cost, cost}
 use Rattle.gates.proofs.Needs.{cost-append}
-use Rattle.program_fetch.specs.declared.Fetched.{Fetched}
-use Rattle.program_fetch.specs.declared.Fetched.the-variants.{At, Past}
-use Rattle.program_fetch.specs.Fetch.{fetched}
+use Rattle.programs.specs.declared.Fetched.{Fetched}
+use Rattle.programs.specs.declared.Fetched.the-variants.{At, Past}
+use Rattle.programs.specs.Fetch.{fetched}
 use Rattle.walks.specs.Dealers.{Dealer, dealing, deal-all, Room}
 use Rattle.walks.proofs.Gates.{at-gate, past-gates, steps-append}
 use Rattle.walks.proofs.Dealers.{size-kept}

@@ -13,9 +13,9 @@ use Rattle.gates.specs.Meaning.{meaning, order-steps, job-steps}
 use Rattle.gates.specs.Walk.{Exchanging}
 use Rattle.gates.specs.Hosts.{Pair}
 use Rattle.gates.proofs.Uses.{behind-a, behind-deals}
-use Rattle.program_fetch.specs.declared.Fetched.{Fetched}
-use Rattle.program_fetch.specs.declared.Fetched.the-variants.{At, Past}
-use Rattle.program_fetch.specs.Fetch.{fetched}
+use Rattle.programs.specs.declared.Fetched.{Fetched}
+use Rattle.programs.specs.declared.Fetched.the-variants.{At, Past}
+use Rattle.programs.specs.Fetch.{fetched}
 use Rattle.calls.specs.Lent.{Worker, worker-with}
 use Rattle.calls.specs.Places.{found}
 use Rattle.calls.specs.Calls.{State, Answer, word-at, report, hear-walk}

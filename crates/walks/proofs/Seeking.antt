@@ -13,14 +13,15 @@ use Rattle.gates.specs.Steps.{Exchange, product, refresh, Step, local, deal, ex
 use Rattle.gates.specs.Meaning.{meaning, order-steps}
 use Rattle.gates.specs.Walk.{Exchanging}
 use Rattle.gates.specs.Speech.{shape}
-use Rattle.program_fetch.specs.declared.Fetched.the-variants.{At}
-use Rattle.program_seek.specs.declared.Sought.{Sought}
-use Rattle.program_seek.specs.declared.Sought.the-variants.{Nowhere}
-use Rattle.program_seek.specs.declared.Sought.the-variants as Sought
-use Rattle.program_fetch.specs.Fetch.{fetched}
-use Rattle.program_seek.specs.Seek.{sought-at, sought}
+use Rattle.programs.specs.declared.Fetched.the-variants.{At}
+use Rattle.programs.specs.declared.Sought.{Sought}
+use Rattle.programs.specs.declared.Sought.the-variants.{Nowhere}
+use Rattle.programs.specs.declared.Sought.the-variants as Sought
+use Rattle.programs.specs.Fetch.{fetched}
+use Rattle.programs.specs.Seek.{sought-at, sought}
 use Rattle.calls.specs.Places.{Found, nowhere, found, here, seek}
-use Rattle.walks.proofs.Gates.{never, OfGate, of-gate}
+use Rattle.gates.proofs.GateSteps.{OfGate, of-gate}
+use Rattle.walks.proofs.Gates.{never}
 
 -- ---- not here
 

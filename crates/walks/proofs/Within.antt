@@ -13,13 +13,14 @@ use Rattle.gates.specs.Meaning.{meaning, order-steps}
 use Rattle.gates.specs.Walk.{Exchanging}
 use Rattle.gates.specs.Hosts.{Pair, on-m, on-mask}
 use Rattle.gates.proofs.Uses.{few-used, used-b, behind-a, behind-deals}
-use Rattle.program_fetch.specs.declared.Fetched.{Fetched}
-use Rattle.program_fetch.specs.declared.Fetched.the-variants.{At, Past}
-use Rattle.program_fetch.specs.Fetch.{fetched}
+use Rattle.programs.specs.declared.Fetched.{Fetched}
+use Rattle.programs.specs.declared.Fetched.the-variants.{At, Past}
+use Rattle.programs.specs.Fetch.{fetched}
 use Rattle.calls.specs.Lent.{Worker, worker-with}
 use Rattle.walks.specs.Workers.{cursor, deal-taken}
 use Rattle.walks.specs.Halts.{Halting, Going, Walked}
-use Rattle.walks.proofs.Gates.{of-gate, at-gate, inside}
+use Rattle.gates.proofs.GateSteps.{of-gate}
+use Rattle.walks.proofs.Gates.{at-gate, inside}
 use Rattle.walks.proofs.Halts.{passes}
 use Rattle.walks.proofs.Workers.{acts}
 

@@ -9,9 +9,9 @@ use Rattle.gates.specs.Steps.{Lane, Step, Cursor}
 use Rattle.gates.specs.Meaning.{meaning, order-steps, job-steps}
 use Rattle.gates.specs.Walk.{walk, Exchanging}
 use Rattle.gates.specs.Hosts.{Pair}
-use Rattle.program_fetch.specs.declared.Fetched.{Fetched}
-use Rattle.program_fetch.specs.declared.Fetched.the-variants.{At, Past}
-use Rattle.program_fetch.specs.Fetch.{fetched}
+use Rattle.programs.specs.declared.Fetched.{Fetched}
+use Rattle.programs.specs.declared.Fetched.the-variants.{At, Past}
+use Rattle.programs.specs.Fetch.{fetched}
 use Rattle.calls.specs.Lent.{Worker}
 use Rattle.calls.specs.Calls.{Answer, report}
 use Rattle.walks.specs.Workers.{cursor}

@@ -12,13 +12,13 @@ use Rattle.gates.specs.Walk.{Exchanging}
 use Rattle.gates.specs.Costs.{Cost}
 use Rattle.programs.specs.declared.Order.{Order}
 use Rattle.programs.specs.Orders.{program}
-use Rattle.program_fetch.specs.declared.Fetched.{Fetched}
-use Rattle.program_fetch.specs.declared.Fetched.the-variants.{At, Past}
-use Rattle.program_fetch.specs.Fetch.{fetched}
-use Rattle.program_seek.specs.declared.Sought.{Sought}
-use Rattle.program_seek.specs.declared.Sought.the-variants.{Nowhere}
-use Rattle.program_seek.specs.declared.Sought.the-variants as Sought
-use Rattle.program_seek.specs.Seek.{sought}
+use Rattle.programs.specs.declared.Fetched.{Fetched}
+use Rattle.programs.specs.declared.Fetched.the-variants.{At, Past}
+use Rattle.programs.specs.Fetch.{fetched}
+use Rattle.programs.specs.declared.Sought.{Sought}
+use Rattle.programs.specs.declared.Sought.the-variants.{Nowhere}
+use Rattle.programs.specs.declared.Sought.the-variants as Sought
+use Rattle.programs.specs.Seek.{sought}
 use Rattle.jobs.specs.Job.{Fault, job-fault, job-gates, job-cost, order-at}
 use Rattle.calls.specs.Scripts.{job-script}
 use Rattle.calls.specs.Lent.{lent-fault, lent, passed}

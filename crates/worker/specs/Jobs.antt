@@ -6,8 +6,8 @@ use lib.ListN.{length}
 use Rattle.gates.specs.declared.Gate.{Gate}
 use Rattle.gates.specs.Meaning.{meaning}
 use Rattle.gates.specs.Walk.{Exchanging}
-use Rattle.program_fetch.specs.declared.Fetched.the-variants.{At}
-use Rattle.program_fetch.specs.Fetch.{fetched}
+use Rattle.programs.specs.declared.Fetched.the-variants.{At}
+use Rattle.programs.specs.Fetch.{fetched}
 use Rattle.programs.specs.Orders.{program}
 use Rattle.tables.specs.Table.{rows}
 use Rattle.jobs.specs.Job.{order-at}

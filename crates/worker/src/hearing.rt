@@ -21,10 +21,10 @@ use crate::walk::behind;
 use call_check::check_lent;
 use gate_shape::used_by;
 use job_order::order_at;
-use program_fetch::Fetched;
 use program_fetch::fetch;
-use program_seek::Sought;
 use program_seek::seek;
+use programs::Fetched;
+use programs::Sought;
 use worker_gate::Reach;
 use worker_gate::meet;
 

@@ -2,7 +2,7 @@ use mathlib.Core.Path.{_∙_}
 use borrow.Author.Needs.{needs}
 use Rattle.gates.specs.Speech.{shape}
 use Rattle.gates.specs.Meaning.{meaning}
-use Rattle.program_seek.specs.Seek.{sought, sought-at}
+use Rattle.programs.specs.Seek.{sought, sought-at}
 use Rattle.program_seek.proofs.Places.{refresh-next}
 use Rattle.program_seek.proofs.refreshed_place.Statement.{statement}
 use Rattle.program_seek.proofs.refreshed_place.Tie as tie

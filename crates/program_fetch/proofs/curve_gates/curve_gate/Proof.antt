@@ -7,7 +7,7 @@ use Rattle.tables.specs.Table.{rows}
 use Rattle.programs.specs.Sizes.{row-gates}
 use Rattle.programs.proofs.Sizes.{row-32}
 use Rattle.program_fetch.proofs.Indices.{fetched-here, fetched-next, curve-first, curve-row, exact-rest, refreshed-rest}
-use Rattle.program_fetch.specs.declared.Fetched.the-variants.{At}
+use Rattle.programs.specs.declared.Fetched.the-variants.{At}
 use Rattle.gates.specs.declared.Gate.the-variants.{Const}
 use Rattle.program_fetch.proofs.curve_gates.curve_gate.Statement.{statement}
 use Rattle.program_fetch.proofs.curve_gates.curve_gate.Tie as tie

@@ -1,7 +1,7 @@
 use mathlib.Core.Path.{_≡_}
 use native.Mathlib.Omega.{arith}
 use Rattle.programs.specs.Orders.{program, kinds}
-use Rattle.program_fetch.specs.Fetch.{fetched}
+use Rattle.programs.specs.Fetch.{fetched}
 use Rattle.program_fetch.proofs.ByKind.{one-past}
 use Rattle.program_fetch.proofs.fetching.one_gate.Statement.{statement}
 use Rattle.program_fetch.proofs.fetching.one_gate.Tie as tie

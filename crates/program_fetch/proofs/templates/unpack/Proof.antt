@@ -1,6 +1,6 @@
 use mathlib.Core.Path.{ap, _∙_}
 use borrow.Author.Needs.{needs}
-use Rattle.program_fetch.specs.declared.Fetched.the-variants.{At}
+use Rattle.programs.specs.declared.Fetched.the-variants.{At}
 use Rattle.program_fetch.proofs.Packing.{packed-at, packed-past}
 use Rattle.program_fetch.proofs.templates.unpack.Statement.{statement}
 use Rattle.program_fetch.proofs.templates.unpack.Tie as tie

@@ -9,9 +9,9 @@ use Rattle.gates.specs.declared.Shape.{Shape}
 use Rattle.gates.specs.declared.Shape.the-variants.{Local, Dealing, Product, Refreshing}
 use Rattle.gates.specs.Meaning.{meaning}
 use Rattle.gates.specs.Speech.{shape}
 use Rattle.programs.specs.Costs.{program-cost}
-use Rattle.program_seek.specs.declared.Sought.{Sought}
-use Rattle.program_seek.specs.declared.Sought.the-variants.{Found, Nowhere}
+use Rattle.programs.specs.declared.Sought.{Sought}
+use Rattle.programs.specs.declared.Sought.the-variants.{Found, Nowhere}
 
 -- with the shape of the gate at index i, before which so many words of A and deals are used: on to the gates behind
 -- it, or found

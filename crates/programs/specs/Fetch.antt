@@ -2,8 +2,8 @@
 use mathlib.Core.List.{List, [], _∷_}
 use Prim.Native.Nat.{ℕ, zero, suc}
 use Rattle.gates.specs.declared.Gate.{Gate}
-use Rattle.program_fetch.specs.declared.Fetched.{Fetched}
-use Rattle.program_fetch.specs.declared.Fetched.the-variants.{At, Past}
+use Rattle.programs.specs.declared.Fetched.{Fetched}
+use Rattle.programs.specs.declared.Fetched.the-variants.{At, Past}
 
 unfoldable pub fetched : List Gate → ℕ → Fetched
 fetched [] i = Past
