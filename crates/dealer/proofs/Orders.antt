@@ -1,49 +1,132 @@
--- Preparation's walk over the orders of a job: a turn, and the end. Assumes nothing.
-use mathlib.Core.Path.{_≡_, subst}
-use mathlib.Core.List.{List, [], _∷_}
-use Prim.Native.Nat.{ℕ, _+_, _*_, _/_, _≤_}
-use lib.ListN.{length, drop}
-use Rattle.gates.specs.declared.Gate.{Gate}
-use Rattle.gates.specs.Steps.{Step}
+-- Preparation's walk over the orders of a job, piece by piece: a turn, and the end. Assumes nothing.
+use mathlib.Core.Path.{_≡_, sym, ap, subst, _∙_}
+use mathlib.Core.Bool.{true, false}
+use mathlib.Core.List.{List, [], _∷_, _++_}
+use Prim.Native.Nat.{ℕ, zero, suc, _+_, _*_, _/_, _≤_, _<_}
+use native.Mathlib.Numerals.{add-one}
+use native.Mathlib.Omega.{arith}
+use lib.ListN.{length, getD, drop, length-append}
+use Rattle.gates.specs.Gates.{Gate}
+use Rattle.gates.specs.Steps.{Step, end}
 use Rattle.gates.specs.Meaning.{order-steps, job-steps}
+use Rattle.gates.specs.Costs.{Cost, plus, step-cost, cost}
 use Rattle.tables.specs.Table.{rows}
 use Rattle.programs.specs.declared.Order.{Order}
 use Rattle.programs.specs.Orders.{program}
+use Rattle.programs.specs.Costs.{program-cost}
+use Rattle.programs.proofs.Sizes.{few, order-cost}
+use Rattle.program_fetch.specs.declared.Piece.{Piece}
+use Rattle.program_fetch.specs.Pieces.{Stands}
+use Rattle.program_fetch.proofs.PieceSteps.{piece-steps, piece-end, gates-behind, piece-cut, last-steps, more-steps, steps-count}
 use Rattle.jobs.specs.Job.{job-gates, steps-of, order-at}
-use Rattle.jobs.proofs.Orders.{orders-from, no-more}
+use Rattle.jobs.proofs.Indices.{order-there, gates-at, gates-over}
 use Rattle.walks.specs.Dealers.{Dealer, deal-all, Room}
-use Rattle.walks.proofs.Preparing.{Midway, done, program-room, program-done}
+use Rattle.walks.specs.Halts.{steps-from}
+use Rattle.walks.proofs.Gates.{first-gate}
+use Rattle.walks.proofs.Preparing.{Midway, begins, done, room-now, further, past-end}
 
-module _ (w : ℕ) (A B job table : List ℕ) (i : ℕ) where
-  -- the steps of the orders from i on
-  abbrev pub orders-left : List Step
-  orders-left = steps-of w (drop (i * 4) job) table
+-- a program of several takes no more words of A than all
+own-words : (w : ℕ) (programs : List (List Gate)) (o : ℕ)
+    → cost (order-steps w (getD programs o []) []) .a ≤ cost (job-steps w programs) .a
+unfolding job-steps order-steps cost plus step-cost program-cost
+own-words w [] o = omega arith
+own-words w (gs ∷ rest) zero = omega (arith, ap (λ (k : Cost). k .a) (order-cost w gs (job-steps w rest)))
+own-words w (gs ∷ rest) (suc o) = omega (arith, own-words w rest o, ap (λ (k : Cost). k .a) (order-cost w gs (job-steps w rest)))
 
-  module _ (s₀ s : Dealer) (h : Midway A B (steps-of w job table) orders-left s₀ s) where
-    module _ (fit : i * 4 + 4 ≤ length job) (o : Order) (eo : o ≡ order-at job i) where
-      -- the order's own program, and those behind it
-      abbrev own : List Gate
-      own = program w (rows table) o
+module _ (w : ℕ) (A B job table : List ℕ) where
+  abbrev all : List Step
+  all = steps-of w job table
 
-      abbrev behind : List (List Gate)
-      behind = job-gates w (drop ((i + 1) * 4) job) table
+  -- the steps from gate i of the order at o on
+  abbrev pub left : (o i : ℕ) → List Step
+  left o i = steps-from w i (drop o (job-gates w job table))
 
-      next : Midway A B (steps-of w job table) (job-steps w (own ∷ behind)) s₀ s
-      unfolding steps-of job-gates
-      next = rw (orders-from job i fit, ← eo) at h
+  pub job-begins : (s : Dealer) → Room A B all s → Midway A B all (left 0 0) s s
+  unfolding steps-of
+  job-begins s h = subst (λ (ss : List Step). Midway A B all ss s s) (first-gate w (job-gates w job table)) (begins A B all s h)
 
-      pub order-room : Room A B (order-steps w own []) s
-      order-room = program-room w A B (steps-of w job table) s₀ s own behind next
-
-      pub order-done : (t : Dealer) → t ≡ deal-all A B (order-steps w own []) s
-          → Midway A B (steps-of w job table) (steps-of w (drop ((i + 1) * 4) job) table) s₀ t
-      unfolding steps-of
-      order-done t e = program-done w A B (steps-of w job table) s₀ s own behind next t e
-
-    none-left : length job / 4 ≤ i → orders-left ≡ []
-    unfolding steps-of job-gates job-steps
-    none-left l = rw (no-more job i l)
-
-    pub job-done : length job / 4 ≤ i → s ≡ deal-all A B (steps-of w job table) s₀
+  module _ (o i : ℕ) (s₀ s : Dealer) (h : Midway A B all (left o i) s₀ s) where
+    pub job-done : length job / 4 ≤ o → s ≡ deal-all A B all s₀
+    unfolding steps-from
     job-done l =
-        done A B (steps-of w job table) s₀ s (subst (λ (ss : List Step). Midway A B (steps-of w job table) ss s₀ s) (none-left l) h)
+        done A B all s₀ s
+        (subst (λ (ps : List (List Gate)). Midway A B all (steps-from w i ps) s₀ s) (gates-over w job table o l) h)
+
+  module _ (o i : ℕ) (n : o < length job / 4) (x : Order) (ex : x ≡ order-at job o)
+      (p : Piece) (st : Stands w (rows table) x i p) where
+    abbrev later : List Step
+    later = job-steps w (drop (suc o) (job-gates w job table))
+
+    abbrev now-steps : List Step
+    now-steps = piece-steps w (rows table) x i p st
+
+    abbrev end-at : ℕ
+    end-at = piece-end w (rows table) x i p st
+
+    abbrev then-steps : List Step
+    then-steps = order-steps w (gates-behind w (rows table) x i p st) later
+
+    from-gate : (j : ℕ) → left o j ≡ order-steps w (drop j (program w (rows table) x)) later
+    unfolding steps-from
+    from-gate j = ap (steps-from w j) (order-there w job table o n x ex)
+
+    cut : left o i ≡ now-steps ++ then-steps
+    cut = from-gate i ∙ piece-cut w (rows table) x i p st later
+
+    next-order : later ≡ left (o + 1) 0
+    next-order = rw (add-one o) (first-gate w (drop (suc o) (job-gates w job table)))
+
+    same-order : p .last ≡ false → then-steps ≡ left o end-at
+    same-order e = more-steps w (rows table) x i p st e later ∙ sym (from-gate end-at)
+
+    -- the steps left get fewer
+    pub fewer-orders : p .last ≡ true → length (left (o + 1) 0) < length (left o i)
+    fewer-orders e = omega (
+      arith,
+      ap length cut,
+      length-append now-steps then-steps,
+      ap length (last-steps w (rows table) x i p st e later),
+      ap length next-order,
+    )
+
+    pub fewer-gates : p .last ≡ false → length (left o end-at) < length (left o i)
+    fewer-gates e = omega (
+      arith,
+      ap length cut,
+      length-append now-steps then-steps,
+      ap length (same-order e),
+      steps-count w (rows table) x i p st,
+      st .some e,
+    )
+
+    module _ (s₀ s : Dealer) (h : Midway A B all (left o i) s₀ s) where
+      pub piece-room : Room A B now-steps s
+      piece-room = room-now A B all s₀ s (left o i) now-steps then-steps cut h
+
+      module _ (t : Dealer) (et : t ≡ deal-all A B now-steps s) where
+        behind : Midway A B all then-steps s₀ t
+        behind = further A B all s₀ s (left o i) now-steps then-steps cut h t et
+
+        pub order-done : p .last ≡ true → Midway A B all (left (o + 1) 0) s₀ t
+        order-done e =
+            let m : Midway A B all (end ∷ later) s₀ t =
+            subst (λ (ss : List Step). Midway A B all ss s₀ t) (last-steps w (rows table) x i p st e later) behind in
+            subst (λ (ss : List Step). Midway A B all ss s₀ t) next-order (past-end A B all s₀ t later m)
+
+        pub piece-done : p .last ≡ false → Midway A B all (left o end-at) s₀ t
+        piece-done e = subst (λ (ss : List Step). Midway A B all ss s₀ t) (same-order e) behind
+
+-- a job's order has few gates beside those that take a word of A
+pub few-gates : (A B job table : List ℕ) (s : Dealer) → Room A B (steps-of 32 job table) s
+    → (o : ℕ) → o < length job / 4 → (x : Order) → x ≡ order-at job o → length (program 32 (rows table) x) ≤ 2 * length A + 60
+unfolding steps-of
+few-gates A B job table s h o n x ex =
+    let own = program 32 (rows table) x in
+    let e : getD (job-gates 32 job table) o [] ≡ own = gates-at 32 job table o n ∙ sym (ap (program 32 (rows table)) ex) in
+    omega (
+      arith,
+      few (rows table) x,
+      own-words 32 (job-gates 32 job table) o,
+      ap (λ (gs : List Gate). cost (order-steps 32 gs []) .a) e,
+      h .a,
+    )

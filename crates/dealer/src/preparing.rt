@@ -1,11 +1,12 @@
 // Host 0's preparation of a job: its deals, in gate order, and its masks of all registers.
 ghost use mathlib.Core.Path.{_≡_};
-ghost use mathlib.Core.List.{List, []};
+ghost use mathlib.Core.List.{List, map};
 ghost use Prim.Native.Nat.{ℕ, _^_, _<_};
-ghost use lib.ListN.{take};
-ghost use Rattle.gates.specs.Meaning.{meaning, order-steps};
+ghost use lib.ListN.{length, take, drop};
+ghost use Rattle.gates.specs.Meaning.{meaning};
+ghost use Rattle.gates.specs.Codes.{step-of};
 ghost use Rattle.tables.specs.Table.{rows};
-ghost use Rattle.programs.specs.Orders.{program};
+ghost use Rattle.program_fetch.specs.Pieces.{piece-gates};
 ghost use Rattle.jobs.specs.Job.{steps-of};
 ghost use Rattle.calls.specs.Scripts.{job-script};
 ghost use Rattle.calls.specs.Calls as Calls;
@@ -18,12 +19,12 @@ use call_check::check_dealer;
 use call_check::fresh;
 use dealer_gate::deal_gate;
 use gate_shape::used_by;
-use gates::Gate;
+use gates::GateCode;
 use gates::Used;
 use job_order::order_at;
-use program_fetch::fetch;
-use programs::Fetched;
-use programs::Order;
+use program_fetch::Piece;
+use program_fetch::gate_at;
+use program_fetch::piece_at;
 
 // The registers of a lane, before the temporaries.
 fn registers(lane: [u32; 24]) -> [u32; 16]
@@ -39,11 +40,11 @@ fn registers(lane: [u32; 24]) -> [u32; 16]
 }
 
 // What is used behind a gate.
-fn behind(g: Gate, used: Used) -> Used
+fn behind(g: GateCode, used: Used) -> Used
     requires { ⌜ (used .a < 2 ^ 62) × (used .b < 2 ^ 62) × (used .deals < 2 ^ 62) ⌝ }
     ensures { λ r.
         ⌜ ((A B : List ℕ) (l1 l2 : Lane) (buffer : List ℕ)
-        → Counts (dealing A B (meaning 32 g) (dealer used l1 l2 buffer)) r) ⌝ }
+        → Counts (dealing A B (step-of 32 g) (dealer used l1 l2 buffer)) r) ⌝ }
 {
     let more = used_by(g);
     Used {
@@ -53,9 +54,9 @@ fn behind(g: Gate, used: Used) -> Used
     }
 }
 
-// The gates of one order, from its first to its last.
-fn deal_order(
-    o: Order,
+// The gates of a piece of a program, from where it stands to its last.
+fn deal_piece(
+    p: Piece,
     table: &[u32],
     a: &[u32],
     b: &[u32],
@@ -64,16 +65,19 @@ fn deal_order(
     l2: &mut [u32; 24],
     deals: &mut [u32],
 ) -> Used
-    requires { ⌜ Room (now a) (now b) (order-steps 32 (program 32 (rows (now table)) o) [])
+    requires { ⌜ (p .end ≡ length (piece-gates 32 (rows (now table)) p))
+        × Room (now a) (now b) (map (meaning 32) (drop (p .from) (piece-gates 32 (rows (now table)) p)))
         (dealer used (now l1) (now l2) (now deals)) ⌝ }
     ensures { λ r.
         ⌜ dealer r (now (l1 .exit)) (now (l2 .exit)) (now (deals .exit))
-        ≡ deal-all (now (a .entry)) (now (b .entry)) (order-steps 32 (program 32 (rows (now (table .entry))) o) [])
+        ≡ deal-all (now (a .entry)) (now (b .entry))
+        (map (meaning 32) (drop (p .from) (piece-gates 32 (rows (now (table .entry))) p)))
         (dealer used (now (l1 .entry)) (now (l2 .entry)) (now (deals .entry))) ⌝ }
 {
     let mut at = used;
-    let mut i = 0;
-    while let Fetched::At { gate } = fetch(o, table, i) {
+    let mut i = p.from;
+    while i < p.end {
+        let gate = gate_at(p, table, i);
         deal_gate(gate, a, b, at, l1, l2, deals);
         at = behind(gate, at);
         i += 1;
@@ -81,7 +85,7 @@ fn deal_order(
     at
 }
 
-// The orders of a job, from its first to its last.
+// The orders of a job, from its first to its last, and each piece by piece.
 fn deal_job(
     job: &[u32],
     table: &[u32],
@@ -104,9 +108,16 @@ fn deal_job(
         deals: 0,
     };
     let mut o = 0;
+    let mut gate = 0;
     while o < n {
-        used = deal_order(order_at(job, o), table, a, b, used, l1, l2, deals);
-        o += 1;
+        let piece = piece_at(order_at(job, o), table, gate);
+        used = deal_piece(piece, table, a, b, used, l1, l2, deals);
+        if piece.last {
+            o += 1;
+            gate = 0;
+        } else {
+            gate += piece.end - piece.from;
+        }
     }
     used
 }

@@ -10,8 +10,7 @@ use Rattle.words.specs.Words.{add, numbers}
 use Rattle.words.specs.Signed.{signed}
 use Rattle.shares.specs.Gates.{value}
 use Rattle.tables.specs.Table.{rows}
-use Rattle.gates.specs.declared.Gate.{Gate}
-use Rattle.gates.specs.declared.Gate.the-variants.{Refresh}
+use Rattle.gates.specs.Gates.{Gate, Refresh}
 use Rattle.gates.specs.Steps.{at, origin}
 use Rattle.gates.specs.Meaning.{job-steps}
 use Rattle.gates.specs.Walk.{Conf, whole, far}

@@ -9,9 +9,8 @@ use lib.Dec.{eqb}
 use lib.ListN.{length}
 use Rattle.gates.specs.Steps.{Step, local, deal, exchange, end}
 use Rattle.gates.specs.Costs.{Cost}
-use Rattle.gates.specs.declared.Gate.{Gate}
-use Rattle.gates.specs.declared.Gate.the-variants.{Add, Sub, Xor, Mul, And, Refresh, Scale, Plus, Up, Bit, Const}
-use Rattle.gates.specs.declared.Gate.the-variants.{Public, Deal, DealBits}
+use Rattle.gates.specs.Gates.{Gate, Add, Sub, Xor, Mul, And, Refresh, Scale, Plus, Up, Bit, Const, Public, Deal}
+use Rattle.gates.specs.Gates.{DealBits}
 use Rattle.runs.specs.Runs.{Among}
 
 -- ---- places: "(order, and which of its products and refreshes, both from 0; the end is the number of orders and 0)"

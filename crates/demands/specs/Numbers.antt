@@ -5,7 +5,7 @@ use mathlib.Core.List.{List}
 use Prim.Native.Nat.{ℕ, suc}
 use Rattle.gates.specs.Hosts.{Pair}
 use Rattle.gates.specs.Meaning.{job-steps}
-use Rattle.gates.specs.declared.Gate.{Gate}
+use Rattle.gates.specs.Gates.{Gate}
 use Rattle.calls.specs.Scripts.{Script, script-cost, orders-in, Orderly}
 use Rattle.calls.specs.Lent.{Lent}
 use Rattle.calls.specs.Calls.{State, start, hear, prepare}

@@ -1,14 +1,21 @@
 // What host 0 deals at a gate: document 01's formulas on words. The definitions stand with the gates (`Speech`,
-// `Meaning`).
+// `Meaning`, `Codes`).
 ghost use mathlib.Core.Path.{_≡_};
-ghost use Rattle.words.specs.Words.{sub, neg, numbers, bits};
+ghost use Rattle.words.specs.Words.{add, sub, neg, numbers, bits};
 ghost use Rattle.shares.specs.Gates.{product-deal};
 ghost use Rattle.gates.specs.Speech.{dealt-word};
-ghost use Rattle.gates.specs.Meaning.{meaning, dealt-of};
-use gates::Dealt;
-use gates::Gate;
+ghost use Rattle.gates.specs.Codes.{step-of};
+use gates::AND;
+use gates::DEAL_BITS;
+use gates::DEAL_NEGATED;
+use gates::DEAL_SIGNED;
+use gates::DEAL_SUM;
+use gates::DEAL_XOR;
+use gates::GateCode;
+use gates::MUL;
 use word_lists::at;
-use word_parts::part_of;
+use word_parts::field;
+use word_parts::signed_floor;
 
 // -x modulo 2^32.
 fn negated(x: u32) -> u32
@@ -17,15 +24,11 @@ fn negated(x: u32) -> u32
     std::num::wrapping_sub_u32(0, x)
 }
 
-// What host 0 deals of the masks l1 and l2.
-fn dealt_number(f: Dealt, l1: u32, l2: u32) -> u32
-    ensures { λ r. ⌜ r ≡ dealt-of 32 f l1 l2 ⌝ }
+// L = L1 + L2.
+fn sum(l1: u32, l2: u32) -> u32
+    ensures { λ r. ⌜ r ≡ add 32 l1 l2 ⌝ }
 {
-    match f {
-        Dealt::OfSum { part } => part_of(part, std::num::wrapping_add_u32(l1, l2)),
-        Dealt::OfNegated { part } => part_of(part, negated(std::num::wrapping_add_u32(l1, l2))),
-        Dealt::OfBits => l1 ^ l2,
-    }
+    std::num::wrapping_add_u32(l1, l2)
 }
 
 // The second mask of a deal of v, whose first is x: -x - v.
@@ -52,14 +55,20 @@ fn and_deal(a1: u32, a2: u32, b1: u32, b2: u32, g1: u32) -> u32
 }
 
 // Host 0's deal; x is the A word of the first mask, or g1 of a product.
-pub fn deal_word(g: Gate, x: u32, l1: &[u32; 24], l2: &[u32; 24]) -> u32
-    ensures { λ r. ⌜ r ≡ dealt-word (meaning 32 g) x (now (l1 .entry)) (now (l2 .entry)) ⌝ }
+pub fn deal_word(g: GateCode, x: u32, l1: &[u32; 24], l2: &[u32; 24]) -> u32
+    ensures { λ r. ⌜ r ≡ dealt-word (step-of 32 g) x (now (l1 .entry)) (now (l2 .entry)) ⌝ }
 {
-    match g {
-        Gate::Mul { d: _, a, b } => product_deal(at(l1, a), at(l2, a), at(l1, b), at(l2, b), x),
-        Gate::And { d: _, a, b } => and_deal(at(l1, a), at(l2, a), at(l1, b), at(l2, b), x),
-        Gate::Deal { d: _, a, dealt } => second_mask(dealt_number(dealt, at(l1, a), at(l2, a)), x),
-        Gate::DealBits { d: _, a } => x ^ negated(std::num::wrapping_add_u32(at(l1, a), at(l2, a))),
+    let op = g.op;
+    let a1 = at(l1, g.a);
+    let a2 = at(l2, g.a);
+    match op {
+        DEAL_SUM => second_mask(field(sum(a1, a2), g.n, g.b), x),
+        DEAL_NEGATED => second_mask(field(negated(sum(a1, a2)), g.n, g.b), x),
+        DEAL_SIGNED => second_mask(signed_floor(negated(sum(a1, a2)), g.n), x),
+        DEAL_XOR => second_mask(a1 ^ a2, x),
+        DEAL_BITS => x ^ negated(sum(a1, a2)),
+        MUL => product_deal(a1, a2, at(l1, g.b), at(l2, g.b), x),
+        AND => and_deal(a1, a2, at(l1, g.b), at(l2, g.b), x),
         _ => 0,
     }
 }

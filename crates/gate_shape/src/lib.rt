@@ -1,30 +1,40 @@
-// What a walk does at a gate, and what it uses there. The definitions stand with the gates (`Speech`, `Meaning`,
+// What a walk does at a gate, and what it uses there. The definitions stand with the gates (`Speech`, `Codes`,
 // `Costs`).
 ghost use mathlib.Core.Path.{_≡_};
 ghost use Rattle.gates.specs.Speech.{shape};
-ghost use Rattle.gates.specs.Meaning.{meaning};
+ghost use Rattle.gates.specs.Codes.{step-of};
 ghost use Rattle.gates.specs.Costs.{used-at};
-use gates::Gate;
+use gates::DEAL_SUM;
+use gates::GateCode;
+use gates::MUL;
+use gates::REFRESH;
 use gates::Shape;
 use gates::Used;
 
 // A product or refresh waits for a word; a deal takes one; every other gate is local.
-pub fn shape_of(g: Gate) -> Shape
-    ensures { λ r. ⌜ r ≡ shape (meaning 32 g) ⌝ }
+pub fn shape_of(g: GateCode) -> Shape
+    ensures { λ r. ⌜ r ≡ shape (step-of 32 g) ⌝ }
 {
-    match g {
-        Gate::Mul { d, a: _, b: _ } => Shape::Product { d },
-        Gate::And { d, a: _, b: _ } => Shape::Product { d },
-        Gate::Refresh { d, a: _ } => Shape::Refreshing { d },
-        Gate::Deal { d, a: _, dealt: _ } => Shape::Dealing { d },
-        Gate::DealBits { d, a: _ } => Shape::Dealing { d },
-        _ => Shape::Local,
+    let op = g.op;
+    let d = g.d;
+    if op < DEAL_SUM {
+        return Shape::Local;
     }
+    if op < MUL {
+        return Shape::Dealing { d };
+    }
+    if op < REFRESH {
+        return Shape::Product { d };
+    }
+    if op == REFRESH {
+        return Shape::Refreshing { d };
+    }
+    Shape::Local
 }
 
 // A deal takes its first mask from A; a product g1 and a mask of A, a mask of B, and a deal; a refresh a mask of each.
-pub fn used_by(g: Gate) -> Used
-    ensures { λ r. ⌜ r ≡ used-at (meaning 32 g) ⌝ }
+pub fn used_by(g: GateCode) -> Used
+    ensures { λ r. ⌜ r ≡ used-at (step-of 32 g) ⌝ }
 {
     match shape_of(g) {
         Shape::Local => Used {

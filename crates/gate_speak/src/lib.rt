@@ -1,11 +1,14 @@
 // The words that are spoken at a gate: document 01's formulas on words. The definitions stand with the gates (`Speech`,
-// `Meaning`).
+// `Codes`).
 ghost use mathlib.Core.Path.{_≡_};
 ghost use Rattle.words.specs.Words.{numbers, bits};
 ghost use Rattle.shares.specs.Gates.{product-word1, product-word2, refresh-word1, refresh-word2};
 ghost use Rattle.gates.specs.Speech.{spoken1, spoken2, met};
-ghost use Rattle.gates.specs.Meaning.{meaning};
-use gates::Gate;
+ghost use Rattle.gates.specs.Codes.{step-of};
+use gates::AND;
+use gates::GateCode;
+use gates::MUL;
+use gates::REFRESH;
 use word_lists::at;
 
 // ---- numbers
@@ -60,37 +63,44 @@ fn and_word2(ma: u32, mb: u32, a2: u32, b2: u32, g2: u32, l2: u32) -> u32
 // ---- the gates
 
 // The word that host 1 speaks, with its part g1 of a product and its new mask.
-pub fn word1(g: Gate, m: &[u32; 24], l: &[u32; 24], g1: u32, l1: u32) -> u32
-    ensures { λ r. ⌜ r ≡ spoken1 (meaning 32 g) (now (m .entry)) (now (l .entry)) g1 l1 ⌝ }
+pub fn word1(g: GateCode, m: &[u32; 24], l: &[u32; 24], g1: u32, l1: u32) -> u32
+    ensures { λ r. ⌜ r ≡ spoken1 (step-of 32 g) (now (m .entry)) (now (l .entry)) g1 l1 ⌝ }
 {
-    match g {
-        Gate::Mul { d: _, a, b } => product_word1(at(m, a), at(m, b), at(l, a), at(l, b), g1, l1),
-        Gate::And { d: _, a, b } => and_word1(at(m, a), at(m, b), at(l, a), at(l, b), g1, l1),
-        Gate::Refresh { d: _, a } => refresh_word1(at(m, a), at(l, a), l1),
+    let op = g.op;
+    let a = g.a;
+    let b = g.b;
+    match op {
+        MUL => product_word1(at(m, a), at(m, b), at(l, a), at(l, b), g1, l1),
+        AND => and_word1(at(m, a), at(m, b), at(l, a), at(l, b), g1, l1),
+        REFRESH => refresh_word1(at(m, a), at(l, a), l1),
         _ => 0,
     }
 }
 
 // The word that host 2 speaks, with the deal g2 and its new mask.
-pub fn word2(g: Gate, m: &[u32; 24], l: &[u32; 24], g2: u32, l2: u32) -> u32
-    ensures { λ r. ⌜ r ≡ spoken2 (meaning 32 g) (now (m .entry)) (now (l .entry)) g2 l2 ⌝ }
+pub fn word2(g: GateCode, m: &[u32; 24], l: &[u32; 24], g2: u32, l2: u32) -> u32
+    ensures { λ r. ⌜ r ≡ spoken2 (step-of 32 g) (now (m .entry)) (now (l .entry)) g2 l2 ⌝ }
 {
-    match g {
-        Gate::Mul { d: _, a, b } => product_word2(at(m, a), at(m, b), at(l, a), at(l, b), g2, l2),
-        Gate::And { d: _, a, b } => and_word2(at(m, a), at(m, b), at(l, a), at(l, b), g2, l2),
-        Gate::Refresh { d: _, a } => refresh_word2(at(l, a), l2),
+    let op = g.op;
+    let a = g.a;
+    let b = g.b;
+    match op {
+        MUL => product_word2(at(m, a), at(m, b), at(l, a), at(l, b), g2, l2),
+        AND => and_word2(at(m, a), at(m, b), at(l, a), at(l, b), g2, l2),
+        REFRESH => refresh_word2(at(l, a), l2),
         _ => 0,
     }
 }
 
 // The new m of an exchange: the sum of host 1's word u and host 2's word v.
-pub fn met_word(g: Gate, u: u32, v: u32) -> u32
-    ensures { λ r. ⌜ r ≡ met (meaning 32 g) u v ⌝ }
+pub fn met_word(g: GateCode, u: u32, v: u32) -> u32
+    ensures { λ r. ⌜ r ≡ met (step-of 32 g) u v ⌝ }
 {
-    match g {
-        Gate::Mul { d: _, a: _, b: _ } => std::num::wrapping_add_u32(u, v),
-        Gate::And { d: _, a: _, b: _ } => u ^ v,
-        Gate::Refresh { d: _, a: _ } => std::num::wrapping_add_u32(u, v),
+    let op = g.op;
+    match op {
+        MUL => std::num::wrapping_add_u32(u, v),
+        AND => u ^ v,
+        REFRESH => std::num::wrapping_add_u32(u, v),
         _ => 0,
     }
 }

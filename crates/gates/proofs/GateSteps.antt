@@ -1,8 +1,6 @@
 -- The step that a gate gives: every one but `end`. Assumes nothing.
 use Prim.Native.Nat.{ℕ}
-use Rattle.gates.specs.declared.Gate.{Gate}
-use Rattle.gates.specs.declared.Gate.the-variants.{Add, Sub, Xor, Mul, And, Refresh, Scale, Plus, Up, Bit, Const}
-use Rattle.gates.specs.declared.Gate.the-variants.{Public, Deal, DealBits}
+use Rattle.gates.specs.Gates.{Gate, Add, Sub, Xor, Mul, And, Refresh, Scale, Plus, Up, Bit, Const, Public, Deal, DealBits}
 use Rattle.gates.specs.Steps.{Step, local, deal, exchange, end}
 use Rattle.gates.specs.Meaning.{meaning}
 

@@ -6,6 +6,6 @@ pub mod Needs
 pub mod Uses
 pub mod Turns
 pub mod Duet
-pub mod Floors
-pub mod Others
+pub mod Fetched
+pub mod Codes
 pub mod Spoken

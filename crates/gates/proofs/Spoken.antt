@@ -1,14 +1,12 @@
 -- What is dealt and spoken at a gate, from the words that stand in its slots: a product over the operations of numbers
 -- or of bits. Assumes nothing.
 use mathlib.Core.Path.{_≡_}
-use Prim.Native.Nat.{ℕ, _+_, _%_, _^_}
+use Prim.Native.Nat.{ℕ}
 use lib.Bits.{bitXor}
 use Rattle.words.specs.Ring.{Ops}
 use Rattle.words.specs.Words.{add, sub, neg}
 use Rattle.shares.specs.Gates.{product-deal, product-word1, product-word2, refresh-word1, refresh-word2}
-use Rattle.gates.specs.declared.Dealt.{Dealt}
-use Rattle.gates.specs.declared.Gate.{Gate}
-use Rattle.gates.specs.declared.Gate.the-variants.{Deal, DealBits}
+use Rattle.gates.specs.Gates.{Dealt, Deal, DealBits}
 use Rattle.gates.specs.Steps.{Lane, at, product, refresh, Step, exchange, say1, say2, part2}
 use Rattle.gates.specs.Meaning.{dealt-of, meaning}
 use Rattle.gates.specs.Speech.{dealt-word, spoken1, spoken2}
@@ -20,15 +18,15 @@ pub dealt-product : (O : Ops ℕ) (y : Step) (d a b x : ℕ) (l1 l2 : Lane) {r p
 unfolding dealt-word part2
 dealt-product O y d a b x l1 l2 e h i j k n = rw (e, n, h, i, j, k)
 
-module _ (w : ℕ) (g : Gate) (d a x : ℕ) (l1 l2 : Lane) {r p q : ℕ} where
-  pub dealt-mask : (f : Dealt) {v : ℕ} → g ≡ Deal d a f → p ≡ at l1 a → q ≡ at l2 a → v ≡ dealt-of w f p q
-      → r ≡ sub w (neg w x) v → r ≡ dealt-word (meaning w g) x l1 l2
+module _ (w : ℕ) (y : Step) (d a x : ℕ) (l1 l2 : Lane) {r p q : ℕ} where
+  pub dealt-mask : (f : Dealt) {v : ℕ} → y ≡ meaning w (Deal d a f) → p ≡ at l1 a → q ≡ at l2 a → v ≡ dealt-of w f p q
+      → r ≡ sub w (neg w x) v → r ≡ dealt-word y x l1 l2
   unfolding meaning dealt-word
   dealt-mask f e h i j k = rw (e, k, j, h, i)
 
-  pub dealt-bits : {s : ℕ} → g ≡ DealBits d a → p ≡ at l1 a → q ≡ at l2 a → s ≡ (p + q) % 2 ^ w → r ≡ neg w s
-      → bitXor x r ≡ dealt-word (meaning w g) x l1 l2
-  unfolding add meaning dealt-word
+  pub dealt-bits : {s : ℕ} → y ≡ meaning w (DealBits d a) → p ≡ at l1 a → q ≡ at l2 a → s ≡ add w p q → r ≡ neg w s
+      → bitXor x r ≡ dealt-word y x l1 l2
+  unfolding meaning dealt-word
   dealt-bits e h i j k = rw (e, k, j, h, i)
 
 -- ---- the words that hosts 1 and 2 speak, from their lanes m and l

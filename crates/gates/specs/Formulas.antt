@@ -9,13 +9,10 @@ use lib.ListN.{length}
 use Rattle.words.specs.Ring.{Ops}
 use Rattle.words.specs.Words.{add, sub, neg, mul, bit, shl, numbers, bits}
 use Rattle.shares.specs.Gates as Shares
-use Rattle.shares.specs.Gates.{Share, mask, known, product-deal, product-word1, product-word2}
-use Rattle.shares.specs.Gates.{refresh-word1, refresh-word2}
-use Rattle.gates.specs.declared.Part.{Part}
-use Rattle.gates.specs.declared.Dealt.{Dealt}
-use Rattle.gates.specs.declared.Gate.{Gate}
-use Rattle.gates.specs.declared.Gate.the-variants.{Add, Sub, Xor, Mul, And, Refresh, Scale, Plus, Up, Bit}
-use Rattle.gates.specs.declared.Gate.the-variants.{Const, Public, Deal, DealBits}
+use Rattle.shares.specs.Gates.{Share, mask, known, product-deal, product-word1, product-word2, refresh-word1}
+use Rattle.shares.specs.Gates.{refresh-word2}
+use Rattle.gates.specs.Gates.{Part, Dealt, Gate, Add, Sub, Xor, Mul, And, Refresh, Scale, Plus, Up, Bit, Const}
+use Rattle.gates.specs.Gates.{Public, Deal, DealBits}
 use Rattle.gates.specs.Steps.{Step, end, Cursor, origin, past}
 use Rattle.gates.specs.Meaning.{part, dealt-of, meaning}
 use Rattle.gates.specs.Hosts.{Triple, share, Slot, of0, dealt, joint1, joint2, act, Starts}

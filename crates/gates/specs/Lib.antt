@@ -1,5 +1,7 @@
+pub mod Gates
 pub mod Steps
 pub mod Meaning
+pub mod Codes
 pub mod Walk
 pub mod Hosts
 pub mod Speech

@@ -5,13 +5,8 @@ use lib.Bits.{bitXor}
 use Rattle.words.specs.Words.{add, sub, neg, mul, bit, shl, shr, numbers, bits}
 use Rattle.words.specs.Signed.{shr-signed}
 use Rattle.shares.specs.Gates as Shares
-use Rattle.gates.specs.declared.Part.{Part}
-use Rattle.gates.specs.declared.Part.the-variants.{Field, Signed}
-use Rattle.gates.specs.declared.Dealt.{Dealt}
-use Rattle.gates.specs.declared.Dealt.the-variants.{OfSum, OfNegated, OfBits}
-use Rattle.gates.specs.declared.Gate.{Gate}
-use Rattle.gates.specs.declared.Gate.the-variants.{Add, Sub, Xor, Mul, And, Refresh, Scale, Plus, Up}
-use Rattle.gates.specs.declared.Gate.the-variants.{Bit, Const, Public, Deal, DealBits}
+use Rattle.gates.specs.Gates.{Part, Field, Signed, Dealt, OfSum, OfNegated, OfBits, Gate, Add, Sub, Xor, Mul}
+use Rattle.gates.specs.Gates.{And, Refresh, Scale, Plus, Up, Bit, Const, Public, Deal, DealBits}
 use Rattle.gates.specs.Steps.{Lane, at, product, refresh, Step, local, deal, exchange, end}
 
 -- floor(x / 2^k) mod 2^j, or floor(signed(x) / 2^k)

@@ -32,7 +32,8 @@ met (deal d f) u v = 0
 met (exchange d e) u v = meet e u v
 met end u v = 0
 
--- the shape of a step that is a gate's, with the target where a walk needs it
+-- the shape of a step, with the target where a walk needs it; the end of an order, where a host does nothing, counts
+-- as local
 unfoldable pub shape : Step → Shape
 shape (local d m l) = Local
 shape (deal d f) = Dealing d

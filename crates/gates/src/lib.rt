@@ -2,47 +2,63 @@
 // crates `gate_shape`, `gate_local`, `gate_deal`, `gate_speak`). A lane is a host's words of one kind, the masked
 // values m or one of the masks: slots 0 to 15 are the registers, 16 to 23 the temporaries (document 01's kept words).
 
-// A part of a word.
-pub enum Part {
-    // floor(x / 2^k) mod 2^j, x unsigned
-    Field { k: u32, j: u32 },
-    // floor(x / 2^k), x signed
-    Signed { k: u32 },
+// A gate as numbers: its operation, the target slot d, the source slots a and b, and a constant n. A part of a word
+// has its first bit in n and its number of bits in b. The definitions read it as a gate (`read`).
+pub struct GateCode {
+    pub op: u32,
+    pub d: u32,
+    pub a: u32,
+    pub b: u32,
+    pub n: u32,
 }
 
-// What host 0 deals of a value's masks: a part of L = L1 + L2, a part of -L, or the mask L1 xor L2 of a bit share.
-pub enum Dealt {
-    OfSum { part: Part },
-    OfNegated { part: Part },
-    OfBits,
-}
+// The operations that each host does on its lanes alone, from here to the deals.
+pub const ADD: u32 = 0;
 
-// d is the target slot, a and b are source slots.
-pub enum Gate {
-    Add { d: u32, a: u32, b: u32 },
-    Sub { d: u32, a: u32, b: u32 },
-    Xor { d: u32, a: u32, b: u32 },
-    // the product of two numbers
-    Mul { d: u32, a: u32, b: u32 },
-    // the product of two bit words
-    And { d: u32, a: u32, b: u32 },
-    Refresh { d: u32, a: u32 },
-    // times a constant
-    Scale { d: u32, a: u32, n: u32 },
-    // plus a constant, which enters m alone
-    Plus { d: u32, a: u32, n: u32 },
-    // bits shifted up
-    Up { d: u32, a: u32, n: u32 },
-    // one bit
-    Bit { d: u32, a: u32, n: u32 },
-    Const { d: u32, n: u32 },
-    // a known value of hosts 1 and 2: a part of a's m
-    Public { d: u32, a: u32, part: Part },
-    // a number of a's masks, dealt by host 0
-    Deal { d: u32, a: u32, dealt: Dealt },
-    // the bits of -L, dealt by host 0
-    DealBits { d: u32, a: u32 },
-}
+pub const SUB: u32 = 1;
+
+pub const XOR: u32 = 2;
+
+// times a constant
+pub const SCALE: u32 = 3;
+
+// plus a constant, which enters m alone
+pub const PLUS: u32 = 4;
+
+// bits shifted up
+pub const UP: u32 = 5;
+
+// one bit
+pub const BIT: u32 = 6;
+
+pub const CONST: u32 = 7;
+
+// A known value of hosts 1 and 2: bits of a's m, or floor(m / 2^n) of the signed m.
+pub const PUBLIC: u32 = 8;
+
+pub const PUBLIC_SIGNED: u32 = 9;
+
+// The deals of host 0, from here to the exchanges: bits of L, the sum of a's masks, bits of -L, floor(-L / 2^n) of the
+// signed -L, the mask L1 xor L2 of a bit share, and -L as a bit share.
+pub const DEAL_SUM: u32 = 10;
+
+pub const DEAL_NEGATED: u32 = 11;
+
+pub const DEAL_SIGNED: u32 = 12;
+
+pub const DEAL_XOR: u32 = 13;
+
+pub const DEAL_BITS: u32 = 14;
+
+// The exchanges: the product of two numbers, of two bit words, and the refresh.
+pub const MUL: u32 = 15;
+
+pub const AND: u32 = 16;
+
+pub const REFRESH: u32 = 17;
+
+// No gate: past the last one of a program.
+pub const PAST: u32 = 18;
 
 // What a walk does at a gate: writes a slot on each lane alone, takes a deal, or exchanges words.
 pub enum Shape {

@@ -4,9 +4,9 @@ ghost use Rattle.gates.specs.Costs.{cost-of};
 ghost use Rattle.jobs.specs.Job.{ill-sized};
 ghost use Rattle.jobs.specs.Counts.{counted};
 ghost use Rattle.jobs.specs.Answers.{verdict, surveyed, numbered, check-job, counts-before};
-use crate::cost::none;
-use crate::cost::order_counts;
-use crate::cost::plus;
+use crate::cost::counts_of;
+use crate::cost::curve_tallies;
+use crate::cost::order_tally;
 use crate::cost::rows_of;
 use job_order::order_at;
 use job_order::order_fault;
@@ -35,8 +35,8 @@ fn turned_down(number: u32, index: u32) -> Findings
     Findings {
         number,
         index,
-        whole: none(),
-        before: none(),
+        whole: counts_of(0),
+        before: counts_of(0),
     }
 }
 
@@ -51,10 +51,10 @@ pub fn survey(job: &[u32], table: &[u32], place: usize) -> Findings
         return turned_down(2, 0);
     }
     let ruled = tables::keeps_rules(table);
-    let rows = rows_of(table, ruled);
+    let curve = curve_tallies(rows_of(table, ruled));
     let n = job.len() / 4;
-    let mut whole = none();
-    let mut before = none();
+    let mut whole = 0;
+    let mut before = 0;
     let mut i = 0;
     while i < n {
         let order = order_at(job, i);
@@ -62,7 +62,7 @@ pub fn survey(job: &[u32], table: &[u32], place: usize) -> Findings
         if fault != 0 {
             return turned_down(fault, i as u32);
         }
-        whole = plus(whole, order_counts(order, rows));
+        whole += order_tally(order, curve);
         if i < place {
             before = whole;
         }
@@ -71,8 +71,8 @@ pub fn survey(job: &[u32], table: &[u32], place: usize) -> Findings
     Findings {
         number: 0,
         index: 0,
-        whole,
-        before,
+        whole: counts_of(whole),
+        before: counts_of(before),
     }
 }
 

@@ -21,6 +21,15 @@ pub fn order_at(job: &[u32], i: usize) -> Order
         };
     }
     let first = i * 4;
+    // One test for the four words; a job that is cut short is read word by word.
+    if first + 3 < job.len() {
+        return Order {
+            kind: job[first],
+            target: job[first + 1],
+            source: job[first + 2],
+            fourth: job[first + 3],
+        };
+    }
     let kind = word_at(job, first);
     let target = word_at(job, first + 1);
     let source = word_at(job, first + 2);

@@ -6,13 +6,12 @@ use Prim.Native.Nat.{ℕ, zero, suc, _+_, _*_, _/_, _≤_, _<_}
 use native.Mathlib.Omega.{arith}
 use lib.ListN.{length, getD, take, drop, length-map, drop-of-length-le}
 use Rattle.tables.specs.Table.{rows}
-use Rattle.gates.specs.declared.Gate.{Gate}
+use Rattle.gates.specs.Gates.{Gate}
 use Rattle.gates.specs.Meaning.{job-steps}
 use Rattle.gates.specs.Costs.{cost}
 use Rattle.programs.specs.declared.Order.{Order}
 use Rattle.programs.specs.Orders.{program}
 use Rattle.jobs.specs.Job.{orders, job-gates, steps-of, job-cost, order-at}
-use Rattle.jobs.proofs.Conditions as Conditions
 
 -- ---- orders by index
 

@@ -10,9 +10,7 @@ use Rattle.words.proofs.Integers.{le-or-lt}
 use Rattle.tables.specs.Table.{rows}
 use Rattle.gates.specs.Costs.{Cost, cost-of, plus}
 use Rattle.gates.proofs.Needs.{cost-path}
-use Rattle.jobs.specs.declared.Counts.{Counts}
 use Rattle.jobs.specs.Job.{orders, job-cost}
-use Rattle.jobs.specs.Counts.{counted}
 use Rattle.jobs.specs.CostTable.{table-counts}
 use Rattle.jobs.proofs.Sums.{Tabled}
 use Rattle.jobs.proofs.Turns.{Going}
@@ -43,44 +41,44 @@ cancel x y r e =
 -- ---- on the way
 
 -- the counts kept: those so far while the place lies ahead, and those before the place from then on
-pub record Marked (w : ℕ) (job table : List ℕ) (place i : ℕ) (before : Counts) : Type 0 where
-  pub ahead : i ≤ place → counted before ≡ job-cost w (take (i * 4) job) table
-  pub behind : place ≤ i → counted before ≡ job-cost w (take (place * 4) job) table
+pub record Marked (w : ℕ) (job table : List ℕ) (place i : ℕ) (before : Cost) : Type 0 where
+  pub ahead : i ≤ place → before ≡ job-cost w (take (i * 4) job) table
+  pub behind : place ≤ i → before ≡ job-cost w (take (place * 4) job) table
 
 module _ (w : ℕ) (job table : List ℕ) where
-  so-far : Tabled w → {i : ℕ} {sum : Counts} → Going w job table i sum → i * 4 ≤ length job
-      → counted sum ≡ job-cost w (take (i * 4) job) table
+  so-far : Tabled w → {i : ℕ} {sum : Cost} → Going w job table i sum → i * 4 ≤ length job
+      → sum ≡ job-cost w (take (i * 4) job) table
   so-far tabled {i} {sum} g h =
       let n = length (rows table) in
-      cancel (counted sum) (table-counts n (orders (take (i * 4) job))) (table-counts n (orders (drop (i * 4) job)))
+      cancel sum (table-counts n (orders (take (i * 4) job))) (table-counts n (orders (drop (i * 4) job)))
       (g .costs ∙ tabled job table ∙ sym (split n job i h))
       ∙ sym (tabled (take (i * 4) job) table)
 
-  none-yet : Tabled w → {sum : Counts} → counted sum ≡ cost-of 0 0 0 0 → counted sum ≡ job-cost w (take 0 job) table
+  none-yet : Tabled w → {sum : Cost} → sum ≡ cost-of 0 0 0 0 → sum ≡ job-cost w (take 0 job) table
   unfolding orders table-counts
   none-yet tabled e = e ∙ sym (tabled [] table)
 
   module _ (place : ℕ) where
-    pub unmarked : Tabled w → (before : Counts) → counted before ≡ cost-of 0 0 0 0 → Marked w job table place 0 before
+    pub unmarked : Tabled w → (before : Cost) → before ≡ cost-of 0 0 0 0 → Marked w job table place 0 before
     unmarked tabled before e = record {
       ahead = λ h. none-yet tabled e;
       behind = λ h. let z : place ≡ 0 = omega arith in rw z (none-yet tabled e);
     }
 
-    module _ {i : ℕ} {before : Counts} (m : Marked w job table place i before) where
-      pub next-mark : Tabled w → {s b : Counts} → Going w job table (i + 1) s → (i + 1) * 4 ≤ length job
+    module _ {i : ℕ} {before : Cost} (m : Marked w job table place i before) where
+      pub next-mark : Tabled w → {s b : Cost} → Going w job table (i + 1) s → (i + 1) * 4 ≤ length job
           → ((i < place) × (b ≡ s)) ⊎ ((place ≤ i) × (b ≡ before)) → Marked w job table place (i + 1) b
       next-mark tabled g h (inl (l, e)) =
-          let n = ap counted e ∙ so-far tabled g h in record {
+          let n = e ∙ so-far tabled g h in record {
             ahead = λ k. n;
             behind = λ k. let z : place ≡ i + 1 = omega arith in rw z n;
           }
       next-mark tabled g h (inr (l, e)) = record {
         ahead = λ k. absurd (omega arith);
-        behind = λ k. ap counted e ∙ m .behind l;
+        behind = λ k. e ∙ m .behind l;
       }
 
-      pub all-marked : length job ≤ i * 4 → counted before ≡ job-cost w (take (place * 4) job) table
+      pub all-marked : length job ≤ i * 4 → before ≡ job-cost w (take (place * 4) job) table
       all-marked h =
           ⊎-elim (λ (k : place ≤ i). m .behind k)
           (λ (k : i < place). m .ahead (omega arith)

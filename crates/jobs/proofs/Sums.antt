@@ -136,15 +136,19 @@ few k c n h =
 
 -- ---- the rows of a table that keeps its rules
 
+-- as they are counted: none without one
+abbrev pub row-count : Bool → (table : List ℕ) → ℕ
+row-count ruled table = cond ruled (length (rows table)) 0
+
 module _ (table : List ℕ) (ruled : Bool) (e : ruled ≡ keeps-rules table) where
   pub rows-counted : ruled ≡ true → (length (rows table) ≤ 16) × (length table / 2 ≡ length (rows table))
   rows-counted t =
       let r = rules table .0 (subst T (sym t ∙ e) tt) in
       (r .at-most, omega (arith, r .whole-rows))
 
-  pub rows-few : cond ruled (length (rows table)) 0 ≤ 16
+  pub rows-few : row-count ruled table ≤ 16
   rows-few = go ruled refl
     where
-      go : (b : Bool) → ruled ≡ b → cond b (length (rows table)) 0 ≤ 16
+      go : (b : Bool) → ruled ≡ b → row-count b table ≤ 16
       go true t = rows-counted t .0
       go false t = omega arith

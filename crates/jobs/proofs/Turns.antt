@@ -1,6 +1,6 @@
 -- `survey`'s walk over the orders of a job, on plain values: what holds at its head, a turn, and its ends. Assumes nothing.
 use mathlib.Core.Path.{_≡_, refl, sym, ap, _∙_}
-use mathlib.Core.Bool.{Bool, true, false, cond}
+use mathlib.Core.Bool.{Bool, true, false}
 use mathlib.Core.List.{List, _∷_}
 use Prim.Native.Nat.{ℕ, zero, suc, _+_, _*_, _/_, _%_, _≤_}
 use native.Mathlib.Numerals.{add-one}
@@ -12,13 +12,11 @@ use Rattle.tables.specs.Table.{rows, keeps-rules}
 use Rattle.gates.specs.Costs.{Cost, cost-of, plus}
 use Rattle.gates.proofs.Needs.{cost-path}
 use Rattle.programs.specs.declared.Order.{Order}
-use Rattle.jobs.specs.declared.Counts.{Counts}
 use Rattle.jobs.specs.Job.{Fault, orders, ill-sized, order-fault, fault-at, orders-fault, job-fault, job-cost, order-at}
-use Rattle.jobs.specs.Counts.{counted, Small}
 use Rattle.jobs.specs.CostTable.{table-counts, kind-cost}
 use Rattle.jobs.specs.Answers.{Verdict, refusal, judged, check-job, numbered, counts-before}
 use Rattle.jobs.proofs.Orders.{orders-from, no-more}
-use Rattle.jobs.proofs.Sums.{Tabled, rows-right, Below, few, rows-few}
+use Rattle.jobs.proofs.Sums.{Tabled, rows-right, Below, few, row-count, rows-few}
 use Rattle.jobs.proofs.Conditions.{sized}
 
 -- ---- from a fault to the answer
@@ -92,35 +90,25 @@ stop (suc n) i later h = refl
 
 -- ---- the walk
 
--- what stays the same on the way: the job is sized, and n counts the rows of a table that keeps its rules
-pub record Given (job table : List ℕ) (ruled : Bool) (n : ℕ) : Type 0 where
+-- what stays the same on the way: the job is sized, and the table's rules are judged
+pub record Given (job table : List ℕ) (ruled : Bool) : Type 0 where
   pub size : ill-sized job ≡ false
   pub most : length job ≤ 256
   pub fours : length job % 4 ≡ 0
   pub rule : ruled ≡ keeps-rules table
-  pub row-count : n ≡ cond ruled (length (rows table)) 0
-  pub at-most : n ≤ 16
 
-pub given : (job table : List ℕ) {ruled : Bool} {n : ℕ} → ill-sized job ≡ false → ruled ≡ keeps-rules table
-    → n ≡ cond ruled (length (rows table)) 0 → Given job table ruled n
-given job table {ruled} e r en = record {
-  size = e;
-  most = sized job e .0;
-  fours = sized job e .1;
-  rule = r;
-  row-count = en;
-  at-most = rw en (rows-few table ruled r);
-}
+pub given : (job table : List ℕ) {ruled : Bool} → ill-sized job ≡ false → ruled ≡ keeps-rules table → Given job table ruled
+given job table e r = record { size = e; most = sized job e .0; fours = sized job e .1; rule = r }
 
 -- at the head, with i orders behind it: the faults still to be found are the job's, and the counts so far, with those of the orders to
 -- come, are the job's
-pub record Going (w : ℕ) (job table : List ℕ) (i : ℕ) (sum : Counts) : Type 0 where
+pub record Going (w : ℕ) (job table : List ℕ) (i : ℕ) (sum : Cost) : Type 0 where
   pub faults : orders-fault w (keeps-rules table) (orders (drop (i * 4) job)) i ≡ orders-fault w (keeps-rules table) (orders job) 0
-  pub costs : plus (counted sum) (table-counts (length (rows table)) (orders (drop (i * 4) job))) ≡ job-cost w job table
-  pub below : Below (counted sum) i
+  pub costs : plus sum (table-counts (length (rows table)) (orders (drop (i * 4) job))) ≡ job-cost w job table
+  pub below : Below sum i
 
 module _ (w : ℕ) (job table : List ℕ) where
-  pub starts : Tabled w → (sum : Counts) → counted sum ≡ cost-of 0 0 0 0 → Going w job table 0 sum
+  pub starts : Tabled w → (sum : Cost) → sum ≡ cost-of 0 0 0 0 → Going w job table 0 sum
   unfolding plus
   starts tabled sum e = record {
     faults = refl;
@@ -128,8 +116,8 @@ module _ (w : ℕ) (job table : List ℕ) where
     below = rw e (omega arith);
   }
 
-  module _ {i : ℕ} {sum : Counts} (g : Going w job table i sum) {ruled : Bool} {n : ℕ} (t : Given job table ruled n) where
-    pub done : length job / 4 ≤ i → (job-fault w job table ≡ (0, 0)) × (job-cost w job table ≡ counted sum)
+  module _ {i : ℕ} {sum : Cost} (g : Going w job table i sum) {ruled : Bool} (t : Given job table ruled) where
+    pub done : length job / 4 ≤ i → (job-fault w job table ≡ (0, 0)) × (job-cost w job table ≡ sum)
     unfolding orders-fault plus table-counts
     done h =
         let left = no-more job i h in
@@ -148,29 +136,27 @@ module _ (w : ℕ) (job table : List ℕ) where
       pub faulty : (f ≡ 0 → ⊥) → job-fault w job table ≡ (f, i)
       faulty ne = sized-fault w job table (t .size) ∙ sym (g .faults) ∙ fault-here ∙ stop f i _ ne
 
-      module _ (e : f ≡ 0) {k : Counts} (ek : counted k ≡ kind-cost (o .kind) (o .fourth) n) where
-        cost-here : counted k ≡ kind-cost (o .kind) (o .fourth) (length (rows table))
-        cost-here =
-            ek ∙ ap (kind-cost (o .kind) (o .fourth)) (t .row-count)
-            ∙ rows-right w ruled (length (rows table)) o (sym ef ∙ e)
+      module _ (e : f ≡ 0) {k : Cost} (ek : k ≡ kind-cost (o .kind) (o .fourth) (row-count ruled table)) where
+        cost-here : k ≡ kind-cost (o .kind) (o .fourth) (length (rows table))
+        cost-here = ek ∙ rows-right w ruled (length (rows table)) o (sym ef ∙ e)
 
-        one : Below (counted k) 1
-        one = rw ek (few (o .kind) (o .fourth) n (t .at-most))
+        one : Below k 1
+        one = rw ek (few (o .kind) (o .fourth) (row-count ruled table) (rows-few table ruled (t .rule)))
 
-        pub small : Small sum × Small k
-        small = let b = g .below in let d = one in let m = t .most in omega arith
+        pub few-so-far : Below sum 63 × Below k 1
+        few-so-far = let b = g .below in let d = one in let m = t .most in omega arith
 
         abbrev rest : Cost
         rest = table-counts (length (rows table)) (orders (drop ((i + 1) * 4) job))
 
-        total : plus (counted sum) (plus (counted k) rest) ≡ job-cost w job table
+        total : plus sum (plus k rest) ≡ job-cost w job table
         unfolding table-counts
         total =
             let e : o ∷ orders (drop ((i + 1) * 4) job) ≡ orders (drop (i * 4) job) = rw eo (sym (orders-from job i h)) in
-            ap (plus (counted sum)) (ap (λ (x : Cost). plus x rest) cost-here ∙ ap (table-counts (length (rows table))) e)
+            ap (plus sum) (ap (λ (x : Cost). plus x rest) cost-here ∙ ap (table-counts (length (rows table))) e)
             ∙ g .costs
 
-        pub turn : {s : Counts} → counted s ≡ plus (counted sum) (counted k) → Going w job table (i + 1) s
+        pub turn : {s : Cost} → s ≡ plus sum k → Going w job table (i + 1) s
         unfolding plus
         turn es = record {
           faults =

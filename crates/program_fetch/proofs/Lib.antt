@@ -1,3 +1,9 @@
-pub mod Packing
+pub mod Fetched
+pub mod Powers
+pub mod OneGate
+pub mod Rounds
 pub mod Indices
-pub mod ByKind
+pub mod Cuts
+pub mod Cases
+pub mod Stands
+pub mod PieceSteps

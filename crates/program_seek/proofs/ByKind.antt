@@ -3,7 +3,7 @@ use mathlib.Core.Path.{_≡_, refl}
 use mathlib.Core.List.{List, [], _∷_}
 use Prim.Native.Nat.{ℕ, zero, suc}
 use lib.ListN.{getD}
-use Rattle.gates.specs.declared.Gate.the-variants.{Mul, Refresh}
+use Rattle.gates.specs.Gates.{Mul, Refresh}
 use Rattle.gates.specs.Meaning.{meaning}
 use Rattle.gates.specs.Speech.{shape}
 use Rattle.tables.specs.Table.{Row}

@@ -1,3 +1,4 @@
 pub mod Places
 pub mod ByKind
 pub mod Placing
+pub mod Products

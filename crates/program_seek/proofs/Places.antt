@@ -1,16 +1,13 @@
 -- The place of a program's n-th exchange, in one program after another, and in the curve's. Assumes nothing.
-use mathlib.Core.Path.{_≡_, refl, sym, ap, ap₂, _∙_}
-use mathlib.Core.List.{List, [], _∷_, _++_, map, append-assoc}
+use mathlib.Core.Path.{_≡_, refl, sym, ap, _∙_}
+use mathlib.Core.List.{List, [], _∷_, _++_, append-assoc}
 use Prim.Native.Nat.{ℕ, zero, suc, _+_, _-_, _*_, _/_, _%_, _≤_, _<_}
-use native.Mathlib.Nat.{add-zero, zero-add, mod-lt, mul-comm, suc-mul, div-add-mod', le-div-iff-mul-le}
+use native.Mathlib.Nat.{zero-add, mod-lt, mul-comm, suc-mul, div-add-mod', le-div-iff-mul-le}
 use native.Mathlib.Numerals.{add-one, one-add}
 use native.Mathlib.Omega.{arith}
 use lib.IntN.{ℤ, pos}
-use lib.ListN.{length, getD, List·getD-append}
-use lib.Seq.{getD-append-add}
-use Rattle.truncations.specs.Adder.{doubled, distances, updates}
-use Rattle.gates.specs.declared.Gate.{Gate}
-use Rattle.gates.specs.declared.Gate.the-variants.{Add, Refresh, Scale}
+use lib.ListN.{length}
+use Rattle.gates.specs.Gates.{Gate, Add, Refresh, Scale}
 use Rattle.gates.specs.Steps.{product, refresh, Step, local, deal, exchange, end}
 use Rattle.gates.specs.Meaning.{meaning, order-steps}
 use Rattle.gates.specs.Speech.{shape}
@@ -18,113 +15,72 @@ use Rattle.gates.specs.Costs.{Cost, plus, step-cost, cost}
 use Rattle.tables.specs.Table.{Row, rows}
 use Rattle.curves.specs.Curve.{slope-after, coefficient}
 use Rattle.programs.specs.declared.Sought.{Sought}
-use Rattle.programs.specs.declared.Sought.the-variants.{Found, Nowhere}
-use Rattle.programs.specs.Programs.{y-slot, acc-slot, res-slot, update-gates, rounds, adder, to-number, relu-program}
-use Rattle.programs.specs.Programs.{one-bit-program, exact-program, row-program, rows-program, sum-program}
+use Rattle.programs.specs.Programs.{y-slot, acc-slot, res-slot, relu-program, one-bit-program, exact-program}
+use Rattle.programs.specs.Programs.{row-program, rows-program, sum-program}
 use Rattle.programs.specs.Orders.{curve-program}
 use Rattle.programs.specs.Costs.{program-cost}
-use Rattle.programs.specs.Sizes.{Size, row-gates, row-deals, row-words-a, row-exchanges}
+use Rattle.programs.specs.Sizes.{Size, size-of, row-size, row-gates, row-deals, row-words-a, row-exchanges}
 use Rattle.programs.specs.Seek.{sought-at, sought}
-use Rattle.program_seek.specs.Packed.{moved, place-of}
 use Rattle.programs.proofs.CurveGates.{rows-count, truncation, refreshed, curve-gates, sum-gates}
-use Rattle.programs.proofs.Sizes.{relu-sized, row-sized, row-cost, row-speaks}
-
--- ---- the exchanges of a program, from gate i on, before which so many words of A and deals are used
-
--- a step's own place, where it is an exchange
-unfoldable pub here : Step → Sought → List Sought → List Sought
-here (local d m l) p ps = ps
-here (deal d f) p ps = ps
-here (exchange d e) p ps = p ∷ ps
-here end p ps = ps
-
-unfoldable pub exchanges : (w : ℕ) → List Gate → (i a deals : ℕ) → List Sought
-exchanges w [] i a deals = []
-exchanges w (g ∷ gs) i a deals =
-    here (meaning w g) (Found i a deals)
-    (exchanges w gs (suc i) (step-cost (meaning w g) .a + a) (step-cost (meaning w g) .deals + deals))
-
--- ---- the n-th of them is what is sought
-
-module _ (go : ℕ → ℕ → ℕ → ℕ → Sought) (ex : ℕ → ℕ → ℕ → List Sought)
-    (h : (n i a deals : ℕ) → go n i a deals ≡ getD (ex i a deals) n Nowhere) where
-  sought-step : (y : Step) (n i a deals : ℕ)
-      → sought-at (shape y) n i a deals go
-      ≡ getD (here y (Found i a deals) (ex (suc i) (step-cost y .a + a) (step-cost y .deals + deals))) n Nowhere
-  unfolding sought-at shape here step-cost
-  sought-step (local d m l) n i a deals = rw (zero-add a, zero-add deals) (h n (suc i) a deals)
-  sought-step (deal d f) n i a deals = rw (one-add a, one-add deals) (h n (suc i) (suc a) (suc deals))
-  sought-step (exchange d (product O x y)) zero i a deals = refl
-  sought-step (exchange d (product O x y)) (suc n) i a deals = rw (one-add deals) (h n (suc i) (2 + a) (suc deals))
-  sought-step (exchange d (refresh O x)) zero i a deals = refl
-  sought-step (exchange d (refresh O x)) (suc n) i a deals = rw (one-add a, zero-add deals) (h n (suc i) (suc a) deals)
-  sought-step end n i a deals = rw (zero-add a, zero-add deals) (h n (suc i) a deals)
-
-pub sought-is : (w : ℕ) (gs : List Gate) (n i a deals : ℕ) → sought w gs n i a deals ≡ getD (exchanges w gs i a deals) n Nowhere
-unfolding sought exchanges
-sought-is w [] n i a deals = refl
-sought-is w (g ∷ gs) n i a deals = sought-step (sought w gs) (exchanges w gs) (sought-is w gs) (meaning w g) n i a deals
-
--- ---- they are as many as the words of B
-
-here-count : (y : Step) (p : Sought) (ps : List Sought) → length (here y p ps) ≡ step-cost y .b + length ps
-unfolding here step-cost
-here-count (local d m l) p ps = omega arith
-here-count (deal d f) p ps = omega arith
-here-count (exchange d (product O x y)) p ps = omega arith
-here-count (exchange d (refresh O x)) p ps = omega arith
-here-count end p ps = omega arith
-
-exchanges-count : (w : ℕ) (gs : List Gate) (i a deals : ℕ) → length (exchanges w gs i a deals) ≡ program-cost w gs .b
-unfolding exchanges program-cost order-steps cost step-cost plus
-exchanges-count w [] i a deals = refl
-exchanges-count w (g ∷ gs) i a deals =
-    here-count (meaning w g) _ _ ∙ ap (λ (n : ℕ). step-cost (meaning w g) .b + n) (exchanges-count w gs _ _ _)
+use Rattle.programs.proofs.Sizes.{relu-sized, row-sized, row-number, row-speaks}
 
 -- ---- one program after another
 
-here-append : (y : Step) (p : Sought) (ps qs : List Sought) → here y p (ps ++ qs) ≡ here y p ps ++ qs
-unfolding here
-here-append (local d m l) p ps qs = refl
-here-append (deal d f) p ps qs = refl
-here-append (exchange d e) p ps qs = refl
-here-append end p ps qs = refl
+-- past a step, where what is behind it finds the same
+same-step : (b : ℕ) (go go′ : ℕ → ℕ → ℕ → ℕ → Sought) (h : (n i a deals : ℕ) → n < b → go n i a deals ≡ go′ n i a deals)
+    (y : Step) (n i a deals : ℕ) → n < step-cost y .b + b
+    → sought-at (shape y) n i a deals go ≡ sought-at (shape y) n i a deals go′
+unfolding sought-at shape step-cost
+same-step b go go′ h (local d m l) n i a deals q = h n (suc i) a deals (omega arith)
+same-step b go go′ h (deal d f) n i a deals q = h n (suc i) (suc a) (suc deals) (omega arith)
+same-step b go go′ h (exchange d (product O x y)) zero i a deals q = refl
+same-step b go go′ h (exchange d (product O x y)) (suc n) i a deals q = h n (suc i) (2 + a) (suc deals) (omega arith)
+same-step b go go′ h (exchange d (refresh O x)) zero i a deals q = refl
+same-step b go go′ h (exchange d (refresh O x)) (suc n) i a deals q = h n (suc i) (suc a) deals (omega arith)
+same-step b go go′ h end n i a deals q = h n (suc i) a deals (omega arith)
 
--- the exchanges of hs, behind those of gs
-abbrev behind : (w : ℕ) (gs hs : List Gate) (i a deals : ℕ) → List Sought
-behind w gs hs i a deals = exchanges w hs (length gs + i) (program-cost w gs .a + a) (program-cost w gs .deals + deals)
+-- an exchange of the first program
+pub sought-first : (w : ℕ) (gs hs : List Gate) (n i a deals : ℕ) → n < program-cost w gs .b
+    → sought w gs n i a deals ≡ sought w (gs ++ hs) n i a deals
+unfolding sought program-cost order-steps cost step-cost plus
+sought-first w [] hs n i a deals q = absurd (omega arith)
+sought-first w (g ∷ gs) hs n i a deals q =
+    same-step (program-cost w gs .b) (sought w gs) (sought w (gs ++ hs)) (sought-first w gs hs) (meaning w g) n i a deals q
 
-exchanges-after : (w : ℕ) (gs hs : List Gate) (i a deals : ℕ)
-    → exchanges w (gs ++ hs) i a deals ≡ exchanges w gs i a deals ++ behind w gs hs i a deals
-unfolding exchanges program-cost order-steps cost step-cost plus
-exchanges-after w [] hs i a deals = rw (zero-add i, zero-add a, zero-add deals)
-exchanges-after w (g ∷ gs) hs i a deals =
+-- past a step's own exchange, if it has one
+step-over : (go : ℕ → ℕ → ℕ → ℕ → Sought) (y : Step) (n i a deals : ℕ)
+    → go n (suc i) (step-cost y .a + a) (step-cost y .deals + deals) ≡ sought-at (shape y) (step-cost y .b + n) i a deals go
+unfolding sought-at shape step-cost
+step-over go (local d m l) n i a deals = rw (zero-add a, zero-add deals, zero-add n)
+step-over go (deal d f) n i a deals = rw (one-add a, one-add deals, zero-add n)
+step-over go (exchange d (product O x y)) n i a deals = rw (one-add deals, one-add n)
+step-over go (exchange d (refresh O x)) n i a deals = rw (one-add a, zero-add deals, one-add n)
+step-over go end n i a deals = rw (zero-add a, zero-add deals, zero-add n)
+
+-- an exchange of the second, with the counts of the first
+after-first : (w : ℕ) (gs hs : List Gate) (m i a deals : ℕ)
+    → sought w hs m (length gs + i) (program-cost w gs .a + a) (program-cost w gs .deals + deals)
+    ≡ sought w (gs ++ hs) (program-cost w gs .b + m) i a deals
+unfolding sought program-cost order-steps cost step-cost plus
+after-first w [] hs m i a deals = rw (zero-add i, zero-add a, zero-add deals, zero-add m)
+after-first w (g ∷ gs) hs m i a deals =
     let y : Step = meaning w g in
+    let k : Cost = program-cost w gs in
     let zi : suc (length gs) + i ≡ length gs + suc i = omega arith in
-    let za : step-cost y .a + program-cost w gs .a + a ≡ program-cost w gs .a + (step-cost y .a + a) = omega arith in
-    let zd : step-cost y .deals + program-cost w gs .deals + deals ≡ program-cost w gs .deals + (step-cost y .deals + deals) =
-    omega arith in
-    rw (zi, za, zd)
-    (ap (here y (Found i a deals)) (exchanges-after w gs hs (suc i) (step-cost y .a + a) (step-cost y .deals + deals))
-    ∙ here-append y _ _ _)
+    let za : step-cost y .a + k .a + a ≡ k .a + (step-cost y .a + a) = omega arith in
+    let zd : step-cost y .deals + k .deals + deals ≡ k .deals + (step-cost y .deals + deals) = omega arith in
+    let zn : step-cost y .b + k .b + m ≡ step-cost y .b + (k .b + m) = omega arith in
+    rw (zi, za, zd, zn)
+    (after-first w gs hs m (suc i) (step-cost y .a + a) (step-cost y .deals + deals)
+    ∙ step-over (sought w (gs ++ hs)) y (k .b + m) i a deals)
 
-module _ (w : ℕ) (gs hs : List Gate) (n i a deals : ℕ) where
-  -- an exchange of the first program
-  pub sought-first : n < program-cost w gs .b → sought w gs n i a deals ≡ sought w (gs ++ hs) n i a deals
-  sought-first h =
-      sought-is w gs n i a deals
-      ∙ sym (List·getD-append (exchanges w gs i a deals) (behind w gs hs i a deals) Nowhere n (rw (exchanges-count w gs i a deals) h))
-      ∙ ap (λ (l : List Sought). getD l n Nowhere) (sym (exchanges-after w gs hs i a deals)) ∙ sym (sought-is w (gs ++ hs) n i a deals)
-
-  -- an exchange of the second, with the counts of the first
-  pub sought-after : (m : ℕ) → n ≡ program-cost w gs .b + m
-      → sought w hs m (length gs + i) (program-cost w gs .a + a) (program-cost w gs .deals + deals) ≡ sought w (gs ++ hs) n i a deals
-  sought-after m e =
-      sought-is w hs m (length gs + i) (program-cost w gs .a + a) (program-cost w gs .deals + deals)
-      ∙ sym (getD-append-add (exchanges w gs i a deals) (behind w gs hs i a deals) m Nowhere)
-      ∙ ap₂ (λ (l : List Sought) (j : ℕ). getD l j Nowhere) (sym (exchanges-after w gs hs i a deals))
-      (ap (λ (k : ℕ). k + m) (exchanges-count w gs i a deals) ∙ sym e)
-      ∙ sym (sought-is w (gs ++ hs) n i a deals)
+-- .. of this size
+pub sought-after : (w : ℕ) (gs hs : List Gate) (z : Size) → size-of w gs ≡ z → (n m i a deals : ℕ) → n ≡ z .cost .b + m
+    → sought w hs m (z .gates + i) (z .cost .a + a) (z .cost .deals + deals) ≡ sought w (gs ++ hs) n i a deals
+sought-after w gs hs z e n m i a deals q =
+    ap (λ (z : Size). sought w hs m (z .gates + i) (z .cost .a + a) (z .cost .deals + deals)) (sym e)
+    ∙ after-first w gs hs m i a deals
+    ∙ ap (λ (n : ℕ). sought w (gs ++ hs) n i a deals) (ap (λ (z : Size). z .cost .b + m) e ∙ sym q)
 
 -- a refresh, which uses a word of A and no deal
 pub refresh-next : (w : ℕ) (gs : List Gate) (n i a deals : ℕ) → (n ≡ 0 → ⊥)
@@ -132,82 +88,6 @@ pub refresh-next : (w : ℕ) (gs : List Gate) (n i a deals : ℕ) → (n ≡ 0 �
 unfolding sought sought-at meaning shape
 refresh-next w gs zero i a deals f = absurd (f refl)
 refresh-next w gs (suc n) i a deals f = let e : suc n - 1 ≡ n = omega arith in rw (e, add-one i, add-one a)
-
--- ---- the same program further on
-
-here-moved : (f : Sought → Sought) (y : Step) (p : Sought) (ps : List Sought) → here y (f p) (map f ps) ≡ map f (here y p ps)
-unfolding here
-here-moved f (local d m l) p ps = refl
-here-moved f (deal d g) p ps = refl
-here-moved f (exchange d e) p ps = refl
-here-moved f end p ps = refl
-
--- by i′ gates, a′ words of A and d′ deals
-module _ (w i′ a′ d′ : ℕ) where
-  exchanges-moved : (gs : List Gate) (i a deals : ℕ)
-      → exchanges w gs (i′ + i) (a′ + a) (d′ + deals) ≡ map (moved i′ a′ d′) (exchanges w gs i a deals)
-  unfolding exchanges moved
-  exchanges-moved [] i a deals = refl
-  exchanges-moved (g ∷ gs) i a deals =
-      let y : Step = meaning w g in
-      let zi : suc (i′ + i) ≡ i′ + suc i = omega arith in
-      let za : step-cost y .a + (a′ + a) ≡ a′ + (step-cost y .a + a) = omega arith in
-      let zd : step-cost y .deals + (d′ + deals) ≡ d′ + (step-cost y .deals + deals) = omega arith in
-      rw (zi, za, zd)
-      (ap (here y (Found (i′ + i) (a′ + a) (d′ + deals))) (exchanges-moved gs (suc i) (step-cost y .a + a) (step-cost y .deals + deals))
-      ∙ here-moved (moved i′ a′ d′) y (Found i a deals) _)
-
--- ---- a program whose exchanges a table packs
-
-at-mapped : (f : Sought → Sought) (h : ℕ → Sought) (l : List ℕ) (n : ℕ) → n < length l
-    → getD (map f (map h l)) n Nowhere ≡ f (h (getD l n 0))
-at-mapped f h [] n l = absurd (omega arith)
-at-mapped f h (x ∷ xs) zero l = refl
-at-mapped f h (x ∷ xs) (suc n) l = at-mapped f h xs n (omega arith)
-
-past-mapped : (f : Sought → Sought) (h : ℕ → Sought) (l : List ℕ) (n : ℕ) → length l ≤ n
-    → Nowhere ≡ getD (map f (map h l)) n Nowhere
-past-mapped f h [] n l = refl
-past-mapped f h (x ∷ xs) zero l = absurd (omega arith)
-past-mapped f h (x ∷ xs) (suc n) l = past-mapped f h xs n (omega arith)
-
-module _ (w : ℕ) (table : List ℕ) (gs : List Gate) (same : map place-of table ≡ exchanges w gs 0 0 0) (n i a deals : ℕ) where
-  moved-places : map (moved i a deals) (map place-of table) ≡ exchanges w gs i a deals
-  moved-places =
-      ap (map (moved i a deals)) same ∙ sym (exchanges-moved w i a deals gs 0 0 0)
-      ∙ rw (add-zero i, add-zero a, add-zero deals)
-
-  nth-place : getD (map (moved i a deals) (map place-of table)) n Nowhere ≡ sought w gs n i a deals
-  nth-place = ap (λ (l : List Sought). getD l n Nowhere) moved-places ∙ sym (sought-is w gs n i a deals)
-
-  pub place-at : n < length table → moved i a deals (place-of (getD table n 0)) ≡ sought w gs n i a deals
-  place-at h = sym (at-mapped (moved i a deals) place-of table n h) ∙ nth-place
-
-  pub place-past : length table ≤ n → Nowhere ≡ sought w gs n i a deals
-  place-past h = past-mapped (moved i a deals) place-of table n h ∙ nth-place
-
-abbrev pub relu-place-table : List ℕ
-relu-place-table =
-    20101 ∷ 60302 ∷ 90503 ∷ 110704 ∷ 140905 ∷ 161106 ∷ 191307 ∷ 211508 ∷ 241709 ∷ 261910 ∷ 322212 ∷ 382413 ∷ []
-
-pub relu-places : (x d : ℕ) → map place-of relu-place-table ≡ exchanges 32 (relu-program 32 x d) 0 0 0
-unfolding place-of exchanges here step-cost meaning relu-program adder rounds update-gates updates distances doubled to-number
-relu-places x d = refl
-
-abbrev pub exact-place-table : List ℕ
-exact-place-table =
-    60202 ∷ 100403 ∷ 130604 ∷ 150805 ∷ 181006 ∷ 201207 ∷ 231408 ∷ 251609 ∷ 281810 ∷ 302011 ∷ 352313 ∷ 432615 ∷ []
-
-pub exact-places : (k x d : ℕ) → map place-of exact-place-table ≡ exchanges 32 (exact-program 32 k x d) 0 0 0
-unfolding place-of exchanges here step-cost meaning exact-program adder rounds update-gates updates distances doubled to-number
-exact-places k x d = refl
-
-abbrev pub one-bit-place-table : List ℕ
-one-bit-place-table = 50202 ∷ []
-
-pub one-bit-places : (w k x d : ℕ) → map place-of one-bit-place-table ≡ exchanges w (one-bit-program w k x d) 0 0 0
-unfolding place-of exchanges here step-cost meaning one-bit-program
-one-bit-places w k x d = refl
 
 -- ---- the rows of a curve, from the slope s before the first of them
 
@@ -217,7 +97,7 @@ row-relu : (w x r c e i a deals : ℕ) → e < row-exchanges w
 unfolding row-program sought sought-at meaning shape
 row-relu w x r c e i a deals h =
     sought-first w (relu-program w y-slot res-slot) (Scale res-slot res-slot c ∷ Add acc-slot acc-slot res-slot ∷ []) e (suc i) a deals
-    (omega (arith, ap (λ (z : Size). z .cost .b) (relu-sized w y-slot res-slot), ap (λ (k : Cost). k .b) (row-cost w)))
+    (omega (arith, ap (λ (z : Size). z .cost .b) (relu-sized w y-slot res-slot), ap (λ (z : Size). z .cost .b) (row-number w)))
 
 -- one more row
 row-more : (j g i : ℕ) → suc j * g + i ≡ j * g + (g + i)
@@ -233,9 +113,7 @@ module _ (w x : ℕ) (hs : List Gate) where
       ≡ sought w ((row-program w x r c ++ T) ++ hs) n i a deals
   next-row r c T n m i a deals e =
       let R : List Gate = row-program w x r c in
-      rw (append-assoc R T hs)
-      (ap (λ (z : Size). sought w (T ++ hs) m (z .gates + i) (z .cost .a + a) (z .cost .deals + deals)) (sym (row-sized w x r c))
-      ∙ sought-after w R (T ++ hs) n i a deals m (e ∙ ap (λ (z : Size). z .cost .b + m) (sym (row-sized w x r c))))
+      rw (append-assoc R T hs) (sought-after w R (T ++ hs) (row-size w) (row-sized w x r c) n m i a deals e)
 
   rows-at : (ps : List Row) (s : ℤ) (j e n i a deals : ℕ) → j < length ps → e < row-exchanges w → n ≡ j * row-exchanges w + e
       → sought w (relu-program w y-slot res-slot) e (suc (j * row-gates w + i)) (j * row-words-a w + a) (j * row-deals w + deals)

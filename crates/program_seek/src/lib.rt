@@ -1,92 +1,116 @@
-// The place of an order's n-th product or refresh, in constant time.
-// A packed place is decimal, two digits each for the gate, and the words of A and the deals before it.
+// The place of an order's n-th product or refresh, in constant time: from the sizes of the blocks before it.
 ghost use mathlib.Core.Path.{_≡_};
-ghost use mathlib.Core.List.{[], _∷_};
-ghost use Prim.Native.Nat.{ℕ, _^_, _≤_, _<_};
-ghost use Rattle.gates.specs.declared.Gate.the-variants.{Mul, Refresh};
+ghost use mathlib.Core.List.{List, [], _∷_, _++_};
+ghost use Prim.Native.Nat.{ℕ, _+_, _^_, _≤_, _<_};
+ghost use Rattle.gates.specs.Gates.{Gate, Mul, Refresh};
 ghost use Rattle.tables.specs.Table.{rows};
-ghost use Rattle.programs.specs.Programs.{relu-program, one-bit-program, exact-program};
+ghost use Rattle.programs.specs.Programs.{adder, relu-program, one-bit-program, exact-program};
 ghost use Rattle.programs.specs.Orders.{curve-program, program};
+ghost use Rattle.programs.specs.declared.Sought.the-variants.{Found};
 ghost use Rattle.programs.specs.Seek.{sought, Seeks};
-ghost use Rattle.program_seek.specs.Packed.{moved, place-of};
-use programs::EXACT_EXCHANGES;
+use programs::ADDER_DEALS;
+use programs::ADDER_EXCHANGES;
+use programs::ADDER_GATES;
+use programs::ADDER_HEAD;
+use programs::ADDER_WORDS_A;
+use programs::EXACT_HEAD;
+use programs::NUMBER_DEALS;
+use programs::NUMBER_GATES;
+use programs::NUMBER_WORDS_A;
 use programs::Order;
+use programs::RELU_GATES;
+use programs::ROUND_GATES;
 use programs::ROW_DEALS;
 use programs::ROW_EXCHANGES;
 use programs::ROW_GATES;
 use programs::ROW_WORDS_A;
 use programs::Sought;
 
-const RELU_PLACES: [usize; 12] = [
-    02_01_01,
-    06_03_02,
-    09_05_03,
-    11_07_04,
-    14_09_05,
-    16_11_06,
-    19_13_07,
-    21_15_08,
-    24_17_09,
-    26_19_10,
-    32_22_12,
-    38_24_13,
-];
-
-const EXACT_PLACES: [usize; 12] = [
-    06_02_02,
-    10_04_03,
-    13_06_04,
-    15_08_05,
-    18_10_06,
-    20_12_07,
-    23_14_08,
-    25_16_09,
-    28_18_10,
-    30_20_11,
-    35_23_13,
-    43_26_15,
-];
-
-// A packed place in a program that starts at a gate, with the words of A and the deals before that.
-fn placed(packed: usize, gate: usize, a: usize, deals: usize) -> Sought
-    requires { ⌜ (gate ≤ 2 ^ 62) × (a ≤ 2 ^ 62) × (deals ≤ 2 ^ 62) ⌝ }
-    ensures { λ s. ⌜ s ≡ moved gate a deals (place-of packed) ⌝ }
+// The product of a block that starts with a deal and a known word: its gate 2.
+fn dealt_place(gate: usize, a: usize, deals: usize) -> Sought
+    requires { ⌜ (gate ≤ 2 ^ 63) × (a ≤ 2 ^ 63) × (deals ≤ 2 ^ 63) ⌝ }
+    ensures { λ s. ⌜ s ≡ Found (gate + 2) (a + 1) (deals + 1) ⌝ }
 {
     Sought::Found {
-        gate: gate + packed / 10000,
-        a: a + packed / 100 % 100,
-        deals: deals + packed % 100,
+        gate: gate + 2,
+        a: a + 1,
+        deals: deals + 1,
     }
 }
 
+// The adder's n-th product, whatever gates are behind it. After the first one, the even ones end a round each and the
+// odd ones stand three gates before.
+fn adder_place(n: usize, gate: usize, a: usize, deals: usize) -> Sought
+    requires { ⌜ (n < 10) × (gate ≤ 2 ^ 62) × (a ≤ 2 ^ 62) × (deals ≤ 2 ^ 62) ⌝ }
+    ensures { λ s. ⌜ ((x : ℕ) (gs : List Gate) → s ≡ sought 32 (adder 32 x ++ gs) n gate a deals) ⌝ }
+{
+    if n == 0 {
+        return dealt_place(gate, a, deals);
+    }
+    Sought::Found {
+        gate: gate + ADDER_HEAD - 1 + ROUND_GATES * n / 2,
+        a: a + 1 + 2 * n,
+        deals: deals + 1 + n,
+    }
+}
+
+// The adder, two gates, the sign bit made a number, and the product that ends the program.
 fn relu_place(n: usize, gate: usize, a: usize, deals: usize) -> Sought
     requires { ⌜ (gate ≤ 2 ^ 62) × (a ≤ 2 ^ 62) × (deals ≤ 2 ^ 62) ⌝ }
     ensures { λ s. ⌜ ((x d : ℕ) → s ≡ sought 32 (relu-program 32 x d) n gate a deals) ⌝ }
 {
-    if n < ROW_EXCHANGES {
-        placed(RELU_PLACES[n], gate, a, deals)
-    } else {
-        Sought::Nowhere
+    if n < ADDER_EXCHANGES {
+        return adder_place(n, gate, a, deals);
+    }
+    let a = a + ADDER_WORDS_A;
+    let deals = deals + ADDER_DEALS;
+    match n - ADDER_EXCHANGES {
+        0 => dealt_place(gate + ADDER_GATES + 2, a, deals),
+        1 => Sought::Found {
+            gate: gate + RELU_GATES - 1,
+            a: a + NUMBER_WORDS_A,
+            deals: deals + NUMBER_DEALS,
+        },
+        _ => Sought::Nowhere,
     }
 }
 
+// A head with a deal, the adder, a gate, a bit made a number, two gates, and another one.
 fn exact_place(n: usize, gate: usize, a: usize, deals: usize) -> Sought
-    requires { ⌜ (gate ≤ 2 ^ 62) × (a ≤ 2 ^ 62) × (deals ≤ 2 ^ 62) ⌝ }
+    requires { ⌜ (gate ≤ 2 ^ 61) × (a ≤ 2 ^ 61) × (deals ≤ 2 ^ 61) ⌝ }
     ensures { λ s. ⌜ ((k x d : ℕ) → s ≡ sought 32 (exact-program 32 k x d) n gate a deals) ⌝ }
 {
-    if n < EXACT_EXCHANGES {
-        placed(EXACT_PLACES[n], gate, a, deals)
-    } else {
-        Sought::Nowhere
+    let gate = gate + EXACT_HEAD;
+    let a = a + 1;
+    let deals = deals + 1;
+    if n < ADDER_EXCHANGES {
+        return adder_place(n, gate, a, deals);
+    }
+    let gate = gate + ADDER_GATES + 1;
+    let a = a + ADDER_WORDS_A;
+    let deals = deals + ADDER_DEALS;
+    match n - ADDER_EXCHANGES {
+        0 => dealt_place(gate, a, deals),
+        1 => dealt_place(
+            gate + NUMBER_GATES + 2,
+            a + NUMBER_WORDS_A,
+            deals + NUMBER_DEALS,
+        ),
+        _ => Sought::Nowhere,
     }
 }
 
+// The product follows both deals and what is known of the source.
 fn one_bit_place(n: usize, gate: usize, a: usize, deals: usize) -> Sought
     requires { ⌜ (gate ≤ 2 ^ 62) × (a ≤ 2 ^ 62) × (deals ≤ 2 ^ 62) ⌝ }
     ensures { λ s. ⌜ ((k x d : ℕ) → s ≡ sought 32 (one-bit-program 32 k x d) n gate a deals) ⌝ }
 {
     if n == 0 {
-        placed(05_02_02, gate, a, deals)
+        Sought::Found {
+            gate: gate + 5,
+            a: a + 2,
+            deals: deals + 2,
+        }
     } else {
         Sought::Nowhere
     }

@@ -15,9 +15,7 @@ use Rattle.words.proofs.Words.{mul-comm as times-comm, sub-is}
 use Rattle.truncations.proofs.Adder.{sign-bit}
 use Rattle.truncations.proofs.Truncation.{bit-number-xor}
 use Rattle.shares.specs.Gates.{Share, value}
-use Rattle.gates.specs.declared.Part.the-variants.{Field}
-use Rattle.gates.specs.declared.Gate.{Gate}
-use Rattle.gates.specs.declared.Gate.the-variants.{Sub, Xor, Mul, And, Bit, Const, Public, DealBits}
+use Rattle.gates.specs.Gates.{Field, Gate, Sub, Xor, Mul, And, Bit, Const, Public, DealBits}
 use Rattle.gates.specs.Steps.{at}
 use Rattle.gates.specs.Meaning.{part, dealt-of, meaning}
 use Rattle.gates.specs.Hosts.{share, act}

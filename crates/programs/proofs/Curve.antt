@@ -15,8 +15,7 @@ use Rattle.words.proofs.Words.{sub-is, sub-lt}
 use Rattle.words.proofs.Integers.{le-or-lt, sub-below}
 use Rattle.words.proofs.Signed.{signed-low, signed-high, top-bit}
 use Rattle.shares.specs.Gates.{value}
-use Rattle.gates.specs.declared.Gate.{Gate}
-use Rattle.gates.specs.declared.Gate.the-variants.{Add, Scale, Plus, Const}
+use Rattle.gates.specs.Gates.{Gate, Add, Scale, Plus, Const}
 use Rattle.gates.specs.Hosts.{share}
 use Rattle.tables.specs.Table.{Row}
 use Rattle.curves.specs.Curve.{relu, slope-after, coefficient, relu-word, word-sum, word-curve}

@@ -6,11 +6,9 @@ use native.Mathlib.Nat.{zero-mod}
 use native.Mathlib.Omega.{arith}
 use lib.IntN.{pos}
 use lib.ListN.{length}
-use Rattle.gates.specs.declared.Gate.{Gate}
-use Rattle.gates.specs.declared.Gate.the-variants.{Refresh, Const}
+use Rattle.gates.specs.Gates.{Gate, Refresh, Const}
 use Rattle.tables.specs.Table.{Row, rows, row-at}
-use Rattle.programs.specs.Programs.{acc-slot, one-bit-program, exact-program, rows-program, sum-program}
-use Rattle.programs.specs.Programs.{curve-exact, curve-one-bit}
+use Rattle.programs.specs.Programs.{acc-slot, one-bit-program, exact-program, rows-program, sum-program, curve-exact, curve-one-bit}
 use Rattle.programs.specs.Orders.{curve-program}
 
 -- a table's words are two to a row

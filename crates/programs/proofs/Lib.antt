@@ -8,4 +8,5 @@ pub mod Opens
 pub mod Readings
 pub mod Calibration
 pub mod CurveGates
+pub mod AdderParts
 pub mod Sizes

@@ -16,8 +16,7 @@ use Rattle.words.proofs.Solver.{exprs}
 use Rattle.words.proofs.Below.{number-carrier, solve-below}
 use Rattle.words.proofs.Words.{add-lt, sub-lt}
 use Rattle.truncations.proofs.Truncation.{exact-floor}
-use Rattle.gates.specs.declared.Gate.{Gate}
-use Rattle.gates.specs.declared.Gate.the-variants.{Add, Sub, Mul, Refresh, Scale, Plus}
+use Rattle.gates.specs.Gates.{Gate, Add, Sub, Mul, Refresh, Scale, Plus}
 use Rattle.gates.specs.Steps.{at, new-at}
 use Rattle.gates.specs.Meaning.{meaning}
 use Rattle.gates.specs.Hosts.{share, act}
@@ -28,8 +27,8 @@ use Rattle.programs.specs.Programs.{curve-one-bit}
 use Rattle.programs.specs.Orders.{curve-program, kinds}
 use Rattle.programs.specs.Opens.{curve-value, values}
 use Rattle.programs.proofs.Gates.{Fits}
-use Rattle.programs.proofs.Points.{not-temporary, Other, other, target, Point, after, afters, afters-append, num, m-of, l1-of, l2-of}
-use Rattle.programs.proofs.Points.{keep-share}
+use Rattle.programs.proofs.Points.{not-temporary, Other, other, target, Point, after, afters, afters-append, num, m-of, l1-of}
+use Rattle.programs.proofs.Points.{l2-of, keep-share}
 use Rattle.programs.proofs.Targets.{at-add, at-sub, at-mul, at-scale, at-plus, at-refresh}
 use Rattle.programs.proofs.Blocks.{relu-opens, relu-keeps}
 use Rattle.programs.proofs.Truncations.{mask-of, slack-opens, slack-keeps, one-bit-opens, one-bit-keeps, exact-opens, exact-keeps}

@@ -18,12 +18,8 @@ use Rattle.words.proofs.Words.{Word, number-words, bit-words, add-lt, neg-lt, m
 use Rattle.words.proofs.Signed.{wrap-lt}
 use Rattle.shares.specs.Gates as S
 use Rattle.shares.specs.Gates.{Share, value}
-use Rattle.gates.specs.declared.Part.{Part}
-use Rattle.gates.specs.declared.Part.the-variants.{Field, Signed}
-use Rattle.gates.specs.declared.Dealt.{Dealt}
-use Rattle.gates.specs.declared.Dealt.the-variants.{OfSum, OfNegated, OfBits}
-use Rattle.gates.specs.declared.Gate.{Gate}
-use Rattle.gates.specs.declared.Gate.the-variants.{Add, Sub, Xor, Mul, And, Refresh, Scale, Plus, Up, Bit, Const, Public, Deal, DealBits}
+use Rattle.gates.specs.Gates.{Part, Field, Signed, Dealt, OfSum, OfNegated, OfBits, Gate, Add, Sub, Xor, Mul, And, Refresh, Scale, Plus}
+use Rattle.gates.specs.Gates.{Up, Bit, Const, Public, Deal, DealBits}
 use Rattle.gates.specs.Steps.{Lane, at, say1, say2, meet, part2, new-at, Cursor, past}
 use Rattle.gates.specs.Meaning.{part, dealt-of, meaning}
 use Rattle.gates.specs.Hosts.{Triple, share, Slot, joint1, joint2, act}

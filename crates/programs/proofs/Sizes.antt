@@ -10,10 +10,7 @@ use lib.Dec.{T, eqb, leb, leb→le}
 use lib.IntN.{ℤ, pos}
 use lib.ListN.{length, getD, take, length-append, List·getD-map}
 use Rattle.truncations.specs.Adder.{doubled, distances, updates}
-use Rattle.gates.specs.declared.Part.the-variants.{Field}
-use Rattle.gates.specs.declared.Dealt.the-variants.{OfNegated}
-use Rattle.gates.specs.declared.Gate.{Gate}
-use Rattle.gates.specs.declared.Gate.the-variants.{Add, Sub, Xor, Mul, Refresh, Scale, Plus, Bit, Const, Public, Deal}
+use Rattle.gates.specs.Gates.{Gate, Add, Sub, Mul, Refresh, Scale, Plus, Const}
 use Rattle.gates.specs.Steps.{Step}
 use Rattle.gates.specs.Meaning.{meaning, order-steps}
 use Rattle.gates.specs.Costs.{Cost, cost-of, plus, step-cost, cost}
@@ -22,13 +19,13 @@ use Rattle.words.specs.Words.{neg}
 use Rattle.tables.specs.Table.{Row, row-at}
 use Rattle.curves.specs.Curve.{slope-after, coefficient}
 use Rattle.programs.specs.declared.Order.{Order}
-use Rattle.programs.specs.Programs.{update-gates, rounds, adder, to-number, relu-program, slack-program}
-use Rattle.programs.specs.Programs.{one-bit-program, exact-program, row-program, rows-program, sum-program}
-use Rattle.programs.specs.Programs.{n-slot, g-slot, t-slot, y-slot, acc-slot, res-slot}
+use Rattle.programs.specs.Programs.{update-gates, rounds, adder, to-number, relu-program, slack-program, one-bit-program}
+use Rattle.programs.specs.Programs.{exact-program, row-program, rows-program, sum-program, y-slot, acc-slot, res-slot}
 use Rattle.programs.specs.Orders.{curve-program, kinds, program}
 use Rattle.programs.specs.Costs.{program-cost}
 use Rattle.programs.specs.Sizes.{Size, size, size-of, slack-size, one-bit-size, exact-size, relu-size, row-size}
-use Rattle.programs.specs.Sizes.{row-gates, row-exchanges, plus-size, times-cost, times-size, end-size, curve-size, kind-sizes}
+use Rattle.programs.specs.Sizes.{row-exchanges, plus-size, times-cost, times-size, end-size, curve-size, kind-sizes}
+use Rattle.programs.proofs.AdderParts.{relu-rest, relu-parts, exact-head, exact-rest, exact-parts}
 use Rattle.programs.proofs.CurveGates.{truncation, curve-gates, sum-gates}
 
 -- ---- one program after another
@@ -71,34 +68,19 @@ module _ (w : ℕ) where
   adder-sized x y = refl
 
   pub relu-sized : (x d : ℕ) → size-of w (relu-program w x d) ≡ relu-size w
-  unfolding relu-size relu-program program-cost order-steps meaning cost step-cost
+  unfolding relu-size relu-rest to-number program-cost order-steps meaning cost step-cost
   relu-sized x d =
-      both-sized w (adder w x ++ _) (adder w 0 ++ _) _ _
-      (both-sized w (adder w x) (adder w 0) (Bit t-slot g-slot (w - 2) ∷ Xor t-slot t-slot n-slot ∷ to-number w) _ (adder-sized x 0) refl)
-      refl
+      ap (size-of w) (relu-parts w x d)
+      ∙ both-sized w (adder w x) (adder w 0) (relu-rest w x d) (relu-rest w 0 0) (adder-sized x 0) refl
+      ∙ sym (ap (size-of w) (relu-parts w 0 0))
 
   pub exact-sized : (k x d : ℕ) → size-of w (exact-program w k x d) ≡ exact-size w
-  unfolding exact-size exact-program program-cost order-steps meaning cost step-cost
+  unfolding exact-size exact-head exact-rest to-number program-cost order-steps meaning cost step-cost
   exact-sized k x d =
-      both-sized w ((start k x ++ low k) ++ high) ((start 0 0 ++ low 0) ++ high) (last k d) (last 0 0)
-      (both-sized w (start k x ++ low k) (start 0 0 ++ low 0) high high
-      (both-sized w (start k x) (start 0 0) (low k) (low 0) refl refl) refl) refl
-    where
-      -- its parts: up to the adder, the bit below k, the top bit, and the rest
-      start : (k x : ℕ) → List Gate
-      start k x =
-          Plus y-slot x (2 ^ (w - 1)) ∷ Deal res-slot y-slot (OfNegated (Field k w)) ∷ Public t-slot y-slot (Field k w)
-          ∷ Add res-slot res-slot t-slot ∷ adder w y-slot
-
-      low : (k : ℕ) → List Gate
-      low k = Bit t-slot g-slot (k - 1) ∷ to-number w
-
-      high : List Gate
-      high = Add res-slot res-slot t-slot ∷ Bit t-slot g-slot (w - 1) ∷ to-number w
-
-      last : (k d : ℕ) → List Gate
-      last k d =
-          Scale t-slot t-slot (2 ^ (w - k) % 2 ^ w) ∷ Sub res-slot res-slot t-slot ∷ Plus d res-slot (neg w (2 ^ (w - 1 - k))) ∷ []
+      ap (size-of w) (exact-parts w k x d)
+      ∙ both-sized w (exact-head w k x) (exact-head w 0 0) (adder w y-slot ++ exact-rest w k d) (adder w y-slot ++ exact-rest w 0 0) refl
+      (both-sized w (adder w y-slot) (adder w y-slot) (exact-rest w k d) (exact-rest w 0 0) refl refl)
+      ∙ sym (ap (size-of w) (exact-parts w 0 0 0))
 
   pub row-sized : (x r k : ℕ) → size-of w (row-program w x r k) ≡ row-size w
   unfolding row-size row-program program-cost order-steps meaning cost step-cost
@@ -107,14 +89,14 @@ module _ (w : ℕ) where
       (Scale res-slot res-slot k ∷ Add acc-slot acc-slot res-slot ∷ []) (Scale res-slot res-slot 0 ∷ Add acc-slot acc-slot res-slot ∷ [])
       refl refl
 
-  -- a row's counts are its ReLU's
-  pub row-cost : row-size w .cost ≡ relu-size w .cost
-  unfolding row-size row-program program-cost order-steps meaning cost step-cost plus
-  row-cost =
-      cost-after w (Plus y-slot 0 (neg w 0) ∷ relu-program w y-slot res-slot)
+  -- a row is its ReLU between one gate and two, which count nothing
+  pub row-number : row-size w ≡ size (1 + relu-size w .gates + 2) (relu-size w .cost)
+  unfolding row-size row-program plus-size program-cost order-steps meaning cost step-cost plus
+  row-number =
+      size-after w (Plus y-slot 0 (neg w 0) ∷ relu-program w y-slot res-slot)
       (Scale res-slot res-slot 0 ∷ Add acc-slot acc-slot res-slot ∷ [])
-      ∙ cost-path (omega arith) (omega arith) (omega arith) (omega arith)
-      ∙ ap (λ (z : Size). z .cost) (relu-sized y-slot res-slot)
+      ∙ size-path (omega arith) (cost-path (omega arith) (omega arith) (omega arith) (omega arith))
+      ∙ ap (λ (z : Size). size (1 + z .gates + 2) (z .cost)) (relu-sized y-slot res-slot)
 
   -- a program that starts with a refresh uses a word of A
   pub refresh-uses : (d a : ℕ) (gs : List Gate) → 0 < program-cost w (Refresh d a ∷ gs) .a
@@ -122,9 +104,6 @@ module _ (w : ℕ) where
   refresh-uses d a gs = omega arith
 
   -- a row has gates, and exchanges
-  pub row-some : 0 < row-gates w
-  unfolding row-size row-program
-  row-some = omega arith
 
   pub row-speaks : 0 < row-exchanges w
   unfolding row-size row-program relu-program adder program-cost order-steps meaning cost step-cost plus
@@ -205,7 +184,7 @@ any-table w ps qs o h =
     let c = o .fourth in
     but-last (take 10 (kinds w [] d a c)) (curve-program w a d ps c) (curve-program w a d qs c) [] (o .kind) h
 
--- ---- the numbers: at any width, and at 32
+-- ---- the numbers: at any width, by the rounds of its adder, and at 32
 
 pub slack-number : (w : ℕ) → slack-size w ≡ size 3 (cost-of 1 0 1 0)
 unfolding slack-size slack-program program-cost order-steps meaning cost step-cost plus
@@ -215,24 +194,70 @@ pub one-bit-number : (w : ℕ) → one-bit-size w ≡ size 13 (cost-of 3 2 4 1)
 unfolding one-bit-size one-bit-program program-cost order-steps meaning cost step-cost plus
 one-bit-number w = refl
 
+-- the counts of so many deals and so many products, each with a deal of its own
+abbrev pub counts-of : (deals products : ℕ) → Cost
+counts-of k n = cost-of (k + n) (2 * n) (k + 2 * n) n
+
+-- each round of the adder has five gates, two of them products; the last has the first three and one product
+rounds-number : (w : ℕ) (ds : List ℕ) → 0 < length ds
+    → size-of w (rounds (updates ds)) ≡ size (5 * length ds - 2) (counts-of 0 (2 * length ds - 1))
+unfolding updates rounds update-gates program-cost order-steps meaning cost step-cost plus
+rounds-number w [] h = absurd (omega arith)
+rounds-number w (D ∷ []) h = refl
+rounds-number w (D ∷ E ∷ ds) h =
+    let e = rounds-number w (E ∷ ds) (omega arith) in
+    size-path (omega (arith, ap (λ (z : Size). z .gates) e))
+    (cost-path (omega (arith, ap (λ (z : Size). z .cost .deals) e)) (omega (arith, ap (λ (z : Size). z .cost .words) e))
+    (omega (arith, ap (λ (z : Size). z .cost .a) e)) (omega (arith, ap (λ (z : Size). z .cost .b) e)))
+
+-- the programs with an adder, by its rounds
+module _ (w : ℕ) (h : 0 < length (distances w)) where
+  abbrev R : ℕ
+  R = length (distances w)
+
+  pub adder-number : (x : ℕ) → size-of w (adder w x) ≡ size (5 + 5 * R - 2) (counts-of 1 (2 * R))
+  unfolding adder program-cost order-steps meaning cost step-cost plus
+  adder-number x =
+      let e = rounds-number w (distances w) h in
+      size-path (omega (arith, ap (λ (z : Size). z .gates) e))
+      (cost-path (omega (arith, ap (λ (z : Size). z .cost .deals) e)) (omega (arith, ap (λ (z : Size). z .cost .words) e))
+      (omega (arith, ap (λ (z : Size). z .cost .a) e)) (omega (arith, ap (λ (z : Size). z .cost .b) e)))
+
+  with-adder : (x : ℕ) (gs : List Gate)
+      → size-of w (adder w x ++ gs) ≡ plus-size (size (5 + 5 * R - 2) (counts-of 1 (2 * R))) (size-of w gs)
+  with-adder x gs = size-after w (adder w x) gs ∙ ap (λ (z : Size). plus-size z (size-of w gs)) (adder-number x)
+
+  pub relu-number : relu-size w ≡ size (14 + 5 * R) (counts-of 2 (2 + 2 * R))
+  unfolding relu-size relu-rest to-number plus-size program-cost order-steps meaning cost step-cost plus
+  relu-number =
+      ap (size-of w) (relu-parts w 0 0) ∙ with-adder 0 (relu-rest w 0 0)
+      ∙ size-path (omega arith) (cost-path (omega arith) (omega arith) (omega arith) (omega arith))
+
+  pub exact-number : exact-size w ≡ size (25 + 5 * R) (counts-of 4 (2 + 2 * R))
+  unfolding exact-size exact-head exact-rest to-number plus-size program-cost order-steps meaning cost step-cost plus
+  exact-number =
+      ap (size-of w) (exact-parts w 0 0 0) ∙ size-after w (exact-head w 0 0) (adder w y-slot ++ exact-rest w 0 0)
+      ∙ ap (plus-size (size-of w (exact-head w 0 0))) (with-adder y-slot (exact-rest w 0 0))
+      ∙ size-path (omega arith) (cost-path (omega arith) (omega arith) (omega arith) (omega arith))
+
+pub adder-32 : (x : ℕ) → size-of 32 (adder 32 x) ≡ size 28 (cost-of 11 20 21 10)
+unfolding distances doubled
+adder-32 = adder-number 32 (omega arith)
+
 pub exact-32 : exact-size 32 ≡ size 50 (cost-of 16 24 28 12)
-unfolding exact-size exact-program adder rounds update-gates updates distances doubled to-number program-cost order-steps meaning cost
-    step-cost plus
-exact-32 = refl
+unfolding distances doubled
+exact-32 = exact-number 32 (omega arith)
 
 -- the counts of a ReLU, and so of a row
 abbrev pub relu-counts-32 : Cost
 relu-counts-32 = cost-of 14 24 26 12
 
 pub relu-32 : relu-size 32 ≡ size 39 relu-counts-32
-unfolding relu-size relu-program adder rounds update-gates updates distances doubled to-number program-cost order-steps meaning cost
-    step-cost plus
-relu-32 = refl
+unfolding distances doubled
+relu-32 = relu-number 32 (omega arith)
 
 pub row-32 : row-size 32 ≡ size 42 relu-counts-32
-unfolding row-size row-program relu-program adder rounds update-gates updates distances doubled to-number
-    program-cost order-steps meaning cost step-cost plus
-row-32 = refl
+row-32 = row-number 32 ∙ ap (λ (z : Size). size (1 + z .gates + 2) (z .cost)) relu-32
 
 -- ---- an order has few gates
 

@@ -14,9 +14,7 @@ use Rattle.words.specs.Words.{add, sub, neg, mul, bit, shl, numbers, bits}
 use Rattle.words.proofs.Words.{neg-lt, mul-mod-mod}
 use Rattle.words.proofs.Below.{number-carrier, bit-carrier}
 use Rattle.shares.specs.Gates.{value}
-use Rattle.gates.specs.declared.Part.{Part}
-use Rattle.gates.specs.declared.Dealt.{Dealt}
-use Rattle.gates.specs.declared.Gate.the-variants.{Add, Sub, Xor, Mul, And, Refresh, Scale, Plus, Up, Bit, Const, Public, Deal, DealBits}
+use Rattle.gates.specs.Gates.{Part, Dealt, Add, Sub, Xor, Mul, And, Refresh, Scale, Plus, Up, Bit, Const, Public, Deal, DealBits}
 use Rattle.gates.specs.Steps.{at, say1, say2, meet, part2, new-at, Cursor}
 use Rattle.gates.specs.Meaning.{part, dealt-of, meaning}
 use Rattle.gates.specs.Hosts.{Triple, share, Slot, joint1, joint2, act}

@@ -11,17 +11,15 @@ use Rattle.truncations.specs.Adder.{carries}
 use Rattle.truncations.specs.Truncation.{bit-number, large-slack, one-bit, exact}
 use Rattle.words.proofs.Words.{mul-comm as times-comm, mul-mod-mod, sub-is, neg-lt, add-lt}
 use Rattle.shares.specs.Gates.{value}
-use Rattle.gates.specs.declared.Part.the-variants.{Field}
-use Rattle.gates.specs.declared.Dealt.the-variants.{OfNegated}
-use Rattle.gates.specs.declared.Gate.{Gate}
-use Rattle.gates.specs.declared.Gate.the-variants.{Add, Sub, Scale, Plus, Bit, Public, Deal}
+use Rattle.gates.specs.Gates.{Field, OfNegated, Gate, Add, Sub, Scale, Plus, Bit, Public, Deal}
 use Rattle.gates.specs.Meaning.{part, dealt-of}
 use Rattle.gates.specs.Hosts.{share}
 use Rattle.programs.specs.Programs.{adder, to-number, slack-program, one-bit-program, exact-program}
 use Rattle.programs.proofs.Gates.{Fits}
-use Rattle.programs.proofs.Points.{Other, target, Point, after, afters, afters-append, num, bin, m-of, l1-of, l2-of, keep-m, keep-l1}
-use Rattle.programs.proofs.Points.{keep-l2, keep-share, keep-num, keep-bin}
-use Rattle.programs.proofs.Targets.{at-add, at-sub, at-mul, at-scale, at-plus, at-bit, at-public, at-deal, m-plus, l1-plus, l2-plus}
+use Rattle.programs.proofs.Points.{Other, target, Point, after, afters, afters-append, num, bin, m-of, l1-of, l2-of, keep-m}
+use Rattle.programs.proofs.Points.{keep-l1, keep-l2, keep-share, keep-num, keep-bin}
+use Rattle.programs.proofs.Targets.{at-add, at-sub, at-mul, at-scale, at-plus, at-bit, at-public, at-deal, m-plus, l1-plus}
+use Rattle.programs.proofs.Targets.{l2-plus}
 use Rattle.programs.proofs.Blocks.{digit-bit, number-opens, number-keeps, adder-opens, adder-keeps}
 
 module _ (w : ℕ) (A B : List ℕ) (hA : Fits w A) (hB : Fits w B) where

@@ -1,7 +1,7 @@
 -- The counts of a program: deals, words spoken, A and B. Assumes nothing.
 use mathlib.Core.List.{List, []}
 use Prim.Native.Nat.{ℕ}
-use Rattle.gates.specs.declared.Gate.{Gate}
+use Rattle.gates.specs.Gates.{Gate}
 use Rattle.gates.specs.Meaning.{order-steps}
 use Rattle.gates.specs.Costs.{Cost, cost}
 

@@ -3,5 +3,4 @@ pub mod Orders
 pub mod Opens
 pub mod Costs
 pub mod Sizes
-pub mod Fetch
 pub mod Seek

@@ -3,8 +3,7 @@
 use mathlib.Core.List.{List, [], _∷_}
 use Prim.Native.Nat.{ℕ, zero, suc}
 use lib.ListN.{getD}
-use Rattle.gates.specs.declared.Gate.{Gate}
-use Rattle.gates.specs.declared.Gate.the-variants.{Add, Sub, Mul, Refresh, Scale, Plus}
+use Rattle.gates.specs.Gates.{Gate, Add, Sub, Mul, Refresh, Scale, Plus}
 use Rattle.tables.specs.Table.{Row}
 use Rattle.programs.specs.declared.Order.{Order}
 use Rattle.programs.specs.Programs.{relu-program, slack-program, one-bit-program, exact-program, curve-exact}

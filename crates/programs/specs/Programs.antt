@@ -5,11 +5,8 @@ use Prim.Native.Nat.{ℕ, _+_, _-_, _*_, _%_, _^_}
 use lib.IntN.{ℤ, pos}
 use Rattle.words.specs.Words.{neg}
 use Rattle.truncations.specs.Adder.{Update, generate, propagate, distances, updates}
-use Rattle.gates.specs.declared.Part.the-variants.{Field, Signed}
-use Rattle.gates.specs.declared.Dealt.the-variants.{OfSum, OfNegated, OfBits}
-use Rattle.gates.specs.declared.Gate.{Gate}
-use Rattle.gates.specs.declared.Gate.the-variants.{Add, Sub, Xor, Mul, And, Refresh, Scale, Plus, Up, Bit, Const}
-use Rattle.gates.specs.declared.Gate.the-variants.{Public, Deal, DealBits}
+use Rattle.gates.specs.Gates.{Field, Signed, OfSum, OfNegated, OfBits, Gate, Add, Sub, Xor, Mul, And, Refresh, Scale}
+use Rattle.gates.specs.Gates.{Plus, Up, Bit, Const, Public, Deal, DealBits}
 use Rattle.tables.specs.Table.{Row}
 use Rattle.curves.specs.Curve.{slope-after, coefficient}
 

@@ -3,8 +3,7 @@
 use mathlib.Core.List.{List, [], _∷_}
 use Prim.Native.Nat.{ℕ, zero, suc, _+_, _*_}
 use lib.ListN.{length}
-use Rattle.gates.specs.declared.Gate.{Gate}
-use Rattle.gates.specs.declared.Gate.the-variants.{Add, Mul, Refresh}
+use Rattle.gates.specs.Gates.{Gate, Add, Mul, Refresh}
 use Rattle.gates.specs.Costs.{Cost, cost-of, plus}
 use Rattle.programs.specs.Programs.{relu-program, slack-program, one-bit-program, exact-program, row-program}
 use Rattle.programs.specs.Costs.{program-cost}

@@ -1,20 +1,12 @@
 // The gate program of each kind of order, what it opens and what it costs: definitions and laws, and the sizes by
 // number.
 
-use gates::Gate;
-
 // An order's four words (document 01: kind, target, first source, fourth word).
 pub struct Order {
     pub kind: u32,
     pub target: u32,
     pub source: u32,
     pub fourth: u32,
-}
-
-// The gate at an index of a program, or past the last one.
-pub enum Fetched {
-    At { gate: Gate },
-    Past,
 }
 
 // Where a program's n-th product or refresh stands: the gate's index, and the words of A and the deals that the program
@@ -24,29 +16,89 @@ pub enum Sought {
     Nowhere,
 }
 
-// The sizes of programs at 32 bits; programs/proofs/Sizes.antt computes them from the programs. A curve's row: its
-// gates, its exchanges (each uses a word of B), and the words of A and the deals that it uses.
-pub const ROW_GATES: usize = 42;
+// The temporaries by the letters of document 01: n, P and G of the adder, a shifted word s and a product t, the source
+// y of a block, the sum of a curve, and a result.
+pub const N_SLOT: u32 = 16;
 
-pub const ROW_EXCHANGES: usize = 12;
+pub const P_SLOT: u32 = 17;
 
-pub const ROW_WORDS_A: usize = 26;
+pub const G_SLOT: u32 = 18;
 
-pub const ROW_DEALS: usize = 14;
+pub const S_SLOT: u32 = 19;
 
-// The gates of its ReLU, which has all its exchanges.
-pub const RELU_GATES: usize = 39;
+pub const T_SLOT: u32 = 20;
 
-// The exact truncation.
-pub const EXACT_EXCHANGES: usize = 12;
+pub const Y_SLOT: u32 = 21;
 
-pub const EXACT_WORDS_A: usize = 28;
+pub const ACC_SLOT: u32 = 22;
 
-pub const EXACT_DEALS: usize = 16;
+pub const RES_SLOT: u32 = 23;
 
-// The one-bit truncation.
+// The bits of a word, and the adder's rounds: its distance doubles from 1 to half a word.
+pub const WIDTH: u32 = 32;
+
+pub const ROUNDS: usize = 5;
+
+// The sizes of the blocks and of the programs that they make; those of the adder and of each program are computed from
+// the definitions in programs/proofs/Sizes.antt. A deal uses a word of A, a product a deal and two words of A, and each
+// exchange a word of B.
+
+// The adder: five gates, a deal and the first of its products among them, and then each round's five gates with two
+// products, of which the last round has the first three gates alone.
+pub const ADDER_HEAD: usize = 5;
+
+pub const ROUND_GATES: usize = 5;
+
+pub const ADDER_GATES: usize = ADDER_HEAD + ROUND_GATES * ROUNDS - 2;
+
+pub const ADDER_EXCHANGES: usize = 2 * ROUNDS;
+
+pub const ADDER_DEALS: usize = 1 + ADDER_EXCHANGES;
+
+pub const ADDER_WORDS_A: usize = 1 + 2 * ADDER_EXCHANGES;
+
+// A bit made a number: one deal and one product.
+pub const NUMBER_GATES: usize = 6;
+
+pub const NUMBER_DEALS: usize = 2;
+
+pub const NUMBER_WORDS_A: usize = 3;
+
+// The ReLU: the adder, two gates for the sign bit, which becomes a number, and three at the end, with a product.
+pub const RELU_GATES: usize = ADDER_GATES + 2 + NUMBER_GATES + 3;
+
+// A curve's row: its ReLU between one gate and two.
+pub const ROW_HEAD: usize = 1;
+
+pub const ROW_TAIL: usize = 2;
+
+pub const ROW_GATES: usize = ROW_HEAD + RELU_GATES + ROW_TAIL;
+
+pub const ROW_EXCHANGES: usize = ADDER_EXCHANGES + 2;
+
+pub const ROW_DEALS: usize = ADDER_DEALS + NUMBER_DEALS + 1;
+
+pub const ROW_WORDS_A: usize = ADDER_WORDS_A + NUMBER_WORDS_A + 2;
+
+// The exact truncation: four gates with a deal, the adder, and two bits made numbers.
+pub const EXACT_HEAD: usize = 4;
+
+pub const EXACT_GATES: usize = EXACT_HEAD + ADDER_GATES + 1 + NUMBER_GATES + 2 + NUMBER_GATES + 3;
+
+pub const EXACT_EXCHANGES: usize = ADDER_EXCHANGES + 2;
+
+pub const EXACT_DEALS: usize = 1 + ADDER_DEALS + 2 * NUMBER_DEALS;
+
+pub const EXACT_WORDS_A: usize = 1 + ADDER_WORDS_A + 2 * NUMBER_WORDS_A;
+
+// The one-bit truncation: two deals and a product.
+pub const ONE_BIT_GATES: usize = 13;
+
 pub const ONE_BIT_EXCHANGES: usize = 1;
 
 pub const ONE_BIT_WORDS_A: usize = 4;
 
 pub const ONE_BIT_DEALS: usize = 3;
+
+// Large slack.
+pub const SLACK_GATES: usize = 3;

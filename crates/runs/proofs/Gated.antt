@@ -11,7 +11,7 @@ use lib.ListN.{getD, length, replicate, List·getD-map}
 use Rattle.words.specs.Words.{add, numbers}
 use Rattle.shares.specs.Gates.{mask, value}
 use Rattle.tables.specs.Table.{Row}
-use Rattle.gates.specs.declared.Gate.{Gate}
+use Rattle.gates.specs.Gates.{Gate}
 use Rattle.gates.specs.Steps.{Lane, at, Step, end, origin, past}
 use Rattle.gates.specs.Meaning.{meaning, order-steps, job-steps}
 use Rattle.gates.specs.Walk.{whole}

@@ -9,7 +9,7 @@ use lib.Dec.{eqb}
 use lib.ListN.{getD, length}
 use Rattle.tables.specs.Table.{rows, keeps-rules}
 use Rattle.tables.proofs.Rows.{for-table}
-use Rattle.gates.specs.declared.Gate.{Gate}
+use Rattle.gates.specs.Gates.{Gate}
 use Rattle.gates.specs.Steps.{Step}
 use Rattle.gates.specs.Meaning.{job-steps}
 use Rattle.programs.specs.Orders.{program}

@@ -10,10 +10,7 @@ use Rattle.words.specs.Words.{neg}
 use Rattle.truncations.specs.Adder.{Update, generate, propagate, distances, updates}
 use Rattle.tables.specs.Table.{Row}
 use Rattle.curves.specs.Curve.{slope-after, coefficient}
-use Rattle.gates.specs.declared.Part.the-variants.{Field}
-use Rattle.gates.specs.declared.Dealt.the-variants.{OfNegated}
-use Rattle.gates.specs.declared.Gate.{Gate}
-use Rattle.gates.specs.declared.Gate.the-variants.{Add, Sub, Xor, Mul, Refresh, Scale, Plus, Bit, Const, Public, Deal}
+use Rattle.gates.specs.Gates.{Field, OfNegated, Gate, Add, Sub, Xor, Mul, Refresh, Scale, Plus, Bit, Const, Public, Deal}
 use Rattle.programs.specs.declared.Order.{Order}
 use Rattle.programs.specs.Programs.{update-gates, rounds, adder, to-number, relu-program, slack-program, one-bit-program, exact-program}
 use Rattle.programs.specs.Programs.{row-program, rows-program, sum-program, curve-exact, curve-one-bit}

@@ -15,7 +15,7 @@ use Rattle.gates.specs.Steps.{at, Step, local, deal, exchange, end, origin}
 use Rattle.gates.specs.Walk.{whole}
 use Rattle.gates.specs.Hosts.{Triple, share, act}
 use Rattle.gates.specs.Costs.{Cost, cost-of, plus}
-use Rattle.gates.specs.declared.Gate.{Gate}
+use Rattle.gates.specs.Gates.{Gate}
 use Rattle.programs.specs.declared.Order.{Order}
 use Rattle.programs.specs.Programs.{sum-program}
 use Rattle.programs.specs.Costs.{program-cost}

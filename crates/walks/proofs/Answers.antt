@@ -8,7 +8,7 @@ use native.Mathlib.Omega.{arith}
 use borrow.Author.Tests.{eqb-true, eqb-false}
 use lib.Dec.{eqb}
 use lib.ListN.{length, drop}
-use Rattle.gates.specs.declared.Gate.{Gate}
+use Rattle.gates.specs.Gates.{Gate}
 use Rattle.gates.specs.Steps.{Lane, Step, local, deal, exchange, end, Cursor, origin}
 use Rattle.gates.specs.Meaning.{job-steps}
 use Rattle.gates.specs.Walk.{Exchanging}
@@ -17,8 +17,8 @@ use Rattle.jobs.specs.Job.{Fault}
 use Rattle.calls.specs.Scripts.{Script}
 use Rattle.calls.specs.Lent.{lent-fault, lent, Worker, worker-with}
 use Rattle.calls.specs.Places.{Found, nowhere, found, seek}
-use Rattle.calls.specs.Calls.{State, Answer, refused, report, fresh, unless, given, start-walk, start}
-use Rattle.calls.specs.Calls.{hear-walk, place-fault, found-of, resume, hear}
+use Rattle.calls.specs.Calls.{State, Answer, refused, report, fresh, unless, given, start-walk, start, hear-walk, place-fault, found-of}
+use Rattle.calls.specs.Calls.{resume, hear}
 use Rattle.walks.specs.Workers.{cursor}
 use Rattle.walks.specs.Halts.{reported, steps-from}
 use Rattle.walks.proofs.Gates.{first-gate}

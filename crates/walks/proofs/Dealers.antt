@@ -11,43 +11,40 @@ use Rattle.gates.specs.Steps.{Lane, at, product, refresh, Step, local, deal, ex
 use Rattle.gates.specs.Costs.{step-cost, used-at}
 use Rattle.gates.specs.Hosts.{on-mask}
 use Rattle.gates.specs.Speech.{dealt-word, shape}
-use Rattle.walks.specs.Dealers.{Dealer, dealer, Holds, Counts, next-deal, dealing}
+use Rattle.walks.specs.Dealers.{Dealer, dealer, Holds, Counts, next-deal, shaped, dealing}
 
 -- ---- its lanes and its buffer
 
-abbrev Memory : Type 0
-Memory = Lane × Lane × List ℕ
+-- the deal, with the next word x of A in hand
+next-dealt : (A : List ℕ) (s : Dealer) (y : Step) {x v : ℕ} → x ≡ at A (s .a) → v ≡ dealt-word y x (s .l1) (s .l2) → v ≡ next-deal A y s
+next-dealt A s y ex ev = ev ∙ ap (λ (n : ℕ). dealt-word y n (s .l1) (s .l2)) ex
 
-abbrev pub Has : Dealer → Memory → Type 0
-Has s q = Holds s (q .0) (q .1) (q .2)
+module _ (A B : List ℕ) (s : Dealer) (y : Step) {l1 l2 : Lane} where
+  by-shape : (t : Shape) (buf : List ℕ) → t ≡ shape y → Holds (shaped A B t y s) l1 l2 buf → Holds (dealing A B y s) l1 l2 buf
+  unfolding dealing
+  by-shape t buf e h = subst (λ (u : Shape). Holds (shaped A B u y s) l1 l2 buf) e h
 
-module _ (A B : List ℕ) (s : Dealer) where
-  -- l1 and l2 have the step on masks behind them; what is left to write goes by the shape. x is the next word of A, v the deal
-  abbrev pub finished : Shape → (x v : ℕ) (l1 l2 : Lane) → Memory
-  finished Local x v l1 l2 = (l1, l2, s .buffer)
-  finished (Dealing d) x v l1 l2 = (l1, l2, set (s .buffer) (s .deals) v)
-  finished (Product d) x v l1 l2 = (set l1 d (at A (s .a + 1)), set l2 d (at B (s .b)), set (s .buffer) (s .deals) v)
-  finished (Refreshing d) x v l1 l2 = (set l1 d x, set l2 d (at B (s .b)), s .buffer)
+  pub holds-local : Local ≡ shape y → l1 ≡ on-mask y 0 (s .l1) → l2 ≡ on-mask y 0 (s .l2) → Holds (dealing A B y s) l1 l2 (s .buffer)
+  holds-local e p q = by-shape Local _ e (p, q, refl)
 
-  -- a step on each lane alone asks on-mask for no word, and at an exchange on-mask writes nothing
-  finishes : (y : Step) → Has (dealing A B y s)
-      (finished (shape y) (at A (s .a)) (next-deal A y s) (on-mask y (at A (s .a)) (s .l1)) (on-mask y (next-deal A y s) (s .l2)))
-  unfolding dealing shape on-mask
-  finishes (local d m l) = (refl, refl, refl)
-  finishes (deal d f) = (refl, refl, refl)
-  finishes (exchange d (product O a b)) = (refl, refl, refl)
-  finishes (exchange d (refresh O a)) = (refl, refl, refl)
-  finishes end = (refl, refl, refl)
+  -- x is the next word of A, v the deal
+  pub holds-deal : (d : ℕ) {x v : ℕ} {buf : List ℕ} → Dealing d ≡ shape y → x ≡ at A (s .a) → v ≡ dealt-word y x (s .l1) (s .l2)
+      → l1 ≡ set (s .l1) d x → l2 ≡ set (s .l2) d v → buf ≡ set (s .buffer) (s .deals) v → Holds (dealing A B y s) l1 l2 buf
+  holds-deal d e ex ev p q r =
+      let n = next-dealt A s y ex ev in
+      by-shape (Dealing d) _ e (p ∙ ap (set (s .l1) d) ex, q ∙ ap (set (s .l2) d) n, r ∙ ap (set (s .buffer) (s .deals)) n)
 
-  -- the same by the words and the lanes that the code has in hand
-  pub by-shape : (y : Step) (x v : ℕ) → x ≡ at A (s .a) → v ≡ dealt-word y x (s .l1) (s .l2)
-      → (l1 l2 : Lane) → l1 ≡ on-mask y x (s .l1) → l2 ≡ on-mask y v (s .l2)
-      → (t : Shape) → t ≡ shape y → Has (dealing A B y s) (finished t x v l1 l2)
-  by-shape y x v ex ev l1 l2 e1 e2 t et =
-      let dealt : v ≡ next-deal A y s = ev ∙ ap (λ (n : ℕ). dealt-word y n (s .l1) (s .l2)) ex in
-      let f1 = e1 ∙ ap (λ (n : ℕ). on-mask y n (s .l1)) ex in
-      let f2 = e2 ∙ ap (λ (n : ℕ). on-mask y n (s .l2)) dealt in
-      subst (Has (dealing A B y s)) (sym (λ i. finished (et i) (ex i) (dealt i) (f1 i) (f2 i))) (finishes y)
+  -- and n1 the word of A after it, n2 the next word of B
+  pub holds-product : (d : ℕ) {x v n1 n2 : ℕ} {buf : List ℕ} → Product d ≡ shape y → x ≡ at A (s .a)
+      → v ≡ dealt-word y x (s .l1) (s .l2) → n1 ≡ at A (s .a + 1) → n2 ≡ at B (s .b)
+      → l1 ≡ set (s .l1) d n1 → l2 ≡ set (s .l2) d n2 → buf ≡ set (s .buffer) (s .deals) v → Holds (dealing A B y s) l1 l2 buf
+  holds-product d e ex ev e1 e2 p q r =
+      by-shape (Product d) _ e
+      (p ∙ ap (set (s .l1) d) e1, q ∙ ap (set (s .l2) d) e2, r ∙ ap (set (s .buffer) (s .deals)) (next-dealt A s y ex ev))
+
+  pub holds-refresh : (d : ℕ) {n1 n2 : ℕ} → Refreshing d ≡ shape y → n1 ≡ at A (s .a) → n2 ≡ at B (s .b)
+      → l1 ≡ set (s .l1) d n1 → l2 ≡ set (s .l2) d n2 → Holds (dealing A B y s) l1 l2 (s .buffer)
+  holds-refresh d e e1 e2 p q = by-shape (Refreshing d) _ e (p ∙ ap (set (s .l1) d) e1, q ∙ ap (set (s .l2) d) e2, refl)
 
 -- ---- what it has used
 

@@ -7,20 +7,20 @@ use native.Mathlib.Nat.{zero-add}
 use native.Mathlib.Omega.{arith}
 use lib.ListN.{length, getD, take, drop}
 use lib.Seq.{drop-length, drop-cons}
-use Rattle.gates.specs.declared.Gate.{Gate}
+use Rattle.gates.specs.Gates.{Gate}
 use Rattle.gates.specs.Steps.{Step, Cursor, origin}
 use Rattle.gates.specs.Meaning.{meaning, order-steps, job-steps}
 use Rattle.gates.specs.Walk.{Exchanging}
 use Rattle.gates.proofs.Needs.{Further, far-used}
-use Rattle.programs.specs.declared.Fetched.the-variants.{At}
-use Rattle.programs.specs.Fetch.{fetched}
+use Rattle.gates.specs.Codes.{At, fetched}
 use Rattle.programs.specs.declared.Sought.the-variants.{Nowhere}
 use Rattle.programs.specs.declared.Sought.the-variants as Sought
 use Rattle.programs.specs.Seek.{sought}
 use Rattle.calls.specs.Places.{nowhere, found, seek}
 use Rattle.walks.specs.Workers.{cursor}
 use Rattle.walks.specs.Halts.{steps-from}
-use Rattle.walks.proofs.Gates.{inside, steps-there}
+use Rattle.gates.proofs.Fetched.{inside}
+use Rattle.walks.proofs.Gates.{steps-there}
 use Rattle.walks.proofs.Seeking.{not-here, just-here, not-yet, Placed, placed, not-placed}
 use Rattle.walks.proofs.Before.{skip-all, before, Below, before-below}
 

@@ -1,25 +1,19 @@
--- Host 0's walk over a list of steps, one list after another: as the definition of preparation has it; and as its code takes it, over
--- the gates of a program and over a list of programs: what holds at the head, a turn, and the end. Assumes nothing.
+-- Host 0's walk over a list of steps, one list after another: as the definition of preparation has it, and as its code takes it: what
+-- holds at the head, a turn, and the end. Assumes nothing.
 use mathlib.Core.Path.{_≡_, refl, sym, ap, _∙_}
 use mathlib.Core.List.{List, [], _∷_, _++_}
 use Prim.Native.Nat.{ℕ, _+_}
-use native.Mathlib.Numerals.{towards-suc, add-one}
+use native.Mathlib.Numerals.{towards-suc}
 use native.Mathlib.Omega.{arith}
-use lib.ListN.{length, drop, length-set}
+use lib.ListN.{length, length-set}
 use lib.Seq.{sets}
-use Rattle.gates.specs.declared.Gate.{Gate}
 use Rattle.gates.specs.Steps.{product, refresh, Step, local, deal, exchange, end, new-at, past-deal, emit, Cursor, past}
 use Rattle.gates.specs.Walk.{whole, far}
 use Rattle.gates.specs.Hosts.{Pair, on-mask, act0, dealt, deals}
 use Rattle.gates.specs.Speech.{dealt-word, shape}
-use Rattle.gates.specs.Meaning.{meaning, order-steps, job-steps}
 use Rattle.gates.specs.Costs.{Cost, plus, step-cost, cost}
 use Rattle.gates.proofs.Needs.{cost-append}
-use Rattle.programs.specs.declared.Fetched.{Fetched}
-use Rattle.programs.specs.declared.Fetched.the-variants.{At, Past}
-use Rattle.programs.specs.Fetch.{fetched}
 use Rattle.walks.specs.Dealers.{Dealer, dealing, deal-all, Room}
-use Rattle.walks.proofs.Gates.{at-gate, past-gates, steps-append}
 use Rattle.walks.proofs.Dealers.{size-kept}
 
 -- a cursor, two lanes and a buffer
@@ -103,34 +97,7 @@ module _ (A B : List ℕ) where
           record { same = sym (deal-append ts us s) ∙ p; room = room-after ts us s q; size = sizes-kept ts s ∙ h .size } in
           rw et g
 
--- ---- the gates of a program
-
-module _ (w : ℕ) (A B : List ℕ) (ss₀ : List Step) (s₀ s : Dealer) where
-  module _ (gs : List Gate) (i : ℕ) (h : Midway A B ss₀ (order-steps w (drop i gs) []) s₀ s) (f : Fetched) (ef : f ≡ fetched gs i) where
-    module _ (g : Gate) (eg : f ≡ At g) where
-      next-gate : order-steps w (drop i gs) [] ≡ (meaning w g ∷ []) ++ order-steps w (drop (i + 1) gs) []
-      next-gate = rw (add-one i) (at-gate w gs i [] g (sym ef ∙ eg))
-
-      pub gate-room : Room A B (meaning w g ∷ []) s
-      gate-room = room-now A B ss₀ s₀ s _ (meaning w g ∷ []) (order-steps w (drop (i + 1) gs) []) next-gate h
-
-      pub gate-done : (t : Dealer) → t ≡ dealing A B (meaning w g) s → Midway A B ss₀ (order-steps w (drop (i + 1) gs) []) s₀ t
-      unfolding deal-all
-      gate-done t e = further A B ss₀ s₀ s _ (meaning w g ∷ []) (order-steps w (drop (i + 1) gs) []) next-gate h t e
-
-    pub gates-done : f ≡ Past → s ≡ deal-all A B ss₀ s₀
+    -- the end of an order
+    pub past-end : (us : List Step) → Midway ss₀ (end ∷ us) s₀ s → Midway ss₀ us s₀ s
     unfolding deal-all dealing shape on-mask
-    gates-done e = rw (past-gates w gs i [] (sym ef ∙ e)) at (h .same)
-
-  -- ---- a list of programs
-
-  module _ (gs : List Gate) (rest : List (List Gate)) (h : Midway A B ss₀ (job-steps w (gs ∷ rest)) s₀ s) where
-    next-program : job-steps w (gs ∷ rest) ≡ order-steps w gs [] ++ job-steps w rest
-    unfolding job-steps
-    next-program = steps-append w gs [] (job-steps w rest)
-
-    pub program-room : Room A B (order-steps w gs []) s
-    program-room = room-now A B ss₀ s₀ s _ (order-steps w gs []) (job-steps w rest) next-program h
-
-    pub program-done : (t : Dealer) → t ≡ deal-all A B (order-steps w gs []) s → Midway A B ss₀ (job-steps w rest) s₀ t
-    program-done t e = further A B ss₀ s₀ s _ (order-steps w gs []) (job-steps w rest) next-program h t e
+    past-end us h = further (end ∷ us) (end ∷ []) us refl h s refl

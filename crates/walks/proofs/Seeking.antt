@@ -8,20 +8,19 @@ use native.Mathlib.Omega.{arith}
 use borrow.Author.Tests.{eq-eqb, ne-eqb}
 use lib.Dec.{eqb}
 use lib.ListN.{length, drop}
-use Rattle.gates.specs.declared.Gate.{Gate}
+use Rattle.gates.specs.Gates.{Gate}
 use Rattle.gates.specs.Steps.{Exchange, product, refresh, Step, local, deal, exchange, end, new-at, past-deal, Cursor, past}
 use Rattle.gates.specs.Meaning.{meaning, order-steps}
 use Rattle.gates.specs.Walk.{Exchanging}
 use Rattle.gates.specs.Speech.{shape}
-use Rattle.programs.specs.declared.Fetched.the-variants.{At}
+use Rattle.gates.specs.Codes.{At, fetched}
 use Rattle.programs.specs.declared.Sought.{Sought}
 use Rattle.programs.specs.declared.Sought.the-variants.{Nowhere}
 use Rattle.programs.specs.declared.Sought.the-variants as Sought
-use Rattle.programs.specs.Fetch.{fetched}
 use Rattle.programs.specs.Seek.{sought-at, sought}
 use Rattle.calls.specs.Places.{Found, nowhere, found, here, seek}
 use Rattle.gates.proofs.GateSteps.{OfGate, of-gate}
-use Rattle.walks.proofs.Gates.{never}
+use Rattle.gates.proofs.Fetched.{never}
 
 -- ---- not here
 

@@ -1,17 +1,14 @@
 -- Where a walk of host 1 or 2 halts, at the next product or refresh or at the end: its answer there, over a list of
--- steps, within a program, and over a list of programs. Assumes nothing.
+-- steps, among the gates of a program, and over a list of programs. Assumes nothing.
 use mathlib.Core.Path.{_≡_}
-use mathlib.Core.List.{List, [], _∷_}
+use mathlib.Core.List.{List, [], _∷_, _++_, map}
 use Prim.Native.Nat.{ℕ, _+_, _≤_}
 use lib.ListN.{length, drop}
-use Rattle.gates.specs.declared.Gate.{Gate}
+use Rattle.gates.specs.Gates.{Gate}
 use Rattle.gates.specs.Steps.{Lane, Step, Cursor}
 use Rattle.gates.specs.Meaning.{meaning, order-steps, job-steps}
-use Rattle.gates.specs.Walk.{walk, Exchanging}
+use Rattle.gates.specs.Walk.{walk}
 use Rattle.gates.specs.Hosts.{Pair}
-use Rattle.programs.specs.declared.Fetched.{Fetched}
-use Rattle.programs.specs.declared.Fetched.the-variants.{At, Past}
-use Rattle.programs.specs.Fetch.{fetched}
 use Rattle.calls.specs.Lent.{Worker}
 use Rattle.calls.specs.Calls.{Answer, report}
 use Rattle.walks.specs.Workers.{cursor}
@@ -30,25 +27,14 @@ unfoldable pub steps-from : (w i : ℕ) → (programs : List (List Gate)) → Li
 steps-from w i [] = []
 steps-from w i (gs ∷ rest) = order-steps w (drop i gs) (job-steps w rest)
 
--- the walk of a program halts: at a product or refresh, or past the last gate
-abbrev pub Halting : ℕ → Fetched → Type 0
-Halting w Past = Unit
-Halting w (At g) = Exchanging (meaning w g ∷ [])
-
--- A walk on its way through the program gs, from gate i with the lanes s to gate j with the lanes t: whatever stands
--- behind the program, the answer is the same from there. It stays among the gates, and the words of A and the deals
--- that are used on the way are at most as many as the gates.
+-- A walk on its way through the gates gs, from gate i with the lanes s to gate j with the lanes t: whatever stands
+-- behind them, the answer is the same from there. It stays among the gates, and the words of A and the deals that are
+-- used on the way are at most as many as the gates.
 pub record Going (w : ℕ) (P : Worker) (gs : List Gate) (i a dealt : ℕ) (s : Pair)
     (j a′ dealt′ : ℕ) (t : Pair) : Type 0 where
   pub same : (ss : List Step) (o x b : ℕ)
-      → reported P (order-steps w (drop i gs) ss) (cursor o x a b dealt) s
-      ≡ reported P (order-steps w (drop j gs) ss) (cursor o x a′ b dealt′) t
+      → reported P (map (meaning w) (drop i gs) ++ ss) (cursor o x a b dealt) s
+      ≡ reported P (map (meaning w) (drop j gs) ++ ss) (cursor o x a′ b dealt′) t
   pub few : (n : ℕ) → i ≤ n → length gs ≤ n → j ≤ n
   pub few-a : a′ + i ≤ a + j
   pub few-deals : dealt′ + i ≤ dealt + j
-
--- the same where it halts
-pub record Walked (w : ℕ) (P : Worker) (gs : List Gate) (i a dealt : ℕ) (s : Pair)
-    (j a′ dealt′ : ℕ) (t : Pair) : Type 0 where
-  pub going : Going w P gs i a dealt s j a′ dealt′ t
-  pub halts : Halting w (fetched gs j)

@@ -3,8 +3,6 @@ ghost use mathlib.Core.Path.{_≡_};
 ghost use Prim.Native.Nat.{_%_, _^_};
 ghost use Rattle.words.specs.Words.{bit, shl, shr};
 ghost use Rattle.words.specs.Signed.{shr-signed};
-ghost use Rattle.gates.specs.Meaning.{part};
-use gates::Part;
 
 // x shifted up by n: the bits past the word drop out, so from 32 on nothing is left.
 pub fn shift_up(x: u32, n: u32) -> u32
@@ -35,7 +33,7 @@ fn low_bits(x: u32, j: u32) -> u32
 }
 
 // floor(x / 2^k), x signed. Of a word that reads negative, -1 - x is shifted, which is not negative.
-fn signed_floor(x: u32, k: u32) -> u32
+pub fn signed_floor(x: u32, k: u32) -> u32
     ensures { λ r. ⌜ r ≡ shr-signed 32 k x ⌝ }
 {
     if x < 2147483648 {
@@ -45,11 +43,9 @@ fn signed_floor(x: u32, k: u32) -> u32
     }
 }
 
-pub fn part_of(f: Part, x: u32) -> u32
-    ensures { λ r. ⌜ r ≡ part 32 f x ⌝ }
+// The j bits of x from bit k on.
+pub fn field(x: u32, k: u32, j: u32) -> u32
+    ensures { λ r. ⌜ r ≡ shr k x % 2 ^ j ⌝ }
 {
-    match f {
-        Part::Field { k, j } => low_bits(shift_down(x, k), j),
-        Part::Signed { k } => signed_floor(x, k),
-    }
+    low_bits(shift_down(x, k), j)
 }

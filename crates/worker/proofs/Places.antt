@@ -5,20 +5,22 @@ use Prim.Native.Nat.{ℕ, _+_, _*_, _/_, _^_, _≤_, _<_}
 use native.Mathlib.Omega.{arith}
 use lib.ListN.{length, getD, take, drop}
 use Rattle.tables.specs.Table.{rows}
-use Rattle.gates.specs.declared.Gate.{Gate}
-use Rattle.gates.specs.Steps.{origin}
+use Rattle.gates.specs.Gates.{Gate}
+use Rattle.gates.specs.declared.GateCode.{GateCode}
+use Rattle.gates.specs.Steps.{Step, origin}
 use Rattle.gates.specs.Meaning.{meaning, job-steps}
 use Rattle.gates.specs.Walk.{Exchanging}
 use Rattle.gates.specs.Costs.{Cost}
 use Rattle.programs.specs.declared.Order.{Order}
 use Rattle.programs.specs.Orders.{program}
-use Rattle.programs.specs.declared.Fetched.{Fetched}
-use Rattle.programs.specs.declared.Fetched.the-variants.{At, Past}
-use Rattle.programs.specs.Fetch.{fetched}
+use Rattle.gates.specs.Codes.{At, fetched, read, step-of}
+use Rattle.gates.proofs.Codes.{read-at}
 use Rattle.programs.specs.declared.Sought.{Sought}
 use Rattle.programs.specs.declared.Sought.the-variants.{Nowhere}
 use Rattle.programs.specs.declared.Sought.the-variants as Sought
 use Rattle.programs.specs.Seek.{sought}
+use Rattle.program_fetch.specs.declared.Piece.{Piece}
+use Rattle.program_fetch.specs.Pieces.{piece-gates, Stands}
 use Rattle.jobs.specs.Job.{Fault, job-fault, job-gates, job-cost, order-at}
 use Rattle.calls.specs.Scripts.{job-script}
 use Rattle.calls.specs.Lent.{lent-fault, lent, passed}
@@ -26,11 +28,12 @@ use Rattle.calls.specs.Places.{nowhere, found, seek}
 use Rattle.calls.proofs.Faults.{no-fault}
 use Rattle.walks.specs.Workers.{cursor}
 use Rattle.walks.specs.Halts.{steps-from}
-use Rattle.walks.proofs.Gates.{never}
+use Rattle.walks.proofs.Gates.{steps-at}
 use Rattle.walks.proofs.Before.{before}
 use Rattle.walks.proofs.Places.{no-place, found-at}
 use Rattle.worker.specs.Jobs.{Sized, Standing}
-use Rattle.jobs.proofs.Indices.{gates-count, gates-at, cost-before}
+use Rattle.worker.proofs.Pieces.{gate-there}
+use Rattle.jobs.proofs.Indices.{gates-count, gates-drop, gates-at, cost-before}
 
 -- a state stands there, all its numbers are small, and it is what `seek` finds: the gate i, with a words of A, b of B and so many
 -- deals used before it
@@ -43,6 +46,11 @@ pub record There (w : ℕ) (job table : List ℕ) (o x i a b dealt : ℕ) : Type
   pub few-deals : dealt < 2 ^ 30
   pub is : seek o x (job-steps w (job-gates w job table)) origin
       ≡ found (steps-from w i (drop o (job-gates w job table))) (cursor o x a b dealt)
+
+-- by the same numbers
+pub there-at : (w : ℕ) (job table : List ℕ) (o x i a b dealt i′ a′ dealt′ : ℕ) → There w job table o x i a b dealt
+    → i′ ≡ i → a′ ≡ a → dealt′ ≡ dealt → There w job table o x i′ a′ b dealt′
+there-at w job table o x i a b n i′ a′ n′ h ei ea en = rw (ei, ea, en) h
 
 module _ (w : ℕ) (job table : List ℕ) where
   -- the program of the order at o
@@ -102,20 +110,21 @@ module _ (w : ℕ) (job table : List ℕ) where
           eu ∙ ap (λ (m : ℕ). passed m (job-cost w (take (o * 4) job) table)) z ∙ cost-before w job table o (omega arith) in
           subst (λ (r : Cost). There w job table o x g (r .a + a) (r .b + x) (r .deals + dealt)) (sym b) H
 
-  -- ---- the gate that the code fetched is the one where the state stands
+  -- ---- the code's gate is the one where the state stands: by the piece of its order that holds it
 
-  module _ (o i : ℕ) (S : Standing w job table o i) (ord : Order) (eo : ord ≡ order-at job o) (f : Fetched)
-      (ef : f ≡ fetched (program w (rows table) ord) i) where
-    same-fetch : f ≡ fetched (own o) i
-    same-fetch = ef ∙ ap (λ (z : Order). fetched (program w (rows table) z) i) eo
+  module _ (o i : ℕ) (S : Standing w job table o i) (ord : Order) (eo : ord ≡ order-at job o) (p : Piece)
+      (sp : Stands w (rows table) ord i p) (c : GateCode) (ec : read c ≡ fetched (piece-gates w (rows table) p) (p .from)) where
+    own-step : step-of w c ≡ meaning w (S .held)
+    own-step =
+        let e : fetched (program w (rows table) ord) i ≡ At (S .held) =
+        ap (λ (z : Order). fetched (program w (rows table) z) i) eo ∙ S .there in
+        read-at w c (S .held) (ec ∙ gate-there w (rows table) ord i p sp (S .held) e)
 
-    pub not-past : {A : Type 0} → f ≡ Past → A
-    not-past p = never (cc (same-fetch, S .there))
+    pub steps-here : steps-from w i (drop o (job-gates w job table))
+        ≡ step-of w c ∷ steps-from w (i + 1) (drop o (job-gates w job table))
+    steps-here =
+        steps-at w (job-gates w job table) o i _ (gates-drop w job table o (S .in-job)) (S .held) (S .there)
+        ∙ ap (λ (y : Step). y ∷ steps-from w (i + 1) (drop o (job-gates w job table))) (sym own-step)
 
-    pub fetched-there : (g : Gate) → f ≡ At g → fetched (own o) i ≡ At g
-    fetched-there g p = sym same-fetch ∙ p
-
-    pub speaks-there : (g : Gate) → f ≡ At g → Exchanging (meaning w g ∷ [])
-    speaks-there g p =
-        let e : S .held ≡ g = cc (same-fetch, S .there) in
-        subst (λ (z : Gate). Exchanging (meaning w z ∷ [])) e (S .speaks)
+    pub speaks-here : Exchanging (step-of w c ∷ [])
+    speaks-here = subst (λ (y : Step). Exchanging (y ∷ [])) (sym own-step) (S .speaks)

@@ -3,11 +3,10 @@ use mathlib.Core.Path.{_≡_}
 use mathlib.Core.List.{List, [], _∷_}
 use Prim.Native.Nat.{ℕ, _*_, _/_, _≤_, _<_}
 use lib.ListN.{length}
-use Rattle.gates.specs.declared.Gate.{Gate}
+use Rattle.gates.specs.Gates.{Gate}
 use Rattle.gates.specs.Meaning.{meaning}
 use Rattle.gates.specs.Walk.{Exchanging}
-use Rattle.programs.specs.declared.Fetched.the-variants.{At}
-use Rattle.programs.specs.Fetch.{fetched}
+use Rattle.gates.specs.Codes.{At, fetched}
 use Rattle.programs.specs.Orders.{program}
 use Rattle.tables.specs.Table.{rows}
 use Rattle.jobs.specs.Job.{order-at}

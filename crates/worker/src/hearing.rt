@@ -9,21 +9,24 @@ ghost use Rattle.calls.specs.Places.{found};
 ghost use Rattle.calls.specs.Calls as Calls;
 ghost use Rattle.calls.specs.Scripts.{job-script};
 ghost use Rattle.calls.specs.Lent.{lent, worker-with};
-ghost use Rattle.worker.specs.Answers.{answer-of, state-of};
+ghost use Rattle.worker.specs.Answers.{answer-of, state-of, state-with};
 ghost use Rattle.walks.specs.Workers.{cursor};
-ghost use Rattle.walks.specs.Halts.{steps-from};
+ghost use Rattle.walks.specs.Halts.{going-on, steps-from};
 ghost use Rattle.worker.specs.Jobs.{Sized, Standing};
 use crate::Answer;
 use crate::State;
+use crate::answering::answered;
 use crate::answering::refused;
+use crate::walk::Halt;
 use crate::walk::advance;
 use crate::walk::behind;
 use call_check::check_lent;
 use gate_shape::used_by;
 use job_order::order_at;
-use program_fetch::fetch;
+use jobs::Counts;
+use program_fetch::gate_at;
+use program_fetch::piece_at;
 use program_seek::seek;
-use programs::Fetched;
 use programs::Sought;
 use worker_gate::Reach;
 use worker_gate::meet;
@@ -41,6 +44,18 @@ fn end_fault(order: usize, n: usize, turn: u32) -> u32
     8
 }
 
+// The place in an order, with what the orders before use.
+fn reach_of(used: Counts, gate: usize, a: usize, dealt: usize) -> Reach
+    requires { ⌜ (used .a + a < 2 ^ 30) × (used .deals + dealt < 2 ^ 30) ⌝ }
+    ensures { λ r. ⌜ (r .gate ≡ gate) × (r .a ≡ used .a + a) × (r .deals ≡ used .deals + dealt) ⌝ }
+{
+    Reach {
+        gate,
+        a: used.a as usize + a,
+        deals: used.deals as usize + dealt,
+    }
+}
+
 // The other's word is heard at the product or refresh where the state stands, with b words spoken before it.
 fn resume(
     host: u32,
@@ -48,44 +63,40 @@ fn resume(
     table: &[u32],
     masks: &[u32],
     deals: &[u32],
-    s: State,
+    m: &mut [u32; 24],
+    mask: &mut [u32; 24],
+    order: u32,
+    turn: u32,
     heard: u32,
     at: Reach,
     b: usize,
-) -> Answer
-    requires { ⌜ Sized 32 (now job) (now table) × Standing 32 (now job) (now table) (s .order) (at .gate)
-        × (at .gate < 1000) × (s .turn < 1000)
+) -> Halt
+    requires { ⌜ Sized 32 (now job) (now table) × Standing 32 (now job) (now table) order (at .gate)
+        × (at .gate < 1000) × (turn < 1000)
         × (at .a < 2 ^ 30) × (at .deals < 2 ^ 30) × (b < 2 ^ 30) ⌝ }
     ensures { λ r.
-        ⌜ answer-of r
+        ⌜ going-on (r .spoken) (r .word) (now (m .exit)) (now (mask .exit)) (r .order) (r .turn)
         ≡ Calls.report (worker-with host (now (masks .entry)) (now (deals .entry)))
-        (Calls.hear-walk (worker-with host (now (masks .entry)) (now (deals .entry))) (state-of s) heard
-        (found (steps-from 32 (at .gate) (drop (s .order) (job-gates 32 (now (job .entry)) (now (table .entry)))))
-        (cursor (s .order) (s .turn) (at .a) b (at .deals)))) ⌝ }
+        (Calls.hear-walk (worker-with host (now (masks .entry)) (now (deals .entry)))
+        (state-with (now (m .entry)) (now (mask .entry)) order turn) heard
+        (found (steps-from 32 (at .gate) (drop order (job-gates 32 (now (job .entry)) (now (table .entry)))))
+        (cursor order turn (at .a) b (at .deals)))) ⌝ }
 {
-    let order = s.order;
-    let turn = s.turn + 1;
-    // The state stands at a gate, so that there is always one.
-    let Fetched::At { gate: g } = fetch(order_at(job, order as usize), table, at.gate) else {
-        return refused(8, 0, s);
-    };
-    let mut m = s.m;
-    let mut mask = s.mask;
-    meet(host, g, masks, deals, at, b, heard, &mut m, &mut mask);
-    let next = State {
-        m,
-        mask,
-        order,
-        turn,
-    };
+    let p = piece_at(order_at(job, order as usize), table, at.gate);
+    let g = gate_at(p, table, p.from);
+    meet(host, g, masks, deals, at, b, heard, m, mask);
+    let next = behind(used_by(g), at);
     advance(
         host,
         job,
         table,
         masks,
         deals,
+        m,
+        mask,
+        order,
+        turn + 1,
         next,
-        behind(used_by(g), at),
         b + 1,
     )
 }
@@ -108,33 +119,42 @@ impl State {
             (now (deals .entry)))
             (state-of self) heard ⌝ }
     {
-        let s = self;
-        let order = s.order as usize;
+        let order = self.order as usize;
         let lent = check_lent(host, job, table, masks, deals, order);
         if lent.number != 0 {
-            return refused(lent.number, lent.index, s);
+            return refused(lent.number, lent.index, self);
         }
-        let turn = s.turn as usize;
         let n = job.len() / 4;
         if n <= order {
-            return refused(end_fault(order, n, s.turn), 0, s);
+            return refused(end_fault(order, n, self.turn), 0, self);
         }
-        match seek(order_at(job, order), table, s.turn) {
-            Sought::Nowhere => refused(8, 0, s),
-            Sought::Found {
-                gate,
-                a,
-                deals: dealt,
-            } => {
-                let used = lent.counts;
-                let at = Reach {
-                    gate,
-                    a: used.a as usize + a,
-                    deals: used.deals as usize + dealt,
-                };
-                let b = used.b as usize + turn;
-                resume(host, job, table, masks, deals, s, heard, at, b)
-            }
-        }
+        let Sought::Found {
+            gate,
+            a,
+            deals: dealt,
+        } = seek(order_at(job, order), table, self.turn)
+        else {
+            return refused(8, 0, self);
+        };
+        let used = lent.counts;
+        let at = reach_of(used, gate, a, dealt);
+        let b = used.b as usize + self.turn as usize;
+        let mut m = self.m;
+        let mut mask = self.mask;
+        let h = resume(
+            host,
+            job,
+            table,
+            masks,
+            deals,
+            &mut m,
+            &mut mask,
+            self.order,
+            self.turn,
+            heard,
+            at,
+            b,
+        );
+        answered(h.spoken, h.word, m, mask, h.order, h.turn)
     }
 }

@@ -7,6 +7,7 @@ ghost use Rattle.worker.specs.Answers.{answer-of, lanes-of};
 use crate::Answer;
 use crate::Registers;
 use crate::State;
+use crate::answering::answered;
 use crate::answering::refused;
 use crate::walk::advance;
 use call_check::check_lent;
@@ -28,24 +29,37 @@ pub fn start(
         (lent host (job-script 32 (now (job .entry)) (now (table .entry))) (now (masks .entry)) (now (deals .entry)))
         (lanes-of registers) ⌝ }
 {
-    let m = registers.m;
-    let mask = registers.mask;
-    let fresh_m = fresh(m);
-    let fresh_mask = fresh(mask);
-    let s = State {
-        m: fresh_m,
-        mask: fresh_mask,
-        order: 0,
-        turn: 0,
-    };
+    let first_m = registers.m;
+    let first_mask = registers.mask;
+    let mut m = fresh(first_m);
+    let mut mask = fresh(first_mask);
     let lent = check_lent(host, job, table, masks, deals, 0);
     if lent.number != 0 {
-        return refused(lent.number, lent.index, s);
+        let given = State {
+            m,
+            mask,
+            order: 0,
+            turn: 0,
+        };
+        return refused(lent.number, lent.index, given);
     }
     let from = Reach {
         gate: 0,
         a: 0,
         deals: 0,
     };
-    advance(host, job, table, masks, deals, s, from, 0)
+    let h = advance(
+        host,
+        job,
+        table,
+        masks,
+        deals,
+        &mut m,
+        &mut mask,
+        0,
+        0,
+        from,
+        0,
+    );
+    answered(h.spoken, h.word, m, mask, h.order, h.turn)
 }

@@ -1,27 +1,55 @@
-// A host's walk from gate to gate: within an order up to the next product or refresh, and over the orders of a job.
+// A host's walk from gate to gate: within a piece of a program up to the next product or refresh, and over the pieces
+// of the orders of a job.
 ghost use mathlib.Core.Path.{_≡_};
 ghost use Prim.Native.Nat.{_/_, _+_, _^_, _≤_, _<_};
 ghost use lib.ListN.{length, drop};
+ghost use Rattle.gates.specs.Codes.{fetched, read};
+ghost use Rattle.gates.specs.Steps.{Lane};
 ghost use Rattle.tables.specs.Table.{rows};
-ghost use Rattle.programs.specs.Orders.{program};
+ghost use Rattle.program_fetch.specs.Pieces.{piece-gates};
 ghost use Rattle.jobs.specs.Job.{job-gates};
-ghost use Rattle.worker.specs.Answers.{answer-of};
 ghost use Rattle.calls.specs.Lent.{worker-with};
 ghost use Rattle.walks.specs.Workers.{cursor};
-ghost use Rattle.walks.specs.Halts.{reported, steps-from, Walked};
+ghost use Rattle.walks.specs.Halts.{going-on, reported, steps-from, Going};
 ghost use Rattle.worker.specs.Jobs.{Sized};
-use crate::Answer;
-use crate::State;
-use crate::answering::answered;
 use gate_shape::used_by;
+use gates::GateCode;
+use gates::MUL;
+use gates::PAST;
 use gates::Used;
 use job_order::order_at;
-use program_fetch::fetch;
-use programs::Fetched;
-use programs::Order;
+use program_fetch::Piece;
+use program_fetch::gate_at;
+use program_fetch::piece_at;
 use worker_gate::Reach;
 use worker_gate::say;
 use worker_gate::step;
+
+// Where a walk through a piece stopped, and the gate there.
+struct Stop {
+    at: Reach,
+    gate: GateCode,
+}
+
+// Where a walk through a job halted: the words spoken so far, the word given, and the place.
+pub(crate) struct Halt {
+    pub spoken: u32,
+    pub word: u32,
+    pub order: u32,
+    pub turn: u32,
+}
+
+fn halted(spoken: u32, word: u32, order: u32, turn: u32) -> Halt
+    ensures { λ r. ⌜ ((m mask : Lane) →
+        going-on (r .spoken) (r .word) m mask (r .order) (r .turn) ≡ going-on spoken word m mask order turn) ⌝ }
+{
+    Halt {
+        spoken,
+        word,
+        order,
+        turn,
+    }
+}
 
 // Behind a gate at which so much is used.
 pub(crate) fn behind(used: Used, at: Reach) -> Reach
@@ -37,82 +65,99 @@ pub(crate) fn behind(used: Used, at: Reach) -> Reach
     }
 }
 
-// Up to the order's next product or refresh, where alone a mask of B is used, or past its last gate. Each gate writes
-// its one slot in place.
-fn walk_order(
+// Up to the piece's next product or refresh, or past its last gate. Each gate writes its one slot in place.
+fn walk_piece(
     host: u32,
-    o: Order,
+    p: Piece,
     table: &[u32],
     masks: &[u32],
     deals: &[u32],
     from: Reach,
     m: &mut [u32; 24],
     mask: &mut [u32; 24],
-) -> Reach
-    requires { ⌜ (length (program 32 (rows (now table)) o) ≤ 1000) × (from .gate ≤ 1000)
+) -> Stop
+    requires { ⌜ (p .end ≡ length (piece-gates 32 (rows (now table)) p)) × (p .end ≤ 50)
         × (from .a < 2 ^ 61) × (from .deals < 2 ^ 61) ⌝ }
     ensures { λ r.
-        ⌜ Walked 32 (worker-with host (now (masks .entry)) (now (deals .entry)))
-        (program 32 (rows (now (table .entry))) o)
+        ⌜ Going 32 (worker-with host (now (masks .entry)) (now (deals .entry)))
+        (piece-gates 32 (rows (now (table .entry))) p)
         (from .gate) (from .a) (from .deals) (now (m .entry), now (mask .entry))
-        (r .gate) (r .a) (r .deals) (now (m .exit), now (mask .exit)) ⌝ }
+        (r .at .gate) (r .at .a) (r .at .deals) (now (m .exit), now (mask .exit))
+        × (read (r .gate) ≡ fetched (piece-gates 32 (rows (now (table .entry))) p) (r .at .gate))
+        × (15 ≤ r .gate .op) ⌝ }
 {
     let mut at = from;
-    loop {
-        let Fetched::At { gate: g } = fetch(o, table, at.gate) else {
-            return at;
-        };
-        let used = used_by(g);
-        if used.b != 0 {
-            return at;
+    while at.gate < p.end {
+        let gate = gate_at(p, table, at.gate);
+        if MUL <= gate.op {
+            return Stop { at, gate };
         }
-        step(host, g, masks, deals, at.a, at.deals, m, mask);
-        at = behind(used, at);
+        step(host, gate, masks, deals, at.a, at.deals, m, mask);
+        at = behind(used_by(gate), at);
     }
+    let gate = GateCode {
+        op: PAST,
+        d: 0,
+        a: 0,
+        b: 0,
+        n: 0,
+    };
+    Stop { at, gate }
 }
 
-// From a place of an accepted job to the next product or refresh, or to the end: the answer there, with b words spoken
-// before.
+// From a place of an accepted job to the next product or refresh, or to the end, on the lanes in place: the halt there,
+// with b words spoken before.
 pub(crate) fn advance(
     host: u32,
     job: &[u32],
     table: &[u32],
     masks: &[u32],
     deals: &[u32],
-    s: State,
+    m: &mut [u32; 24],
+    mask: &mut [u32; 24],
+    order: u32,
+    turn: u32,
     from: Reach,
     b: usize,
-) -> Answer
+) -> Halt
     requires { ⌜ Sized 32 (now job) (now table) × (from .gate ≤ 1000)
         × (from .a < 2 ^ 40) × (from .deals < 2 ^ 40) × (b < 2 ^ 31) ⌝ }
     ensures { λ r.
-        ⌜ answer-of r
+        ⌜ going-on (r .spoken) (r .word) (now (m .exit)) (now (mask .exit)) (r .order) (r .turn)
         ≡ reported (worker-with host (now (masks .entry)) (now (deals .entry)))
-        (steps-from 32 (from .gate) (drop (s .order) (job-gates 32 (now (job .entry)) (now (table .entry)))))
-        (cursor (s .order) (s .turn) (from .a) b (from .deals)) (s .m, s .mask) ⌝ }
+        (steps-from 32 (from .gate) (drop order (job-gates 32 (now (job .entry)) (now (table .entry)))))
+        (cursor order turn (from .a) b (from .deals)) (now (m .entry), now (mask .entry)) ⌝ }
 {
     let n = job.len() / 4;
-    let mut m = s.m;
-    let mut mask = s.mask;
-    let mut order = s.order as usize;
-    let mut turn = s.turn;
+    let mut order = order as usize;
+    let mut turn = turn;
     let mut at = from;
     while order < n {
-        let o = order_at(job, order);
-        at = walk_order(host, o, table, masks, deals, at, &mut m, &mut mask);
-        if let Fetched::At { gate: g } = fetch(o, table, at.gate) {
-            let word = say(host, g, masks, deals, at, b, &m, &mask);
-            return answered(b as u32 + 1, word, m, mask, order as u32, turn);
-        }
-        let a = at.a;
-        let dealt = at.deals;
-        at = Reach {
-            gate: 0,
-            a,
-            deals: dealt,
+        let p = piece_at(order_at(job, order), table, at.gate);
+        let inner = Reach {
+            gate: p.from,
+            a: at.a,
+            deals: at.deals,
         };
-        order += 1;
-        turn = 0;
+        let stop = walk_piece(host, p, table, masks, deals, inner, m, mask);
+        let reached = stop.at;
+        let g = stop.gate;
+        if g.op < PAST {
+            let word = say(host, g, masks, deals, reached, b, m, mask);
+            return halted(b as u32 + 1, word, order as u32, turn);
+        }
+        let mut gate = 0;
+        if p.last {
+            order += 1;
+            turn = 0;
+        } else {
+            gate = at.gate + (p.end - p.from);
+        }
+        at = Reach {
+            gate,
+            a: reached.a,
+            deals: reached.deals,
+        };
     }
-    answered(b as u32, 0, m, mask, order as u32, turn)
+    halted(b as u32, 0, order as u32, turn)
 }

@@ -2,7 +2,7 @@
 // what it writes when it has heard the other's.
 ghost use mathlib.Core.Path.{_≡_};
 ghost use mathlib.Core.List.{[], _∷_};
-ghost use Rattle.gates.specs.Meaning.{meaning};
+ghost use Rattle.gates.specs.Codes.{step-of};
 ghost use Rattle.gates.specs.Hosts.{on-m, on-mask};
 ghost use Rattle.calls.specs.Calls.{word-at};
 ghost use Rattle.calls.specs.Lent.{worker-with};
@@ -14,7 +14,8 @@ use gate_shape::used_by;
 use gate_speak::met_word;
 use gate_speak::word1;
 use gate_speak::word2;
-use gates::Gate;
+use gates::DEAL_SUM;
+use gates::GateCode;
 use gates::Shape;
 use word_lists::put;
 use word_lists::word_after;
@@ -41,7 +42,7 @@ fn deal_taken(host: u32, masks: &[u32], deals: &[u32], a: usize, dealt: usize) -
 // A gate at which no word is exchanged.
 pub fn step(
     host: u32,
-    g: Gate,
+    g: GateCode,
     masks: &[u32],
     deals: &[u32],
     a: usize,
@@ -50,18 +51,23 @@ pub fn step(
     mask: &mut [u32; 24],
 )
     ensures { λ r.
-        ⌜ (now (m .exit) ≡ on-m (meaning 32 g) (now (m .entry)))
+        ⌜ (now (m .exit) ≡ on-m (step-of 32 g) (now (m .entry)))
         × (now (mask .exit)
-        ≡ on-mask (meaning 32 g) (deal-taken host (now (masks .entry)) (now (deals .entry)) a dealt)
+        ≡ on-mask (step-of 32 g) (deal-taken host (now (masks .entry)) (now (deals .entry)) a dealt)
         (now (mask .entry))) ⌝ }
 {
     step_m(g, m);
+    // a local gate takes nothing
+    if g.op < DEAL_SUM {
+        step_mask(g, 0, mask);
+        return;
+    }
     step_mask(g, deal_taken(host, masks, deals, a, dealt), mask);
 }
 
 // Host 1's new mask is from A, after g1 where the gate uses two words of it, host 2's from B.
-fn new_mask(host: u32, g: Gate, masks: &[u32], a: usize, b: usize) -> u32
-    ensures { λ r. ⌜ r ≡ new-mask host (now (masks .entry)) (meaning 32 g) a b ⌝ }
+fn new_mask(host: u32, g: GateCode, masks: &[u32], a: usize, b: usize) -> u32
+    ensures { λ r. ⌜ r ≡ new-mask host (now (masks .entry)) (step-of 32 g) a b ⌝ }
 {
     let used = used_by(g).a;
     match host {
@@ -76,7 +82,7 @@ fn new_mask(host: u32, g: Gate, masks: &[u32], a: usize, b: usize) -> u32
 // The word that the host speaks at a product or refresh, with b words spoken before.
 pub fn say(
     host: u32,
-    g: Gate,
+    g: GateCode,
     masks: &[u32],
     deals: &[u32],
     at: Reach,
@@ -86,7 +92,7 @@ pub fn say(
 ) -> u32
     ensures { λ r.
         ⌜ r
-        ≡ word-at (worker-with host (now (masks .entry)) (now (deals .entry)) .say) (meaning 32 g ∷ [])
+        ≡ word-at (worker-with host (now (masks .entry)) (now (deals .entry)) .say) (step-of 32 g ∷ [])
         (cursor 0 0 (at .a) b (at .deals))
         (now (m .entry), now (mask .entry)) ⌝ }
 {
@@ -99,8 +105,8 @@ pub fn say(
 }
 
 // Host 1's word and host 2's, whichever the host itself spoke.
-fn sum_of(host: u32, g: Gate, own: u32, heard: u32) -> u32
-    ensures { λ r. ⌜ r ≡ sum-of host (meaning 32 g) own heard ⌝ }
+fn sum_of(host: u32, g: GateCode, own: u32, heard: u32) -> u32
+    ensures { λ r. ⌜ r ≡ sum-of host (step-of 32 g) own heard ⌝ }
 {
     if host == 1 {
         met_word(g, own, heard)
@@ -113,7 +119,7 @@ fn sum_of(host: u32, g: Gate, own: u32, heard: u32) -> u32
 // its new mask.
 pub fn meet(
     host: u32,
-    g: Gate,
+    g: GateCode,
     masks: &[u32],
     deals: &[u32],
     at: Reach,
@@ -124,7 +130,7 @@ pub fn meet(
 )
     ensures { λ r.
         ⌜ (now (m .exit), now (mask .exit))
-        ≡ heard-at (worker-with host (now (masks .entry)) (now (deals .entry))) (meaning 32 g)
+        ≡ heard-at (worker-with host (now (masks .entry)) (now (deals .entry))) (step-of 32 g)
         (cursor 0 0 (at .a) b (at .deals))
         (now (m .entry), now (mask .entry)) heard ⌝ }
 {

@@ -1,60 +1,21 @@
-use Rattle.gates.specs.Meaning.{meaning}
-use Rattle.gates.specs.Speech.{shape}
-use Rattle.gates.proofs.Others.{alone}
-use borrow.Author.Needs.{needs}
+use Rattle.gate_shape.proofs.Shapes.{as-local, as-deal, as-product, as-refresh, as-past}
 use Rattle.gate_shape.proofs.shape_of.Statement.{statement}
 use Rattle.gate_shape.proofs.shape_of.Tie as tie
 
-enum-known-g : tie.Need-enum-known-g
-enum-known-g c = search needs
-
-enum-known-g-2 : tie.Need-enum-known-g-2
-enum-known-g-2 c = search needs
-
-enum-known-g-3 : tie.Need-enum-known-g-3
-enum-known-g-3 c = search needs
-
-enum-known-g-4 : tie.Need-enum-known-g-4
-enum-known-g-4 c = search needs
-
-enum-known-g-5 : tie.Need-enum-known-g-5
-enum-known-g-5 c = search needs
-
 returns : tie.Need-returns
-unfolding meaning shape
-returns c = rw (c .before .g .given .1)
+returns c = as-local 32 (c .before .args .g) (c .if1 .taken)
 
 returns-2 : tie.Need-returns-2
-unfolding meaning shape
-returns-2 c = rw (c .before .g2 .given .1)
+returns-2 c = as-deal 32 (c .before .before .args .g) (c .before .if1 .left) (c .if2 .taken)
 
 returns-3 : tie.Need-returns-3
-unfolding meaning shape
-returns-3 c = rw (c .before .g3 .given .1)
+returns-3 c = as-product 32 (c .before .before .before .args .g) (c .before .if2 .left) (c .if3 .taken)
 
 returns-4 : tie.Need-returns-4
-unfolding meaning shape
-returns-4 c = rw (c .before .g4 .given .1)
+returns-4 c = as-refresh 32 (c .before .before .before .before .args .g) (c .if4 .taken)
 
 returns-5 : tie.Need-returns-5
-unfolding meaning shape
-returns-5 c = rw (c .before .g5 .given .1)
-
-returns-6 : tie.Need-returns-6
-returns-6 c = alone 32 (c .before .args .g) (c .match .keys6)
+returns-5 c = as-past 32 (c .before .before .before .before .args .g) (c .before .if3 .left) (c .if4 .left)
 
 pub shape-of-spec : {M : Type 1} → statement M
-shape-of-spec =
-    tie.close
-    (tie.spec
-    enum-known-g
-    enum-known-g-2
-    enum-known-g-3
-    enum-known-g-4
-    enum-known-g-5
-    returns
-    returns-2
-    returns-3
-    returns-4
-    returns-5
-    returns-6)
+shape-of-spec = tie.close (tie.spec returns returns-2 returns-3 returns-4 returns-5)

@@ -1,4 +1,4 @@
-use Rattle.gates.specs.Meaning.{meaning}
+use Rattle.gates.specs.Codes.{step-of}
 use Rattle.gates.specs.declared.Shape.the-variants.{Local, Dealing, Product, Refreshing}
 use Rattle.gate_shape.proofs.Uses.{used-there}
 use borrow.Author.Needs.{needs}
@@ -21,19 +21,19 @@ enum-told-4 : tie.Need-enum-told-4
 enum-told-4 c = search needs
 
 returns : tie.Need-returns
-returns c = used-there (meaning 32 (c .before .before .before .args .g)) _ Local (c .before .before .shape-of .ensures)
+returns c = used-there (step-of 32 (c .before .before .before .args .g)) _ Local (c .before .before .shape-of .ensures)
     (c .enum-told .given .1)
 
 returns-2 : tie.Need-returns-2
-returns-2 c = used-there (meaning 32 (c .before .before .before .args .g)) _ (Dealing _) (c .before .before .shape-of .ensures)
+returns-2 c = used-there (step-of 32 (c .before .before .before .args .g)) _ (Dealing _) (c .before .before .shape-of .ensures)
     (c .enum-told2 .given .1)
 
 returns-3 : tie.Need-returns-3
-returns-3 c = used-there (meaning 32 (c .before .before .before .args .g)) _ (Product _) (c .before .before .shape-of .ensures)
+returns-3 c = used-there (step-of 32 (c .before .before .before .args .g)) _ (Product _) (c .before .before .shape-of .ensures)
     (c .enum-told3 .given .1)
 
 returns-4 : tie.Need-returns-4
-returns-4 c = used-there (meaning 32 (c .before .before .before .args .g)) _ (Refreshing _) (c .before .before .shape-of .ensures)
+returns-4 c = used-there (step-of 32 (c .before .before .before .args .g)) _ (Refreshing _) (c .before .before .shape-of .ensures)
     (c .enum-told4 .given .1)
 
 pub used-by-spec : {M : Type 1} → statement M

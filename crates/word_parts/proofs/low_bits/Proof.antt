@@ -1,6 +1,6 @@
 use mathlib.Core.Path.{sym}
 use native.Mathlib.Omega.{arith}
-use Rattle.gates.proofs.Floors.{ones-positive, low-masked, low-whole}
+use Rattle.word_parts.proofs.Floors.{ones-positive, low-masked, low-whole}
 use borrow.Author.Needs.{needs}
 use Rattle.word_parts.proofs.low_bits.Statement.{statement}
 use Rattle.word_parts.proofs.low_bits.Tie as tie

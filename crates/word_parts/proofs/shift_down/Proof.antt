@@ -1,7 +1,7 @@
 use mathlib.Core.Path.{refl, sym}
 use native.Mathlib.Omega.{arith}
 use Rattle.words.specs.Words.{shr}
-use Rattle.gates.proofs.Floors.{shr-past}
+use Rattle.word_parts.proofs.Floors.{shr-past}
 use borrow.Author.Needs.{needs}
 use Rattle.word_parts.proofs.shift_down.Statement.{statement}
 use Rattle.word_parts.proofs.shift_down.Tie as tie

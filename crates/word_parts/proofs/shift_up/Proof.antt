@@ -1,6 +1,6 @@
 use mathlib.Core.Path.{refl, sym}
 use Rattle.words.specs.Words.{shl}
-use Rattle.gates.proofs.Floors.{shl-past}
+use Rattle.word_parts.proofs.Floors.{shl-past}
 use borrow.Author.Needs.{needs}
 use Rattle.word_parts.proofs.shift_up.Statement.{statement}
 use Rattle.word_parts.proofs.shift_up.Tie as tie

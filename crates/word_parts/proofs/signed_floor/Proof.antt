@@ -1,6 +1,6 @@
 use mathlib.Core.Path.{_∙_}
 use native.Mathlib.Omega.{arith}
-use Rattle.gates.proofs.Floors.{floor-positive, floor-negative}
+use Rattle.word_parts.proofs.Floors.{floor-positive, floor-negative}
 use borrow.Author.Needs.{needs}
 use Rattle.word_parts.proofs.signed_floor.Statement.{statement}
 use Rattle.word_parts.proofs.signed_floor.Tie as tie

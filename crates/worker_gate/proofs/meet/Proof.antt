@@ -1,6 +1,6 @@
 use mathlib.Core.Path.{_≡_, _∙_}
 use denote.Ref.{now}
-use Rattle.gates.specs.Meaning.{meaning}
+use Rattle.gates.specs.Codes.{step-of}
 use Rattle.gates.specs.declared.Shape.{Shape}
 use Rattle.gates.specs.declared.Shape.the-variants.{Local, Dealing, Product, Refreshing}
 use Rattle.walks.specs.Workers.{cursor, heard-at}
@@ -14,11 +14,11 @@ use Rattle.calls.specs.Lent.{worker-with}
 at-shape : (c : tie.After-shape-of) (t : Shape) → c .shape-of .result ≡ t
     → let a = c .before .before .before .before .before .before .before .before .args in
     heard-by t (c .before .sum-of .result) (c .before .before .new-mask .result) (now (a .m), now (a .mask))
-    ≡ heard-at (worker-with (a .host) (now (a .masks)) (now (a .deals))) (meaning 32 (a .g))
+    ≡ heard-at (worker-with (a .host) (now (a .masks)) (now (a .deals))) (step-of 32 (a .g))
     (cursor 0 0 (a .at .a) (a .b) (a .at .deals)) (now (a .m), now (a .mask)) (a .heard)
 at-shape c t e =
     let a = c .before .before .before .before .before .before .before .before .args in
-    hears (now (a .masks)) (now (a .deals)) (a .at .a) (a .b) (a .at .deals) (now (a .m)) (now (a .mask)) (a .host) (meaning 32 (a .g))
+    hears (now (a .masks)) (now (a .deals)) (a .at .a) (a .b) (a .at .deals) (now (a .m)) (now (a .mask)) (a .host) (step-of 32 (a .g))
     _ (a .heard) _ _ _
     (c .shape-of .ensures) (c .before .before .before .say .ensures) (c .before .before .new-mask .ensures) (c .before .sum-of .ensures) t e
 

@@ -1,6 +1,6 @@
 use mathlib.Core.Path.{_∙_}
 use denote.Ref.{now}
-use Rattle.gates.specs.Meaning.{meaning}
+use Rattle.gates.specs.Codes.{step-of}
 use Rattle.walks.proofs.Workers.{says-1, says-2}
 use borrow.Author.Needs.{needs}
 use Rattle.worker_gate.proofs.say.Statement.{statement}
@@ -26,7 +26,7 @@ returns c =
     let n = c .before .before .before in
     let a = n .before .before .before .args in
     c .word1 .ensures
-    ∙ says-1 (now (a .masks)) (now (a .deals)) (a .at .a) (a .b) (a .at .deals) (now (a .m)) (now (a .mask)) (a .host) (meaning 32 (a .g))
+    ∙ says-1 (now (a .masks)) (now (a .deals)) (a .at .a) (a .b) (a .at .deals) (now (a .m)) (now (a .mask)) (a .host) (step-of 32 (a .g))
     _ _ (n .new-mask .ensures) (c .before .word-at .ensures) (c .before .before .if1 .taken)
 
 returns-2 : tie.Need-returns-2
@@ -34,7 +34,7 @@ returns-2 c =
     let n = c .before .before .before in
     let a = n .before .before .before .args in
     c .word2 .ensures
-    ∙ says-2 (now (a .masks)) (now (a .deals)) (a .at .a) (a .b) (a .at .deals) (now (a .m)) (now (a .mask)) (a .host) (meaning 32 (a .g))
+    ∙ says-2 (now (a .masks)) (now (a .deals)) (a .at .a) (a .b) (a .at .deals) (now (a .m)) (now (a .mask)) (a .host) (step-of 32 (a .g))
     _ _ (n .new-mask .ensures) (c .before .word-at2 .ensures) (c .before .before .if1 .left)
 
 pub say-spec : {M : Type 1} → statement M

@@ -1,60 +1,124 @@
 use mathlib.Core.Path.{_≡_, refl}
-use Prim.Native.Nat.{_+_, _*_, _-_, _/_, _≤_}
+use Prim.Native.Nat.{_/_, _<_}
 use native.Mathlib.Omega.{arith}
 use borrow.Author.Needs.{needs}
 use denote.Ref.{now}
 use lib.ListN.{length}
 use Rattle.jobs.specs.Job.{steps-of}
 use Rattle.walks.specs.Dealers.{dealer, outset}
-use Rattle.walks.proofs.Preparing.{Midway, begins}
-use Rattle.dealer.proofs.Orders.{orders-left, order-room, order-done, job-done}
+use Rattle.walks.proofs.Preparing.{Midway}
+use Rattle.program_fetch.proofs.Stands.{piece-stands}
+use Rattle.program_fetch.proofs.PieceSteps.{still-within}
+use Rattle.dealer.proofs.Orders.{left, job-begins, job-done, fewer-orders, fewer-gates, piece-room, order-done, piece-done}
+use Rattle.dealer.proofs.Orders.{few-gates}
 use Rattle.dealer.proofs.preparing.deal_job.Statement.{statement}
 use Rattle.dealer.proofs.preparing.deal_job.Tie as tie
 
 abbrev Inv-loop : tie.InvT-loop
-Inv-loop job table a b l1₀ l2₀ deals₀ n used₀ o₀ l1 l2 deals used o =
+Inv-loop job table a b l1₀ l2₀ deals₀ n used₀ o₀ gate₀ l1 l2 deals used o gate =
     (n ≡ length job / 4)
-    × Midway a b (steps-of 32 job table) (orders-left 32 a b job table o) (outset l1₀ l2₀ deals₀) (dealer used l1 l2 deals)
+    × Midway a b (steps-of 32 job table) (left 32 a b job table o gate) (outset l1₀ l2₀ deals₀) (dealer used l1 l2 deals)
 
 abbrev μ-loop : tie.MeasureT-loop
-μ-loop job table a b l1₀ l2₀ deals₀ n used₀ o₀ l1 l2 deals used o = n - o
+μ-loop job table a b l1₀ l2₀ deals₀ n used₀ o₀ gate₀ l1 l2 deals used o gate = length (left 32 a b job table o gate)
 
 loop-holds : tie.Need-loop-holds Inv-loop μ-loop
 loop-holds c =
-    let s = c .before .before .before .before .before .args in
-    let s₀ = outset (now (s .l1)) (now (s .l2)) (now (s .deals)) in (
+    let e = c .before .before .before .before .before in
+    let s = e .args in (
       refl,
-      begins (now (s .a)) (now (s .b)) (steps-of 32 (now (s .job)) (now (s .table))) s₀
-          (c .before .before .before .before .before .pre),
+      job-begins 32 (now (s .a)) (now (s .b)) (now (s .job)) (now (s .table)) (outset (now (s .l1)) (now (s .l2)) (now (s .deals)))
+          (e .pre),
     )
 
 order-at-requires : tie.Need-order-at-requires Inv-loop μ-loop
 order-at-requires c κs = search needs
 
-deal-order-requires : tie.Need-deal-order-requires Inv-loop μ-loop
-deal-order-requires c κs =
-    let s = c .before .before .before .before .before .before .before .before .before .before .before .args in
-    let l = c .before .before .before .before .before .loop in
-    let fit : l .o * 4 + 4 ≤ length (now (s .job)) = omega arith in
-    order-room 32 (now (s .a)) (now (s .b)) (now (s .job)) (now (s .table)) (l .o) (outset (now (s .l1)) (now (s .l2)) (now (s .deals)))
-    (dealer (l .used) (l .l1) (l .l2) (l .deals)) (l .inv .1) fit _ (c .before .before .before .order-at .ensures)
+piece-at-requires : tie.Need-piece-at-requires Inv-loop μ-loop
+piece-at-requires c κs = search needs
+
+deal-piece-requires : tie.Need-deal-piece-requires Inv-loop μ-loop
+deal-piece-requires c κs =
+    let p = c .before .before .before in
+    let s = p .before .before .before .before .before .before .before .before .before .args in
+    let l = p .before .before .before .loop in
+    let n : l .o < length (now (s .job)) / 4 = omega (arith, p .before .before .loop-test .taken, l .inv .0) in (
+      piece-stands (p .piece-at .ensures) .end,
+      piece-room 32 (now (s .a)) (now (s .b)) (now (s .job)) (now (s .table)) (l .o) (l .gate) n _ (p .before .order-at .ensures)
+          _ (piece-stands (p .piece-at .ensures))
+          (outset (now (s .l1)) (now (s .l2)) (now (s .deals))) (dealer (l .used) (l .l1) (l .l2) (l .deals)) (l .inv .1),
+    )
+
+-- ---- behind a last piece
 
 add-o : tie.Need-add-o Inv-loop μ-loop
-add-o c = omega arith
+add-o c =
+    let p = c .before .before .before .before .before .before .before in
+    let e = p .before .before .before .before .before .before .before .before .before in
+    omega (arith, p .before .before .loop-test .taken, p .before .before .before .loop .inv .0, e .good .0)
 
 loop-less : tie.Need-loop-less Inv-loop μ-loop
-loop-less c = omega arith
+loop-less c =
+    let p = c .before .before .before .before .before .before .before in
+    let s = p .before .before .before .before .before .before .before .before .before .args in
+    let l = p .before .before .before .loop in
+    let n : l .o < length (now (s .job)) / 4 = omega (arith, p .before .before .loop-test .taken, l .inv .0) in
+    fewer-orders 32 (now (s .a)) (now (s .b)) (now (s .job)) (now (s .table)) (l .o) (l .gate) n _ (p .before .order-at .ensures)
+    _ (piece-stands (p .piece-at .ensures)) (c .if1 .taken)
 
 loop-again : tie.Need-loop-again Inv-loop μ-loop
 loop-again c =
-    let s = c .before .before .before .before .before .before .before .before .before .before .before .before .before .before .args in
-    let l = c .before .before .before .before .before .before .before .before .loop in
-    let fit : l .o * 4 + 4 ≤ length (now (s .job)) = omega arith in (
+    let p = c .before .before .before .before .before .before .before in
+    let s = p .before .before .before .before .before .before .before .before .before .args in
+    let l = p .before .before .before .loop in
+    let n : l .o < length (now (s .job)) / 4 = omega (arith, p .before .before .loop-test .taken, l .inv .0) in (
       l .inv .0,
-      order-done 32 (now (s .a)) (now (s .b)) (now (s .job)) (now (s .table)) (l .o) (outset (now (s .l1)) (now (s .l2)) (now (s .deals)))
-          (dealer (l .used) (l .l1) (l .l2) (l .deals)) (l .inv .1) fit _
-          (c .before .before .before .before .before .before .order-at .ensures) _
-          (c .before .before .deal-order .ensures),
+      order-done 32 (now (s .a)) (now (s .b)) (now (s .job)) (now (s .table)) (l .o) (l .gate) n _ (p .before .order-at .ensures)
+          _ (piece-stands (p .piece-at .ensures))
+          (outset (now (s .l1)) (now (s .l2)) (now (s .deals))) (dealer (l .used) (l .l1) (l .l2) (l .deals)) (l .inv .1)
+          _ (c .before .before .before .deal-piece .ensures) (c .if1 .taken),
+    )
+
+-- ---- behind any other
+
+sub-gate : tie.Need-sub-gate Inv-loop μ-loop
+sub-gate c =
+    let p = c .before .before .before .before .before .before .before .before in
+    omega (arith, piece-stands (p .piece-at .ensures) .some (c .before .if1 .left))
+
+add-gate : tie.Need-add-gate Inv-loop μ-loop
+add-gate c =
+    let p = c .before .before .before .before .before .before .before .before in
+    let e = p .before .before .before .before .before .before .before .before .before in
+    let s = e .args in
+    let l = p .before .before .before .loop in
+    let n : l .o < length (now (s .job)) / 4 = omega (arith, p .before .before .loop-test .taken, l .inv .0) in
+    let within = still-within 32 _ _ (l .gate) _ (piece-stands (p .piece-at .ensures)) (c .before .if1 .left) in
+    let few =
+    few-gates (now (s .a)) (now (s .b)) (now (s .job)) (now (s .table)) (outset (now (s .l1)) (now (s .l2)) (now (s .deals)))
+    (e .pre) (l .o) n _ (p .before .order-at .ensures) in
+    omega (arith, within, few, e .good .1 .1 .0)
+
+loop-less-2 : tie.Need-loop-less-2 Inv-loop μ-loop
+loop-less-2 c =
+    let p = c .before .before .before .before .before .before .before .before in
+    let s = p .before .before .before .before .before .before .before .before .before .args in
+    let l = p .before .before .before .loop in
+    let n : l .o < length (now (s .job)) / 4 = omega (arith, p .before .before .loop-test .taken, l .inv .0) in
+    fewer-gates 32 (now (s .a)) (now (s .b)) (now (s .job)) (now (s .table)) (l .o) (l .gate) n _ (p .before .order-at .ensures)
+    _ (piece-stands (p .piece-at .ensures)) (c .before .if1 .left)
+
+loop-again-2 : tie.Need-loop-again-2 Inv-loop μ-loop
+loop-again-2 c =
+    let p = c .before .before .before .before .before .before .before .before in
+    let s = p .before .before .before .before .before .before .before .before .before .args in
+    let l = p .before .before .before .loop in
+    let n : l .o < length (now (s .job)) / 4 = omega (arith, p .before .before .loop-test .taken, l .inv .0) in (
+      l .inv .0,
+      piece-done 32 (now (s .a)) (now (s .b)) (now (s .job)) (now (s .table)) (l .o) (l .gate) n _ (p .before .order-at .ensures)
+          _ (piece-stands (p .piece-at .ensures))
+          (outset (now (s .l1)) (now (s .l2)) (now (s .deals))) (dealer (l .used) (l .l1) (l .l2) (l .deals)) (l .inv .1)
+          _ (c .before .before .before .before .deal-piece .ensures) (c .before .if1 .left),
     )
 
 same-length : tie.Need-same-length Inv-loop μ-loop
@@ -64,9 +128,9 @@ returns : tie.Need-returns Inv-loop μ-loop
 returns c =
     let s = c .before .before .before .before .before .before .before .args in
     let l = c .before .loop in
-    let e : length (now (s .job)) / 4 ≤ l .o = omega arith in
-    job-done 32 (now (s .a)) (now (s .b)) (now (s .job)) (now (s .table)) (l .o) (outset (now (s .l1)) (now (s .l2)) (now (s .deals)))
-    (dealer (l .used) (l .l1) (l .l2) (l .deals)) (l .inv .1) e
+    job-done 32 (now (s .a)) (now (s .b)) (now (s .job)) (now (s .table)) (l .o) (l .gate)
+    (outset (now (s .l1)) (now (s .l2)) (now (s .deals)))
+    (dealer (l .used) (l .l1) (l .l2) (l .deals)) (l .inv .1) (omega (arith, c .loop-test .left, l .inv .0))
 
 pub deal-job-spec : {M : Type 1} → statement M
 deal-job-spec =
@@ -76,9 +140,14 @@ deal-job-spec =
     μ-loop
     loop-holds
     order-at-requires
-    deal-order-requires
+    piece-at-requires
+    deal-piece-requires
     add-o
     loop-less
     loop-again
+    sub-gate
+    add-gate
+    loop-less-2
+    loop-again-2
     same-length
     returns)

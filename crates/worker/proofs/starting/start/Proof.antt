@@ -35,9 +35,10 @@ returns c =
 
 advance-requires : tie.Need-advance-requires
 advance-requires c κs =
-    let k = c .before .before in
+    let e = c .before .before in
+    let k = e .before .before in
     let a = k .before .before .before .before .before .before .before .before .before .args in
-    let none = ap (λ (f : Fault). f .0) (sym (k .check-lent .ensures .0)) ∙ c .if1 .left in (
+    let none = ap (λ (f : Fault). f .0) (sym (k .check-lent .ensures .0)) ∙ e .if1 .left in (
       sized (now (a .job)) (now (a .table)) (no-fault _ (job-script 32 (now (a .job)) (now (a .table))) _ _ none),
       omega arith,
       omega arith,
@@ -45,15 +46,20 @@ advance-requires c κs =
       omega arith,
     )
 
+answered-requires : tie.Need-answered-requires
+answered-requires c κs = search needs
+
 returns-2 : tie.Need-returns-2
 returns-2 c =
-    let k = c .before .before .before in
+    let e = c .before .before .before .before in
+    let k = e .before .before in
     let a = k .before .before .before .before .before .before .before .before .before .args in
     let J = now (a .job) in
     let T = now (a .table) in
-    c .advance .ensures
+    c .answered .ensures
+    ∙ c .before .advance .ensures
     ∙ started (a .host) (job-script 32 J T) (now (a .masks)) (now (a .deals)) _ _ (k .check-lent .ensures .0) (lanes-of (a .registers)) _ _
-    (k .before .before .fresh .ensures) (k .before .fresh2 .ensures) 32 (job-gates 32 J T) (job-made 32 J T) (c .before .if1 .left)
+    (k .before .before .fresh .ensures) (k .before .fresh2 .ensures) 32 (job-gates 32 J T) (job-made 32 J T) (e .if1 .left)
 
 pub start-spec : {M : Type 1} → statement M
 start-spec =
@@ -65,4 +71,5 @@ start-spec =
     refused-requires
     returns
     advance-requires
+    answered-requires
     returns-2)

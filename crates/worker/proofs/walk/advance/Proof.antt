@@ -4,166 +4,208 @@ use borrow.Author.Needs.{needs}
 use native.Mathlib.Omega.{arith}
 use Prim.Native.Nat.{_*_, _/_, _+_, _-_, _^_, _<_, _≤_}
 use lib.ListN.{length, drop}
+use Rattle.tables.specs.Table.{rows}
 use Rattle.jobs.specs.Job.{job-gates}
 use Rattle.walks.specs.Workers.{cursor}
 use Rattle.walks.specs.Halts.{steps-from, reported}
-use Rattle.walks.proofs.Programs.{finished, halted, next-program}
+use Rattle.walks.proofs.Programs.{finished}
+use Rattle.program_fetch.proofs.Stands.{piece-stands}
+use Rattle.program_fetch.proofs.PieceSteps.{still-within}
 use Rattle.jobs.proofs.Indices.{order-there, gates-over}
 use Rattle.worker.proofs.Jobs.{short-order}
+use Rattle.worker.proofs.Pieces.{few-used, at-exchange, next-piece, next-order}
 use Rattle.worker.proofs.walk.advance.Statement.{statement}
 use Rattle.worker.proofs.walk.advance.Tie as tie
 use Rattle.calls.specs.Lent.{worker-with}
 
 abbrev Inv-loop : tie.InvT-loop
-Inv-loop host job table masks deals b n m₀ mask₀ order₀ turn₀ at₀ m mask order turn at =
-    (n ≡ length job / 4) × (at .gate ≤ 1000) × (order < 2 ^ 32) × (at .a ≤ 2 ^ 40 + 1000 * order) × (at .deals ≤ 2 ^ 40 + 1000 * order)
-    × (reported (worker-with host masks deals) (steps-from 32 (at .gate) (drop order (job-gates 32 job table)))
-    (cursor order turn (at .a) b (at .deals)) (m, mask)
+Inv-loop host job table masks deals m₀ mask₀ order turn b n order₀ turn₀ at₀ m mask order' turn' at =
+    (n ≡ length job / 4) × (at .gate ≤ 1000) × (order' < 2 ^ 32)
+    × (at .a ≤ 2 ^ 40 + 2000 * order' + at .gate) × (at .deals ≤ 2 ^ 40 + 2000 * order' + at .gate)
+    × (reported (worker-with host masks deals) (steps-from 32 (at .gate) (drop order' (job-gates 32 job table)))
+    (cursor order' turn' (at .a) b (at .deals)) (m, mask)
     ≡ reported (worker-with host masks deals) (steps-from 32 (at₀ .gate) (drop order₀ (job-gates 32 job table)))
     (cursor order₀ turn₀ (at₀ .a) b (at₀ .deals)) (m₀, mask₀))
 
+-- the gates left of the order, and those of the orders left
 abbrev μ-loop : tie.MeasureT-loop
-μ-loop host job table masks deals b n m₀ mask₀ order₀ turn₀ at₀ m mask order turn at = n - order
-
-cast-order : tie.Need-cast-order Inv-loop μ-loop
-cast-order c = search needs
+μ-loop host job table masks deals m₀ mask₀ order turn b n order₀ turn₀ at₀ m mask order' turn' at =
+    1001 * (n - order') + (1000 - at .gate)
 
 loop-holds : tie.Need-loop-holds Inv-loop μ-loop
 loop-holds c =
-    let p = c .before .before .before .before .before .before .before .pre in
-    (refl, p .1, omega (arith, c .struct-known .given), omega (arith, p), omega (arith, p), refl)
+    let s = c .before .before .before .before in
+    let p = s .pre in
+    (refl, p .1, omega (arith, s .fits .order), omega (arith, p), omega (arith, p), refl)
 
 order-at-requires : tie.Need-order-at-requires Inv-loop μ-loop
 order-at-requires c κs = search needs
 
-walk-order-requires : tie.Need-walk-order-requires Inv-loop μ-loop
-walk-order-requires c κs =
-    let t = c .before .before .before .before in
-    let l = t .loop in
-    let a = t .before .before .before .before .before .before .before .before .args in
-    let p = t .before .before .before .before .before .before .before .before .pre in
-    let h : l .order < length (now (a .job)) / 4 = omega (arith, c .before .before .before .loop-test .taken, l .inv .0) in (
-      short-order 32 (now (a .job)) (now (a .table)) (p .0) (l .order) h _ (c .before .before .order-at .ensures),
-      l .inv .1,
-      omega (arith, l .inv .3, h, p .0 .few-words),
-      omega (arith, l .inv .4, h, p .0 .few-words),
-    )
+piece-at-requires : tie.Need-piece-at-requires Inv-loop μ-loop
+piece-at-requires c κs = search needs
 
-fetch-requires : tie.Need-fetch-requires Inv-loop μ-loop
-fetch-requires c κs = search needs
+-- the order's place in the job
+in-job : (c : tie.In-loop Inv-loop μ-loop)
+    → c .before .loop .order < length (now (c .before .before .before .before .before .before .args .job)) / 4
+in-job c = omega (arith, c .loop-test .taken, c .before .loop .inv .0)
 
-enum-known-g : tie.Need-enum-known-g Inv-loop μ-loop
-enum-known-g c = search needs
+walk-piece-requires : tie.Need-walk-piece-requires Inv-loop μ-loop
+walk-piece-requires c κs =
+    let d = c .before .before in
+    let k = d .before .before in
+    let l = k .before .loop .inv in
+    let p = k .before .before .before .before .before .before .pre in
+    let S = piece-stands (d .piece-at .ensures) in
+    let h = in-job k in
+    (S .end, S .few, omega (arith, l .1, l .3, h, p .0 .few-words), omega (arith, l .1, l .4, h, p .0 .few-words))
 
 say-requires : tie.Need-say-requires Inv-loop μ-loop
-say-requires c κs =
-    let t = c .before .before .before .before .before .before .before .before .before .before .before in
-    let l = t .loop in
-    let a = t .before .before .before .before .before .before .before .before .args in
-    let p = t .before .before .before .before .before .before .before .before .pre in
-    let d = c .before .before .before .before .before .before in
-    let q = d .walk-order .ensures .going in
-    let h : l .order < length (now (a .job)) / 4 = omega (arith, d .before .before .before .before .loop-test .taken, l .inv .0) in
-    let short = short-order 32 (now (a .job)) (now (a .table)) (p .0) (l .order) h _ (d .before .before .before .order-at .ensures) in
-    omega (arith, h, q .few 1000 (l .inv .1) short, q .few-a, l .inv .3, p .0 .few-words)
+say-requires c κs = search needs
 
-cast-answered : tie.Need-cast-answered Inv-loop μ-loop
-cast-answered c =
-    let t = c .before .before .before .before .before .before .before .before .before .before .before .before in
-    let l = t .loop in
-    let p = t .before .before .before .before .before .before .before .before .pre in
-    omega (arith, p .4)
+cast-halted : tie.Need-cast-halted Inv-loop μ-loop
+cast-halted c =
+    let l = c .before .before .before .before .before .before .before .before .before .before .before .before .before in
+    omega (arith, l .before .before .before .before .before .pre .4)
 
-add-answered : tie.Need-add-answered Inv-loop μ-loop
-add-answered c =
-    let t = c .before .before .before .before .before .before .before .before .before .before .before .before in
-    let l = t .loop in
-    let p = t .before .before .before .before .before .before .before .before .pre in
-    omega (arith, p .4)
+add-halted : tie.Need-add-halted Inv-loop μ-loop
+add-halted c =
+    let l = c .before .before .before .before .before .before .before .before .before .before .before .before .before in
+    omega (arith, l .before .before .before .before .before .pre .4)
 
-cast-answered-2 : tie.Need-cast-answered-2 Inv-loop μ-loop
-cast-answered-2 c =
-    let t = c .before .before .before .before .before .before .before .before .before .before .before .before in
-    let p = t .before .before .before .before .before .before .before .before .pre in
-    omega (arith, t .loop .inv .0, p .0 .few-words)
+cast-halted-2 : tie.Need-cast-halted-2 Inv-loop μ-loop
+cast-halted-2 c =
+    let l = c .before .before .before .before .before .before .before .before .before .before .before .before .before in
+    omega (arith, l .loop .inv .2)
 
-answered-requires : tie.Need-answered-requires Inv-loop μ-loop
-answered-requires c κs = search needs
+halted-requires : tie.Need-halted-requires Inv-loop μ-loop
+halted-requires c κs = search needs
 
 returns : tie.Need-returns Inv-loop μ-loop
 returns c =
-    let t = c .before .before .before .before .before .before .before .before .before .before .before .before .before in
-    let l = t .loop in
-    let a = t .before .before .before .before .before .before .before .before .args in
-    let p = t .before .before .before .before .before .before .before .before .pre in
+    let y = c .before in
+    let t = y .before .before .before in
+    let q = t .before .before .before .before in
+    let d = q .before .before .before in
+    let k = d .before .before in
+    let l = k .before .loop in
+    let a = k .before .before .before .before .before .before .args in
     let J = now (a .job) in
     let T = now (a .table) in
-    let f = c .before .before .before .before .before .before .before in
-    let h : l .order < length J / 4 = omega (arith, f .before .before .before .before .before .loop-test .taken, l .inv .0) in
-    let there = order-there 32 J T (l .order) h _ (f .before .before .before .before .order-at .ensures) in
-    c .answered .ensures
-    ∙ sym (halted 32 (a .host) (now (a .masks)) (now (a .deals)) (job-gates 32 J T) (l .order) (l .turn) (l .at .gate) (l .at .a) (a .b)
-    (l .at .deals) (l .m, l .mask) _ there _ _ _ _ _ (f .before .walk-order .ensures) _ (f .fetch .ensures) _ _
-    (c .before .before .before .before .before .g .given .1) (c .before .say .ensures))
+    let there = order-there 32 J T (l .order) (in-job k) _ (d .before .order-at .ensures) in
+    let r = q .walk-piece .ensures in
+    c .halted .ensures _ _
+    ∙ sym (at-exchange 32 (rows T) _ (l .at .gate) _ (piece-stands (d .piece-at .ensures)) (a .host) (now (a .masks)) (now (a .deals))
+    (job-gates 32 J T) (l .order) (l .turn) (l .at .a) (a .b) (l .at .deals) (l .m, l .mask) there _ _ _ _ _ (r .0) _ (r .1) (r .2)
+    (t .if1 .taken) _ (y .say .ensures))
     ∙ l .inv .5
-
-enum-told : tie.Need-enum-told Inv-loop μ-loop
-enum-told c = search needs
 
 add-order : tie.Need-add-order Inv-loop μ-loop
 add-order c = omega arith
+
+sub-gate : tie.Need-sub-gate Inv-loop μ-loop
+sub-gate c =
+    let d = c .before .before .before .before .before .before .before .before .before in
+    omega (arith, piece-stands (d .piece-at .ensures) .some (c .before .if2 .left))
+
+-- the gate behind a piece that is not the last, in its order
+more-gates : (c : tie.After-struct-known3 Inv-loop μ-loop)
+    → let d = c .before .before .before .before .before .before .before .before .before .before in
+    let p = d .piece-at .result in
+    (p .from < p .end) × (d .before .before .before .loop .at .gate + (p .end - p .from) ≤ 1000)
+more-gates c =
+    let e = c .before .before in
+    let d = e .before .before .before .before .before .before .before .before in
+    let k = d .before .before in
+    let s = k .before .before .before .before .before .before in
+    let a = s .args in
+    let S = piece-stands (d .piece-at .ensures) in
+    let l = k .before .loop in
+    let short = short-order 32 (now (a .job)) (now (a .table)) (s .pre .0) (l .order) (in-job k) _ (d .before .order-at .ensures) in
+    (S .some (e .if2 .left), omega (arith, still-within 32 _ _ (l .at .gate) _ S (e .if2 .left), short))
+
+add-gate : tie.Need-add-gate Inv-loop μ-loop
+add-gate c = omega (arith, more-gates c .1)
 
 loop-less : tie.Need-loop-less Inv-loop μ-loop
 loop-less c = omega arith
 
 loop-again : tie.Need-loop-again Inv-loop μ-loop
 loop-again c =
-    let t = c .before .before .before .before .before .before .before .before in
-    let l = t .loop in
-    let a = t .before .before .before .before .before .before .before .before .args in
-    let p = t .before .before .before .before .before .before .before .before .pre in
+    let q = c .before .before .before .before .before in
+    let d = q .before .before .before in
+    let k = d .before .before in
+    let l = k .before .loop in
+    let s = k .before .before .before .before .before .before in
+    let a = s .args in
     let J = now (a .job) in
     let T = now (a .table) in
-    let d = c .before .before .before in
-    let q = d .walk-order .ensures in
-    let eo = d .before .before .before .order-at .ensures in
-    let h : l .order < length J / 4 = omega (arith, d .before .before .before .before .loop-test .taken, l .inv .0) in
-    let few = q .going .few 1000 (l .inv .1) (short-order 32 J T (p .0) (l .order) h _ eo) in
+    let M = now (a .masks) in
+    let D = now (a .deals) in
+    let S = piece-stands (d .piece-at .ensures) in
+    let h = in-job k in
+    let there = order-there 32 J T (l .order) h _ (d .before .order-at .ensures) in
+    let r = q .walk-piece .ensures in
+    let f = few-used 32 (rows T) _ (l .at .gate) _ S _ _ _ _ _ _ _ _ (r .0) in
     let next =
-    next-program 32 (a .host) (now (a .masks)) (now (a .deals)) (job-gates 32 J T) (l .order) (l .turn) (l .at .gate) (l .at .a) (a .b)
-    (l .at .deals) (l .m, l .mask) _ (order-there 32 J T (l .order) h _ eo) _ _ _ _ _ q _ (c .before .before .fetch .ensures)
-    (c .enum-told .given .1) in (
+    next-order 32 (rows T) _ (l .at .gate) _ S (a .host) M D (job-gates 32 J T) (l .order) (l .turn) (l .at .a) (a .b) (l .at .deals)
+    (l .m, l .mask) there _ _ _ _ _ (r .0) _ (r .1) (c .before .if1 .left) (c .if2 .taken) in (
       l .inv .0,
       omega arith,
-      omega (arith, h, p .0 .few-words),
-      omega (arith, few, q .going .few-a, l .inv .3),
-      omega (arith, few, q .going .few-deals, l .inv .4),
+      omega (arith, h, s .pre .0 .few-words),
+      omega (arith, f, S .few, l .inv .1, l .inv .3),
+      omega (arith, f, S .few, l .inv .1, l .inv .4),
       sym next ∙ l .inv .5,
     )
 
-cast-answered-3 : tie.Need-cast-answered-3 Inv-loop μ-loop
-cast-answered-3 c =
-    let t = c .before in
-    let l = t .loop in
-    let p = t .before .before .before .before .before .before .before .before .pre in
-    omega (arith, p .4)
+loop-less-2 : tie.Need-loop-less-2 Inv-loop μ-loop
+loop-less-2 c = omega (arith, more-gates c)
 
-cast-answered-4 : tie.Need-cast-answered-4 Inv-loop μ-loop
-cast-answered-4 c = omega arith
+loop-again-2 : tie.Need-loop-again-2 Inv-loop μ-loop
+loop-again-2 c =
+    let e = c .before .before in
+    let q = e .before .before .before .before .before in
+    let d = q .before .before .before in
+    let k = d .before .before in
+    let l = k .before .loop in
+    let s = k .before .before .before .before .before .before in
+    let a = s .args in
+    let J = now (a .job) in
+    let T = now (a .table) in
+    let M = now (a .masks) in
+    let D = now (a .deals) in
+    let S = piece-stands (d .piece-at .ensures) in
+    let there = order-there 32 J T (l .order) (in-job k) _ (d .before .order-at .ensures) in
+    let r = q .walk-piece .ensures in
+    let f = few-used 32 (rows T) _ (l .at .gate) _ S _ _ _ _ _ _ _ _ (r .0) in
+    let next =
+    next-piece 32 (rows T) _ (l .at .gate) _ S (a .host) M D (job-gates 32 J T) (l .order) (l .turn) (l .at .a) (a .b) (l .at .deals)
+    (l .m, l .mask) there _ _ _ _ _ (r .0) _ (r .1) (e .before .if1 .left) (e .if2 .left) in (
+      l .inv .0,
+      more-gates c .1,
+      l .inv .2,
+      omega (arith, f, l .inv .3),
+      omega (arith, f, l .inv .4),
+      sym next ∙ l .inv .5,
+    )
 
-answered-requires-2 : tie.Need-answered-requires-2 Inv-loop μ-loop
-answered-requires-2 c κs = search needs
+cast-halted-3 : tie.Need-cast-halted-3 Inv-loop μ-loop
+cast-halted-3 c = omega (arith, c .before .before .before .before .before .before .pre .4)
+
+cast-halted-4 : tie.Need-cast-halted-4 Inv-loop μ-loop
+cast-halted-4 c = omega (arith, c .before .loop .inv .2)
+
+halted-requires-2 : tie.Need-halted-requires-2 Inv-loop μ-loop
+halted-requires-2 c κs = search needs
 
 returns-2 : tie.Need-returns-2 Inv-loop μ-loop
 returns-2 c =
-    let t = c .before .before in
-    let l = t .loop in
-    let a = t .before .before .before .before .before .before .before .before .args in
-    let p = t .before .before .before .before .before .before .before .before .pre in
+    let y = c .before in
+    let l = y .before .loop in
+    let a = y .before .before .before .before .before .before .args in
     let J = now (a .job) in
     let T = now (a .table) in
-    let over = gates-over 32 J T (l .order) (omega (arith, c .before .loop-test .left, l .inv .0)) in
-    c .answered2 .ensures
+    let over = gates-over 32 J T (l .order) (omega (arith, y .loop-test .left, l .inv .0)) in
+    c .halted2 .ensures _ _
     ∙ sym (finished 32 (a .host) (now (a .masks)) (now (a .deals)) (job-gates 32 J T) (l .order) (l .turn) (l .at .gate) (l .at .a) (a .b)
     (l .at .deals) (l .m, l .mask) over)
     ∙ l .inv .5
@@ -174,23 +216,24 @@ advance-spec =
     (tie.spec
     Inv-loop
     μ-loop
-    cast-order
     loop-holds
     order-at-requires
-    walk-order-requires
-    fetch-requires
-    enum-known-g
+    piece-at-requires
+    walk-piece-requires
     say-requires
-    cast-answered
-    add-answered
-    cast-answered-2
-    answered-requires
+    cast-halted
+    add-halted
+    cast-halted-2
+    halted-requires
     returns
-    enum-told
     add-order
+    sub-gate
+    add-gate
     loop-less
     loop-again
-    cast-answered-3
-    cast-answered-4
-    answered-requires-2
+    loop-less-2
+    loop-again-2
+    cast-halted-3
+    cast-halted-4
+    halted-requires-2
     returns-2)

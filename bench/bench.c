@@ -1,0 +1,224 @@
+/* Workloads over the engine in C. bench [-p] W N: workload W, N times, and a sum over what came out, which the
+ * crate workloads prints too. bench [-p] rehearsal: the rehearsal program, lines of standard input.
+ * -p: hears in place. */
+#include "engine.h"
+#include <stdio.h>
+#include <stdlib.h>
+#include <string.h>
+#include <unistd.h>
+
+static uint32_t A[MOST_A], B[MOST_B], D[MOST_DEALS], adds[256], curves[256];
+static const struct list table = {house, 16};
+static int in_place;
+
+struct end { struct prepared p; struct answer one, two; };
+
+static void run(struct end *e, struct list job, struct list a, struct list b, uint32_t *deals, size_t room,
+                uint32_t m0, uint32_t l1, uint32_t l2)
+{
+    uint32_t m[16] = {m0}, x[16] = {l1}, y[16] = {l2};
+    e->p = prepare(job, table, a, b, deals, room, x, y);
+    struct list d = {deals, room};
+    struct lent h1 = {job, table, a, d}, h2 = {job, table, b, d};
+    e->one = start(1, &h1, m, x);
+    e->two = start(2, &h2, m, y);
+    while (e->one.state.order < job.n / 4) {
+        uint32_t w1 = e->one.word, w2 = e->two.word;
+        if (in_place) {
+            hear_at(&e->one, 1, &h1, w2);
+            hear_at(&e->two, 2, &h2, w1);
+        } else {
+            e->one = hear(e->one.state, 1, &h1, w2);
+            e->two = hear(e->two.state, 2, &h2, w1);
+        }
+    }
+}
+
+static uint32_t preparing(struct list job, uint32_t v)
+{
+    uint32_t x[16] = {v}, y[16] = {v + 7};
+    struct prepared p = prepare(job, table, (struct list){A, MOST_A}, (struct list){B, MOST_B}, D, MOST_DEALS, x, y);
+    return p.deals + p.l1[0] + p.l2[0];
+}
+
+static uint32_t starting(uint32_t host, struct list job, uint32_t v)
+{
+    uint32_t m[16] = {v + 202}, x[16] = {v};
+    struct lent h = {job, table, host == 1 ? (struct list){A, MOST_A} : (struct list){B, MOST_B}, {D, MOST_DEALS}};
+    struct answer r = start(host, &h, m, x);
+    return r.word + r.spoken + r.state.m[0] + r.state.l[1];
+}
+
+static uint32_t running(struct list job, uint32_t v)
+{
+    struct end e;
+    run(&e, job, (struct list){A, MOST_A}, (struct list){B, MOST_B}, D, MOST_DEALS, v + v + 209, v, v + 7);
+    return e.one.state.m[0] + e.two.spoken + e.p.l1[0] + e.p.deals;
+}
+
+/* hearing at any place, named by a number: its number, index, spoken words and place */
+static uint32_t probing(uint32_t i)
+{
+    static const uint32_t job[32] = {10, 1, 0, 1, 4, 2, 0, 1, 0, 3, 1, 2, 8, 4, 2, 5,
+                                     5, 1, 2, 0, 7, 1, 2, 3, 9, 1, 1, 0, 6, 2, 2, 4};
+    struct state s;
+    for (int j = 0; j < 24; j++)
+        s.m[j] = i, s.l[j] = 7;
+    s.order = i / 4 % 10;
+    s.turn = i / 40 % 260;
+    struct lent h = {{job, 32}, table, {A, i / 10400 % 300}, {D, i / 20800 % 200}};
+    struct answer r = {.state = s};
+    if (in_place)
+        hear_at(&r, i % 4, &h, 5);
+    else
+        r = hear(s, i % 4, &h, 5);
+    return (r.number + r.index * 1000) * 65537 + r.spoken * 257 + r.state.order * 31 + r.state.turn;
+}
+
+static uint32_t once(int w, uint32_t x)
+{
+    static const uint32_t job[4] = {10, 0, 0, 0};
+    struct list one = {job, 4}, add64 = {adds, 256}, curve64 = {curves, 256};
+    switch (w) {
+    case 1: return preparing(one, x);
+    case 2: return starting(1, one, x);
+    case 3: return starting(2, one, x);
+    case 4: return running(one, x);
+    case 5: return preparing(add64, x) + starting(1, add64, x) + starting(2, add64, x);
+    case 6: return running(curve64, x);
+    case 7: return probing(x);
+    case 8: return preparing(curve64, x);
+    }
+    return 0;
+}
+
+/* ---- the rehearsal */
+
+static char out[1 << 16];
+static size_t out_n;
+
+static void flush(void)
+{
+    for (size_t i = 0; i < out_n;) {
+        ssize_t k = write(1, out + i, out_n - i);
+        if (k <= 0)
+            exit(1);
+        i += (size_t)k;
+    }
+    out_n = 0;
+}
+
+static void number(int64_t z)
+{
+    char t[24];
+    int n = 0;
+    uint64_t u = z < 0 ? 0 - (uint64_t)z : (uint64_t)z;
+    do
+        t[n++] = (char)('0' + u % 10);
+    while (u /= 10);
+    if (z < 0)
+        t[n++] = '-';
+    out[out_n++] = ' ';
+    while (n)
+        out[out_n++] = t[--n];
+}
+
+static void refuse(int n)
+{
+    memcpy(out + out_n, "refused", 7);
+    out_n += 7;
+    number(n);
+    out[out_n++] = '\n';
+}
+
+static void line(const char *s, size_t n)
+{
+    int64_t v = 0;
+    if (n > 64 || n < 3 || (s[0] != 'E' && s[0] != 'S') || s[1] != ' ') {
+        refuse(0);
+        return;
+    }
+    int minus = s[2] == '-';
+    size_t i = 2 + (size_t)minus;
+    if (n == i || n - i > 10) {
+        refuse(0);
+        return;
+    }
+    for (; i < n; i++) {
+        if (s[i] < '0' || s[i] > '9') {
+            refuse(0);
+            return;
+        }
+        v = v * 10 + (s[i] - '0');
+    }
+    if (minus)
+        v = -v;
+    if (v < -1073741824 || v > 1073741823) {
+        refuse(11);
+        return;
+    }
+    uint32_t a[236], b[108], d[128], l1 = FACTOR_A, l2 = FACTOR_B, job[4] = {10, 0, 0, s[0] == 'S'};
+    for (uint32_t j = 0; j < 236; j++)
+        a[j] = FACTOR_A * (j + 2);
+    for (uint32_t j = 0; j < 108; j++)
+        b[j] = FACTOR_B * (j + 2);
+    struct end e;
+    run(&e, (struct list){job, 4}, (struct list){a, 236}, (struct list){b, 108}, d, 128, (uint32_t)v + l1 + l2, l1, l2);
+    if (e.one.state.m[0] != e.two.state.m[0] || e.one.state.l[0] != e.p.l1[0] || e.two.state.l[0] != e.p.l2[0]) {
+        refuse(10);
+        return;
+    }
+    out[out_n++] = s[0];
+    number(v);
+    number((int32_t)(e.one.state.m[0] - e.p.l1[0] - e.p.l2[0]));
+    number(e.p.deals);
+    number(e.one.spoken + e.two.spoken);
+    out[out_n++] = '\n';
+}
+
+static void rehearsal(void)
+{
+    static char in[1 << 16];
+    char s[65];
+    size_t n = 0;
+    for (ssize_t k; (k = read(0, in, sizeof in)) > 0;)
+        for (ssize_t i = 0; i < k; i++) {
+            if (in[i] == '\n') {
+                line(s, n);
+                flush(); /* a line, a write: as the Rattle program does */
+                n = 0;
+            } else if (n < 65)
+                s[n++] = in[i];
+        }
+    if (n)
+        line(s, n);
+    flush();
+}
+
+int main(int argc, char **argv)
+{
+    if (argc > 1 && !strcmp(argv[1], "-p")) {
+        in_place = 1;
+        argc--, argv++;
+    }
+    for (uint32_t j = 0; j < MOST_A; j++)
+        A[j] = FACTOR_A * (j + 2);
+    for (uint32_t j = 0; j < MOST_B; j++)
+        B[j] = FACTOR_B * (j + 2);
+    for (int i = 0; i < 256; i += 4) {
+        static const uint32_t add[4] = {0, 0, 0, 1}, curve[4] = {10, 1, 0, 0};
+        memcpy(adds + i, add, 16);
+        memcpy(curves + i, curve, 16);
+    }
+    if (argc == 2 && !strcmp(argv[1], "rehearsal")) {
+        rehearsal();
+        return 0;
+    }
+    if (argc != 3)
+        return 2;
+    uint32_t sum = 0;
+    int w = atoi(argv[1]);
+    for (long i = 0, n = atol(argv[2]); i < n; i++)
+        sum = w == 7 ? sum * 31 + once(w, (uint32_t)i) : sum + once(w, sum + (uint32_t)i);
+    printf("%u\n", sum);
+}

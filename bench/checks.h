@@ -1,0 +1,109 @@
+/* What every host does first: conditions 1 to 7 of document 01, and the counts before a place. The curve's slopes. */
+#ifndef CHECKS_H
+#define CHECKS_H
+#include "engine.h"
+
+typedef uint32_t u32;
+
+/* ---- checking: conditions 2 to 7 */
+
+struct cost { u32 deals, a, b; };
+
+static const struct cost COST[10] = {{0, 0, 0}, {0, 0, 0}, {0, 0, 0},  {0, 0, 0},    {1, 2, 1},
+                                     {0, 1, 1}, {1, 1, 0}, {3, 4, 1}, {16, 28, 12}, {14, 26, 12}};
+/* the fourth word: least, and how many values from there (0: any) */
+static const u32 LEAST[10] = {0, 0, 0, 0, 0, 0, 1, 1, 1, 0};
+static const u32 VALUES[10] = {16, 16, 0, 0, 16, 1, 31, 30, 31, 1};
+
+static inline int keeps_rules(struct list t)
+{
+    u32 least = 0;
+    if (t.n % 2 || t.n < 4 || t.n > 32)
+        return 0;
+    for (const u32 *row = t.at, *end = row + t.n; row < end; row += 2) {
+        if (row[0] < least || row[0] > 4095 || row[1] > 20000)
+            return 0;
+        least = row[0] + 1;
+    }
+    return 1;
+}
+
+struct checked { u32 number, index; struct cost whole, before; };
+
+static inline __attribute__((always_inline)) struct checked check_job(struct list job, struct list table, u32 place)
+{
+    struct checked r = {0};
+    if (job.n == 0 || job.n > 256 || job.n % 4) {
+        r.number = 2;
+        return r;
+    }
+    u32 rows = table.n / 2;
+    struct cost curve[2] = {{14 * rows + 16, 26 * rows + 28, 12 * rows + 12},
+                            {14 * rows + 3, 26 * rows + 5, 12 * rows + 2}};
+    u32 deals = 0, a = 0, b = 0, i = 0, fault;
+    int ruled = 0;
+    for (const u32 *o = job.at, *end = o + job.n; o < end; o += 4, i++) {
+        u32 kind = o[0], fourth = o[3];
+        const struct cost *c;
+        fault = 3;
+        if (kind > 10)
+            goto refused;
+        fault = 4;
+        if ((o[1] | o[2]) > 15)
+            goto refused;
+        if (kind == 10) {
+            fault = 5;
+            if (fourth > 1 || !(ruled || (ruled = keeps_rules(table))))
+                goto refused;
+            c = &curve[fourth];
+        } else {
+            fault = kind <= 4 ? 4 : 5;
+            if (VALUES[kind] && fourth - LEAST[kind] >= VALUES[kind])
+                goto refused;
+            c = &COST[kind];
+        }
+        if (i == place)
+            r.before = (struct cost){deals, a, b};
+        deals += c->deals;
+        a += c->a;
+        b += c->b;
+    }
+    r.whole = (struct cost){deals, a, b};
+    return r;
+refused:
+    r.number = fault;
+    r.index = i;
+    return r;
+}
+
+static inline __attribute__((always_inline)) struct checked check_lent(u32 host, const struct lent *l, u32 place)
+{
+    if (host != 1 && host != 2)
+        return (struct checked){.number = 1};
+    struct checked r = check_job(l->job, l->table, place);
+    if (r.number == 0) {
+        if (l->masks.n < (host == 1 ? r.whole.a : r.whole.b))
+            r.number = 6;
+        else if (host == 2 && l->deals.n < r.whole.deals)
+            r.number = 7;
+    }
+    return r;
+}
+
+/* ---- the curve's slopes */
+
+static inline int32_t slope(const u32 *row)
+{
+    int32_t rise = ((int32_t)row[3] - (int32_t)row[1]) * 4096, width = (int32_t)(row[2] - row[0]);
+    int32_t q = rise / width;
+    return q - (rise % width < 0);
+}
+
+/* The change of slope at a row: its ReLU's factor. */
+static inline u32 change(struct list t, u32 row)
+{
+    u32 after = 2 * row + 2 < t.n ? (u32)slope(t.at + 2 * row) : 0;
+    u32 before = row ? (u32)slope(t.at + 2 * row - 2) : 0;
+    return after - before;
+}
+#endif

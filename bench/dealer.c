@@ -1,0 +1,145 @@
+/* Host 0: preparation. */
+#include "checks.h"
+#include <string.h>
+
+const u32 house[16] = {200, 0, 456, 250, 712, 520, 1224, 1100, 1736, 1720, 2760, 3100, 3272, 3850, 3572, 4250};
+
+struct pair { u32 l1, l2; };
+
+struct dealer { const u32 *a, *b; u32 *d; };
+
+static inline u32 sum(struct pair x) { return x.l1 + x.l2; }
+static inline struct pair padd(struct pair x, struct pair y) { return (struct pair){x.l1 + y.l1, x.l2 + y.l2}; }
+static inline struct pair psub(struct pair x, struct pair y) { return (struct pair){x.l1 - y.l1, x.l2 - y.l2}; }
+static inline struct pair pxor(struct pair x, struct pair y) { return (struct pair){x.l1 ^ y.l1, x.l2 ^ y.l2}; }
+static inline struct pair pscale(struct pair x, u32 c) { return (struct pair){x.l1 * c, x.l2 * c}; }
+static inline struct pair pup(struct pair x, u32 d) { return (struct pair){x.l1 << d, x.l2 << d}; }
+static inline struct pair pbit(struct pair x, u32 i) { return (struct pair){x.l1 >> i & 1, x.l2 >> i & 1}; }
+
+static inline struct pair deal_number(struct dealer *p, u32 v)
+{
+    struct pair r = {*p->a, 0 - *p->a - v};
+    p->a++;
+    *p->d++ = r.l2;
+    return r;
+}
+
+static inline struct pair deal_bits(struct dealer *p, u32 v)
+{
+    struct pair r = {*p->a, *p->a ^ v};
+    p->a++;
+    *p->d++ = r.l2;
+    return r;
+}
+
+static inline struct pair fresh(struct dealer *p) { return (struct pair){*p->a++, *p->b++}; }
+
+static inline struct pair mul(struct dealer *p, struct pair x, struct pair y)
+{
+    *p->d++ = sum(x) * sum(y) - *p->a++;
+    return fresh(p);
+}
+
+static inline struct pair and(struct dealer *p, struct pair x, struct pair y)
+{
+    *p->d++ = ((x.l1 ^ x.l2) & (y.l1 ^ y.l2)) ^ *p->a++;
+    return fresh(p);
+}
+
+/* A product of a known value with a dealt one: the known one has no masks. */
+static inline struct pair known_product(struct dealer *p)
+{
+    *p->d++ = 0 - *p->a++;
+    return fresh(p);
+}
+
+static inline struct pair adder(struct dealer *p, struct pair x, struct pair *first)
+{
+    struct pair n = deal_bits(p, 0 - sum(x)), pp = n, g;
+    *p->d++ = *p->a++; /* known bits: no masks */
+    g = fresh(p);
+    for (u32 d = 1; d <= 16; d *= 2) {
+        struct pair t = and(p, pp, pup(g, d));
+        if (d < 16)
+            pp = and(p, pp, pup(pp, d));
+        g = pxor(g, t);
+    }
+    *first = n;
+    return g;
+}
+
+static inline struct pair bit_number(struct dealer *p, struct pair q)
+{
+    struct pair l = deal_number(p, q.l1 ^ q.l2);
+    return psub(l, pscale(known_product(p), 2));
+}
+
+static struct pair relu(struct dealer *p, struct pair x)
+{
+    struct pair first, g = adder(p, x, &first);
+    struct pair s = bit_number(p, pxor(pbit(first, 31), pbit(g, 30)));
+    return mul(p, x, (struct pair){0 - s.l1, 0 - s.l2});
+}
+
+static struct pair exact(struct dealer *p, struct pair x, u32 k)
+{
+    struct pair first, t = deal_number(p, (0 - sum(x)) >> k), g = adder(p, x, &first);
+    t = padd(t, bit_number(p, pbit(g, k - 1)));
+    return psub(t, pscale(bit_number(p, pbit(g, 31)), 2u << (31 - k)));
+}
+
+static struct pair one_bit(struct dealer *p, struct pair x, u32 k)
+{
+    struct pair r = deal_number(p, (sum(x) >> k) & ((1u << (31 - k)) - 1));
+    struct pair top = deal_number(p, sum(x) >> 31);
+    struct pair b = psub(top, pscale(known_product(p), 2));
+    return psub(pscale(b, 1u << (31 - k)), r);
+}
+
+static struct pair curve(struct dealer *p, struct pair x, u32 mode, struct list t)
+{
+    struct pair y = {0, 0};
+    for (u32 row = 0; row < t.n / 2; row++)
+        y = padd(y, pscale(relu(p, x), change(t, row)));
+    if (mode == 0)
+        return exact(p, y, 12);
+    return one_bit(p, fresh(p), 12);
+}
+
+struct prepared prepare(struct list job, struct list table, struct list a, struct list b, u32 *deals, size_t room,
+                        const u32 l1[16], const u32 l2[16])
+{
+    struct prepared r = {0};
+    memcpy(r.l1, l1, 64);
+    memcpy(r.l2, l2, 64);
+    struct checked c = check_job(job, table, 0);
+    r.number = c.number;
+    r.index = c.index;
+    if (c.number == 0)
+        r.number = a.n < c.whole.a || b.n < c.whole.b ? 6 : room < c.whole.deals ? 7 : 0;
+    if (r.number)
+        return r;
+    struct dealer p = {a.at, b.at, deals};
+    for (u32 i = 0; i < job.n / 4; i++) {
+        const u32 *o = job.at + 4 * i;
+        u32 f = o[3];
+        struct pair x = {r.l1[o[2]], r.l2[o[2]]}, y = {r.l1[f & 15], r.l2[f & 15]}, v;
+        switch (o[0]) {
+        case 0: v = padd(x, y); break;
+        case 1: v = psub(x, y); break;
+        case 2: v = x; break;
+        case 3: v = pscale(x, f); break;
+        case 4: v = mul(&p, x, y); break;
+        case 5: v = fresh(&p); break;
+        case 6: v = deal_number(&p, (u32)((int32_t)(0 - sum(x)) >> f)); break;
+        case 7: v = one_bit(&p, x, f); break;
+        case 8: v = exact(&p, x, f); break;
+        case 9: v = relu(&p, x); break;
+        default: v = curve(&p, x, f, table);
+        }
+        r.l1[o[1]] = v.l1;
+        r.l2[o[1]] = v.l2;
+    }
+    r.deals = (u32)(p.d - deals);
+    return r;
+}

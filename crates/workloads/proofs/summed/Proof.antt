@@ -1,0 +1,92 @@
+-- `workloads::summed` is safe and ends: each turn leaves fewer.
+use mathlib.Core.Path.{_≡_}
+use Prim.Native.Nat.{_-_}
+use lib.ListN.{length}
+use borrow.Author.Needs.{needs}
+use Rattle.workloads.proofs.summed.Statement.{statement}
+use Rattle.workloads.proofs.summed.Tie as tie
+
+abbrev Inv-loop : tie.InvT-loop
+Inv-loop w n a b deals₀ one adds curves sum₀ i₀ deals sum i = length deals ≡ 15360
+
+abbrev μ-loop : tie.MeasureT-loop
+μ-loop w n a b deals₀ one adds curves sum₀ i₀ deals sum i = n - i
+
+slice-aggregate-fill : tie.Need-slice-aggregate-fill Inv-loop μ-loop
+slice-aggregate-fill c = search needs
+
+fill-requires : tie.Need-fill-requires Inv-loop μ-loop
+fill-requires c κs = search needs
+
+slice-aggregate-fill-2 : tie.Need-slice-aggregate-fill-2 Inv-loop μ-loop
+slice-aggregate-fill-2 c = search needs
+
+fill-requires-2 : tie.Need-fill-requires-2 Inv-loop μ-loop
+fill-requires-2 c κs = search needs
+
+orders-requires : tie.Need-orders-requires Inv-loop μ-loop
+orders-requires c κs = search needs
+
+orders-requires-2 : tie.Need-orders-requires-2 Inv-loop μ-loop
+orders-requires-2 c κs = search needs
+
+loop-holds : tie.Need-loop-holds Inv-loop μ-loop
+loop-holds c = search needs
+
+slice-aggregate-once : tie.Need-slice-aggregate-once Inv-loop μ-loop
+slice-aggregate-once c = search needs
+
+slice-aggregate-once-2 : tie.Need-slice-aggregate-once-2 Inv-loop μ-loop
+slice-aggregate-once-2 c = search needs
+
+slice-aggregate-once-3 : tie.Need-slice-aggregate-once-3 Inv-loop μ-loop
+slice-aggregate-once-3 c = search needs
+
+slice-aggregate-once-4 : tie.Need-slice-aggregate-once-4 Inv-loop μ-loop
+slice-aggregate-once-4 c = search needs
+
+slice-aggregate-once-5 : tie.Need-slice-aggregate-once-5 Inv-loop μ-loop
+slice-aggregate-once-5 c = search needs
+
+slice-aggregate-once-6 : tie.Need-slice-aggregate-once-6 Inv-loop μ-loop
+slice-aggregate-once-6 c = search needs
+
+once-requires : tie.Need-once-requires Inv-loop μ-loop
+once-requires c κs = search needs
+
+add-i : tie.Need-add-i Inv-loop μ-loop
+add-i c = search needs
+
+loop-less : tie.Need-loop-less Inv-loop μ-loop
+loop-less c = search needs
+
+loop-again : tie.Need-loop-again Inv-loop μ-loop
+loop-again c = search needs
+
+returns : tie.Need-returns Inv-loop μ-loop
+returns c = search needs
+
+pub summed-spec : {M : Type 1} → statement M
+summed-spec =
+    tie.close
+    (tie.spec
+    Inv-loop
+    μ-loop
+    slice-aggregate-fill
+    fill-requires
+    slice-aggregate-fill-2
+    fill-requires-2
+    orders-requires
+    orders-requires-2
+    loop-holds
+    slice-aggregate-once
+    slice-aggregate-once-2
+    slice-aggregate-once-3
+    slice-aggregate-once-4
+    slice-aggregate-once-5
+    slice-aggregate-once-6
+    once-requires
+    add-i
+    loop-less
+    loop-again
+    returns)
