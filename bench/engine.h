@@ -1,4 +1,4 @@
-/* Document 01's engine by hand in C: the same calls and obligations as the proved engine. */
+/* Document 01's engine written by hand in C: the same calls and obligations as the proved engine. */
 #ifndef ENGINE_H
 #define ENGINE_H
 #include <stddef.h>

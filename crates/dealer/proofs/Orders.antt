@@ -16,7 +16,7 @@ use Rattle.programs.specs.Orders.{program}
 use Rattle.programs.specs.Costs.{program-cost}
 use Rattle.programs.proofs.Sizes.{few, order-cost}
 use Rattle.program_fetch.specs.declared.Piece.{Piece}
-use Rattle.program_fetch.specs.Pieces.{Stands}
+use Rattle.program_fetch.proofs.Stands.{Stands}
 use Rattle.program_fetch.proofs.PieceSteps.{piece-steps, piece-end, gates-behind, piece-cut, last-steps, more-steps, steps-count}
 use Rattle.jobs.specs.Job.{job-gates, steps-of, order-at}
 use Rattle.jobs.proofs.Indices.{order-there, gates-at, gates-over}

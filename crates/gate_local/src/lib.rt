@@ -8,9 +8,9 @@ ghost use Rattle.gates.specs.Codes.{step-of};
 use gates::ADD;
 use gates::BIT;
 use gates::CONST;
-use gates::DEAL_SUM;
+use gates::FIRST_DEAL;
+use gates::FIRST_EXCHANGE;
 use gates::GateCode;
-use gates::MUL;
 use gates::PLUS;
 use gates::PUBLIC;
 use gates::PUBLIC_SIGNED;
@@ -65,11 +65,11 @@ fn m_word(g: GateCode, m: &[u32; 24]) -> u32
 pub fn step_mask(g: GateCode, v: u32, l: &mut [u32; 24])
     ensures { λ r. ⌜ now (l .exit) ≡ on-mask (step-of 32 g) v (now (l .entry)) ⌝ }
 {
-    if g.op < DEAL_SUM {
+    if g.op < FIRST_DEAL {
         put(l, g.d, mask_word(g, l));
         return;
     }
-    if g.op < MUL {
+    if g.op < FIRST_EXCHANGE {
         put(l, g.d, v);
     }
 }
@@ -78,11 +78,11 @@ pub fn step_mask(g: GateCode, v: u32, l: &mut [u32; 24])
 pub fn step_m(g: GateCode, m: &mut [u32; 24])
     ensures { λ r. ⌜ now (m .exit) ≡ on-m (step-of 32 g) (now (m .entry)) ⌝ }
 {
-    if g.op < DEAL_SUM {
+    if g.op < FIRST_DEAL {
         put(m, g.d, m_word(g, m));
         return;
     }
-    if g.op < MUL {
+    if g.op < FIRST_EXCHANGE {
         put(m, g.d, 0);
     }
 }

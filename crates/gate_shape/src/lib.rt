@@ -4,9 +4,9 @@ ghost use mathlib.Core.Path.{_≡_};
 ghost use Rattle.gates.specs.Speech.{shape};
 ghost use Rattle.gates.specs.Codes.{step-of};
 ghost use Rattle.gates.specs.Costs.{used-at};
-use gates::DEAL_SUM;
+use gates::FIRST_DEAL;
+use gates::FIRST_EXCHANGE;
 use gates::GateCode;
-use gates::MUL;
 use gates::REFRESH;
 use gates::Shape;
 use gates::Used;
@@ -17,10 +17,10 @@ pub fn shape_of(g: GateCode) -> Shape
 {
     let op = g.op;
     let d = g.d;
-    if op < DEAL_SUM {
+    if op < FIRST_DEAL {
         return Shape::Local;
     }
-    if op < MUL {
+    if op < FIRST_EXCHANGE {
         return Shape::Dealing { d };
     }
     if op < REFRESH {

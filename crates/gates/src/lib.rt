@@ -12,7 +12,7 @@ pub struct GateCode {
     pub n: u32,
 }
 
-// The operations that each host does on its lanes alone, from here to the deals.
+// The operations that each host does on its lanes alone stand before FIRST_DEAL.
 pub const ADD: u32 = 0;
 
 pub const SUB: u32 = 1;
@@ -33,26 +33,37 @@ pub const BIT: u32 = 6;
 
 pub const CONST: u32 = 7;
 
-// A known value of hosts 1 and 2: bits of a's m, or floor(m / 2^n) of the signed m.
+// a known value of hosts 1 and 2: bits of a's m
 pub const PUBLIC: u32 = 8;
 
+// floor(m / 2^n), m signed
 pub const PUBLIC_SIGNED: u32 = 9;
 
-// The deals of host 0, from here to the exchanges: bits of L, the sum of a's masks, bits of -L, floor(-L / 2^n) of the
-// signed -L, the mask L1 xor L2 of a bit share, and -L as a bit share.
+// The deals of host 0, of a's masks L1 and L2 with the sum L, stand before FIRST_EXCHANGE.
+pub const FIRST_DEAL: u32 = DEAL_SUM;
+
+// bits of L
 pub const DEAL_SUM: u32 = 10;
 
+// bits of -L
 pub const DEAL_NEGATED: u32 = 11;
 
+// floor(-L / 2^n), -L signed
 pub const DEAL_SIGNED: u32 = 12;
 
+// a bit's mask L1 xor L2, as a number (the definitions' OfBits)
 pub const DEAL_XOR: u32 = 13;
 
+// -L, as a bit share (the definitions' DealBits)
 pub const DEAL_BITS: u32 = 14;
 
-// The exchanges: the product of two numbers, of two bit words, and the refresh.
+// At an exchange hosts 1 and 2 speak.
+pub const FIRST_EXCHANGE: u32 = MUL;
+
+// the product of two numbers
 pub const MUL: u32 = 15;
 
+// the product of two bit words
 pub const AND: u32 = 16;
 
 pub const REFRESH: u32 = 17;

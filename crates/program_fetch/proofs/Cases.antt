@@ -11,7 +11,7 @@ use Rattle.programs.specs.Programs.{y-slot, acc-slot, res-slot}
 use Rattle.programs.specs.Orders.{program}
 use Rattle.programs.specs.Sizes.{row-gates}
 use Rattle.programs.proofs.Sizes.{one-bit-number, exact-32, relu-32, row-32}
-use Rattle.program_fetch.specs.Pieces.{order-of, part, last-part, row-piece, end-piece, curve-piece, piece-at}
+use Rattle.program_fetch.specs.Pieces.{order-with, part, last-part, row-piece, end-piece, curve-piece, piece-at}
 
 less-one : (i : ℕ) → suc i - 1 ≡ i
 less-one i = omega arith
@@ -19,17 +19,17 @@ less-one i = omega arith
 -- ---- of a row
 
 module _ (x j : ℕ) where
-  pub row-starts : (i : ℕ) → i < 1 → part (order-of 11 0 x 0) j i 1 ≡ row-piece 32 x j i
+  pub row-starts : (i : ℕ) → i < 1 → part (order-with 11 0 x 0) j i 1 ≡ row-piece 32 x j i
   unfolding row-piece
   row-starts zero h = refl
   row-starts (suc i) h = absurd (omega arith)
 
-  pub row-relu : (i : ℕ) → 1 ≤ i → i - 1 < 39 → part (order-of 9 res-slot y-slot 0) j (i - 1) 39 ≡ row-piece 32 x j i
+  pub row-relu : (i : ℕ) → 1 ≤ i → i - 1 < 39 → part (order-with 9 res-slot y-slot 0) j (i - 1) 39 ≡ row-piece 32 x j i
   unfolding row-piece
   row-relu zero h l = absurd (omega arith)
   row-relu (suc i) h l = rw (less-one i, relu-32, lt-ltb i 39 (omega arith))
 
-  pub row-ends : (i : ℕ) → 1 ≤ i → 39 ≤ i - 1 → part (order-of 12 0 0 0) j (i - 1 - 39) 2 ≡ row-piece 32 x j i
+  pub row-ends : (i : ℕ) → 1 ≤ i → 39 ≤ i - 1 → part (order-with 12 0 0 0) j (i - 1 - 39) 2 ≡ row-piece 32 x j i
   unfolding row-piece
   row-ends zero h l = absurd (omega arith)
   row-ends (suc i) h l = rw (less-one i, relu-32, le-ltb i 39 (omega arith))
@@ -37,18 +37,18 @@ module _ (x j : ℕ) where
 -- ---- of a curve's truncation
 
 module _ (d : ℕ) where
-  pub end-exact : (mode i : ℕ) → mode ≡ 0 → last-part (order-of 8 d acc-slot 12) i 50 ≡ end-piece 32 mode d i
+  pub end-exact : (mode i : ℕ) → mode ≡ 0 → last-part (order-with 8 d acc-slot 12) i 50 ≡ end-piece 32 mode d i
   unfolding end-piece
   end-exact zero i h = rw exact-32
   end-exact (suc m) i h = absurd (omega arith)
 
-  pub end-refresh : (mode i : ℕ) → (mode ≡ 0 → ⊥) → i ≡ 0 → part (order-of 5 acc-slot acc-slot 0) 0 0 1 ≡ end-piece 32 mode d i
+  pub end-refresh : (mode i : ℕ) → (mode ≡ 0 → ⊥) → i ≡ 0 → part (order-with 5 acc-slot acc-slot 0) 0 0 1 ≡ end-piece 32 mode d i
   unfolding end-piece
   end-refresh zero i n h = absurd (n refl)
   end-refresh (suc m) zero n h = refl
   end-refresh (suc m) (suc i) n h = absurd (omega arith)
 
-  pub end-one-bit : (mode i : ℕ) → (mode ≡ 0 → ⊥) → (i ≡ 0 → ⊥) → last-part (order-of 7 d acc-slot 12) (i - 1) 13 ≡ end-piece 32 mode d i
+  pub end-one-bit : (mode i : ℕ) → (mode ≡ 0 → ⊥) → (i ≡ 0 → ⊥) → last-part (order-with 7 d acc-slot 12) (i - 1) 13 ≡ end-piece 32 mode d i
   unfolding end-piece
   end-one-bit zero i n h = absurd (n refl)
   end-one-bit (suc m) zero n h = absurd (h refl)
@@ -57,7 +57,7 @@ module _ (d : ℕ) where
 -- ---- of a curve
 
 module _ (n : ℕ) (o : Order) where
-  pub curve-first : (i : ℕ) → i ≡ 0 → part (order-of 10 0 0 0) 0 0 1 ≡ curve-piece 32 n o i
+  pub curve-first : (i : ℕ) → i ≡ 0 → part (order-with 10 0 0 0) 0 0 1 ≡ curve-piece 32 n o i
   unfolding curve-piece
   curve-first zero h = refl
   curve-first (suc i) h = absurd (omega arith)
@@ -85,6 +85,6 @@ module _ (ps : List Row) (o : Order) (i : ℕ) where
   unfolding piece-at
   in-curve n h e = rw (← e, le-ltb (o .kind) 10 (omega arith), eq-eqb (o .kind) 10 h)
 
-  pub in-none : 10 ≤ o .kind → (o .kind ≡ 10 → ⊥) → last-part (order-of 13 0 0 0) i 0 ≡ piece-at 32 ps o i
+  pub in-none : 10 ≤ o .kind → (o .kind ≡ 10 → ⊥) → last-part (order-with 13 0 0 0) i 0 ≡ piece-at 32 ps o i
   unfolding piece-at
   in-none h n = rw (le-ltb (o .kind) 10 h, ne-eqb (o .kind) 10 n)

@@ -18,7 +18,8 @@ use Rattle.tables.specs.Table.{Row}
 use Rattle.programs.specs.declared.Order.{Order}
 use Rattle.programs.specs.Orders.{program}
 use Rattle.program_fetch.specs.declared.Piece.{Piece}
-use Rattle.program_fetch.specs.Pieces.{piece-gates, Stands}
+use Rattle.program_fetch.specs.Pieces.{piece-gates}
+use Rattle.program_fetch.proofs.Stands.{Stands}
 
 -- ---- the code of the gate at an index
 

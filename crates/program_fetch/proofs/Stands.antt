@@ -1,6 +1,6 @@
 -- The piece of a gate holds that gate and those behind it (`Stands`): a curve's pieces at any width, every piece at 32. Assumes nothing.
 use mathlib.Core.Path.{_≡_, refl, sym, ap, ap₂, _∙_, subst}
-use mathlib.Core.Bool.{Bool, true, false, true≢false}
+use mathlib.Core.Bool.{Bool, true, false, true≢false, cond}
 use mathlib.Core.List.{List, [], _∷_, _++_, map, append-nil, append-assoc}
 use Prim.Native.Nat.{ℕ, zero, suc, _+_, _-_, _*_, _/_, _%_, _≤_, _<_}
 use native.Mathlib.Nat.{mul-comm, mod-lt, div-add-mod', le-div-iff-mul-le}
@@ -20,9 +20,18 @@ use Rattle.programs.proofs.CurveGates.{truncation, refreshed, curve-gates}
 use Rattle.programs.proofs.Sizes.{one-bit-sized, exact-sized, relu-sized, sum-sized, any-table, row-number, one-bit-number, exact-32}
 use Rattle.programs.proofs.Sizes.{relu-32}
 use Rattle.program_fetch.specs.declared.Piece.{Piece}
-use Rattle.program_fetch.specs.Pieces.{change, first-gates, row-start, row-end, piece-kinds, piece-gates, Stands, order-of, part}
+use Rattle.program_fetch.specs.Pieces.{change, first-gates, row-start, row-end, piece-kinds, piece-gates, order-with, part}
 use Rattle.program_fetch.specs.Pieces.{last-part, row-piece, end-piece, curve-piece, piece-at}
 use Rattle.program_fetch.proofs.Cuts.{Cut, at-first, behind, inside, left, row-first, row-relu, row-last, sum-row, sum-start}
+
+-- the piece p holds the gate at index i of an order's program, and all that follow it as far as the piece goes; where
+-- it is not the last one, it holds a gate at least
+pub record Stands (w : ℕ) (ps : List Row) (o : Order) (i : ℕ) (p : Piece) : Type 0 where
+  pub end : p .end ≡ length (piece-gates w ps p)
+  pub few : p .end ≤ 50
+  pub gates : drop i (program w ps o)
+      ≡ drop (p .from) (piece-gates w ps p) ++ cond (p .last) [] (drop (i + (p .end - p .from)) (program w ps o))
+  pub some : p .last ≡ false → p .from < p .end
 
 module _ (w : ℕ) (ps : List Row) (o : Order) where
   -- a part of the program that others follow
@@ -65,10 +74,10 @@ module _ (w : ℕ) (ps : List Row) (o : Order) (h : o .kind ≡ 10) where
   unfolding plus-size times-size
   sum-long = ap (λ (z : Size). z .gates) (sum-sized w (o .source) ps)
 
-  first-stands : Stands w ps o 0 (part (order-of 10 0 0 0) 0 0 1)
+  first-stands : Stands w ps o 0 (part (order-with 10 0 0 0) 0 0 1)
   unfolding piece-gates piece-kinds kinds first-gates
   first-stands =
-      part-stands w ps o 0 (order-of 10 0 0 0) 0 0 0 1
+      part-stands w ps o 0 (order-with 10 0 0 0) 0 0 0 1
       (subst (λ (l : List Gate). Cut l 0 (first-gates w ps)) (sym curve-is)
       (sum-start w (o .source) ps (truncation w (o .target) (o .fourth))))
       refl (omega arith) refl (omega arith)
@@ -83,27 +92,27 @@ module _ (w : ℕ) (ps : List Row) (o : Order) (h : o .kind ≡ 10) where
         (row-program w (o .source) (row-at ps j .r) (change w ps j)) m small
         (sum-row w (o .source) ps (truncation w (o .target) (o .fourth)) j l) c)
 
-    start-stands : Stands w ps o (1 + j * row-gates w + 0) (part (order-of 11 0 (o .source) 0) j 0 1)
+    start-stands : Stands w ps o (1 + j * row-gates w + 0) (part (order-with 11 0 (o .source) 0) j 0 1)
     unfolding piece-gates piece-kinds kinds row-start
     start-stands =
-        part-stands w ps o (1 + j * row-gates w + 0) (order-of 11 0 (o .source) 0) j (1 + j * row-gates w + 0) 0 1
+        part-stands w ps o (1 + j * row-gates w + 0) (order-with 11 0 (o .source) 0) j (1 + j * row-gates w + 0) 0 1
         (row-part 0 (row-start w ps j (o .source)) (row-first w (o .source) ps j))
         (omega arith) (omega arith) refl (omega arith)
 
     relu-stands : (i : ℕ) → i < relu-size w .gates → relu-size w .gates ≤ 50
-        → Stands w ps o (1 + j * row-gates w + suc i) (part (order-of 9 res-slot y-slot 0) j i (relu-size w .gates))
+        → Stands w ps o (1 + j * row-gates w + suc i) (part (order-with 9 res-slot y-slot 0) j i (relu-size w .gates))
     unfolding piece-gates piece-kinds kinds
     relu-stands i f m =
-        part-stands w ps o (1 + j * row-gates w + 1) (order-of 9 res-slot y-slot 0) j (1 + j * row-gates w + suc i) i (relu-size w .gates)
+        part-stands w ps o (1 + j * row-gates w + 1) (order-with 9 res-slot y-slot 0) j (1 + j * row-gates w + suc i) i (relu-size w .gates)
         (row-part 1 (relu-program w y-slot res-slot) (row-relu w (o .source) ps j))
         (omega arith) f (sym (ap (λ (z : Size). z .gates) (relu-sized w y-slot res-slot))) m
 
     end-stands : (i : ℕ) → relu-size w .gates ≤ i → suc i < row-gates w
-        → Stands w ps o (1 + j * row-gates w + suc i) (part (order-of 12 0 0 0) j (i - relu-size w .gates) 2)
+        → Stands w ps o (1 + j * row-gates w + suc i) (part (order-with 12 0 0 0) j (i - relu-size w .gates) 2)
     unfolding piece-gates piece-kinds kinds row-end
     end-stands i f m =
         let n = relu-size w .gates in
-        part-stands w ps o (1 + j * row-gates w + (1 + n)) (order-of 12 0 0 0) j (1 + j * row-gates w + suc i) (i - n) 2
+        part-stands w ps o (1 + j * row-gates w + (1 + n)) (order-with 12 0 0 0) j (1 + j * row-gates w + suc i) (i - n) 2
         (row-part (1 + n) (row-end w ps j) (row-last w (o .source) ps j))
         (omega arith) (omega (arith, ap (λ (z : Size). z .gates) (row-number w))) refl (omega arith)
 
@@ -118,10 +127,10 @@ module _ (w : ℕ) (ps : List Row) (o : Order) (h : o .kind ≡ 10) where
         go false e = rw e (end-stands i (ltb-false i _ e) f)
 
   exact-stands : o .fourth ≡ 0 → (i : ℕ) → exact-size w .gates ≤ 50
-      → Stands w ps o (1 + row-gates w * length ps + i) (last-part (order-of 8 (o .target) acc-slot 12) i (exact-size w .gates))
+      → Stands w ps o (1 + row-gates w * length ps + i) (last-part (order-with 8 (o .target) acc-slot 12) i (exact-size w .gates))
   unfolding piece-gates piece-kinds kinds truncation
   exact-stands z i m =
-      last-stands w ps o sum (order-of 8 (o .target) acc-slot 12) (1 + row-gates w * length ps + i) i (exact-size w .gates)
+      last-stands w ps o sum (order-with 8 (o .target) acc-slot 12) (1 + row-gates w * length ps + i) i (exact-size w .gates)
       (curve-is ∙ ap (λ (k : ℕ). sum ++ truncation w (o .target) k) z)
       (omega (arith, sum-long)) (sym (ap (λ (z : Size). z .gates) (exact-sized w 12 acc-slot (o .target)))) m
 
@@ -133,21 +142,21 @@ module _ (w : ℕ) (ps : List Row) (o : Order) (h : o .kind ≡ 10) where
     one-bit-is : program w ps o ≡ sum ++ (refresh ++ one-bit-program w 12 acc-slot (o .target))
     one-bit-is = curve-is ∙ ap (λ (l : List Gate). sum ++ l) (sym (refreshed w (o .target) (o .fourth) n))
 
-    refresh-stands : Stands w ps o (1 + row-gates w * length ps + 0) (part (order-of 5 acc-slot acc-slot 0) 0 0 1)
+    refresh-stands : Stands w ps o (1 + row-gates w * length ps + 0) (part (order-with 5 acc-slot acc-slot 0) 0 0 1)
     unfolding piece-gates piece-kinds kinds
     refresh-stands =
         let t : List Gate = one-bit-program w 12 acc-slot (o .target) in
-        part-stands w ps o (length sum + 0) (order-of 5 acc-slot acc-slot 0) 0 (1 + row-gates w * length ps + 0) 0 1
+        part-stands w ps o (length sum + 0) (order-with 5 acc-slot acc-slot 0) 0 (1 + row-gates w * length ps + 0) 0 1
         (subst (λ (l : List Gate). Cut l (length sum + 0) refresh) (sym one-bit-is)
         (behind sum (refresh ++ t) 0 refresh (at-first refresh t)))
         (omega (arith, sum-long)) (omega arith) refl (omega arith)
 
     one-bit-stands : (i : ℕ)
-        → Stands w ps o (1 + row-gates w * length ps + suc i) (last-part (order-of 7 (o .target) acc-slot 12) i (one-bit-size w .gates))
+        → Stands w ps o (1 + row-gates w * length ps + suc i) (last-part (order-with 7 (o .target) acc-slot 12) i (one-bit-size w .gates))
     unfolding piece-gates piece-kinds kinds
     one-bit-stands i =
         let t : List Gate = one-bit-program w 12 acc-slot (o .target) in
-        last-stands w ps o (sum ++ refresh) (order-of 7 (o .target) acc-slot 12) (1 + row-gates w * length ps + suc i) i
+        last-stands w ps o (sum ++ refresh) (order-with 7 (o .target) acc-slot 12) (1 + row-gates w * length ps + suc i) i
         (one-bit-size w .gates)
         (one-bit-is ∙ sym (append-assoc sum refresh t))
         (omega (arith, sum-long, length-append sum refresh))
@@ -201,10 +210,10 @@ module _ (w : ℕ) (ps : List Row) where
   unfolding piece-gates piece-kinds kinds
   nothing p h = List·getD-eq-default (piece-kinds w ps (p .order) (p .row)) [] h
 
-  none-stands : (o : Order) (i : ℕ) → 10 < o .kind → Stands w ps o i (last-part (order-of 13 0 0 0) i 0)
+  none-stands : (o : Order) (i : ℕ) → 10 < o .kind → Stands w ps o i (last-part (order-with 13 0 0 0) i 0)
   unfolding piece-gates piece-kinds kinds program
   none-stands o i h =
-      last-stands w ps o [] (order-of 13 0 0 0) i i 0
+      last-stands w ps o [] (order-with 13 0 0 0) i i 0
       (List·getD-eq-default (kinds w ps (o .target) (o .source) (o .fourth)) [] h) (omega arith) refl (omega arith)
 
 -- ---- the numbers of gates of kinds 0 to 9, at 32

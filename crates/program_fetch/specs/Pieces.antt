@@ -1,11 +1,10 @@
 -- The pieces that the code walks a program by: their gates, and the piece in which a gate stands. Assumes nothing.
-use mathlib.Core.Path.{_≡_}
 use mathlib.Core.Bool.{true, false, cond}
 use mathlib.Core.List.{List, [], _∷_, _++_}
-use Prim.Native.Nat.{ℕ, zero, suc, _+_, _-_, _*_, _/_, _%_, _^_, _≤_, _<_}
+use Prim.Native.Nat.{ℕ, zero, suc, _+_, _-_, _*_, _/_, _%_, _^_}
 use lib.Dec.{eqb, ltb}
 use lib.IntN.{pos, _-ℤ_}
-use lib.ListN.{length, getD, take, drop}
+use lib.ListN.{length, getD, take}
 use Rattle.words.specs.Words.{neg}
 use Rattle.words.specs.Signed.{wrap}
 use Rattle.gates.specs.Gates.{Gate, Add, Scale, Plus, Const}
@@ -41,8 +40,8 @@ piece-gates w ps p = getD (piece-kinds w ps (p .order) (p .row)) (p .order .kind
 
 -- ---- pieces by their fields
 
-abbrev pub order-of : (kind target source fourth : ℕ) → Order
-order-of k d a c = record { kind = k; target = d; source = a; fourth = c }
+abbrev pub order-with : (kind target source fourth : ℕ) → Order
+order-with k d a c = record { kind = k; target = d; source = a; fourth = c }
 
 -- one that others follow
 abbrev pub part : Order → (row from end : ℕ) → Piece
@@ -55,20 +54,20 @@ last-part o from end = record { order = o; row = 0; from = from; end = end; last
 
 -- i an index in row j of a curve of source x: the row's start, its ReLU, which goes from y to res, or its end
 unfoldable pub row-piece : (w source row i : ℕ) → Piece
-row-piece w x j zero = part (order-of 11 0 x 0) j 0 1
+row-piece w x j zero = part (order-with 11 0 x 0) j 0 1
 row-piece w x j (suc i) =
-    cond (ltb i (relu-size w .gates)) (part (order-of 9 res-slot y-slot 0) j i (relu-size w .gates))
-    (part (order-of 12 0 0 0) j (i - relu-size w .gates) 2)
+    cond (ltb i (relu-size w .gates)) (part (order-with 9 res-slot y-slot 0) j i (relu-size w .gates))
+    (part (order-with 12 0 0 0) j (i - relu-size w .gates) 2)
 
 -- i an index in a curve's truncation to d: "kind 8 with k = 12, or kind 5 and kind 7 with k = 12"
 unfoldable pub end-piece : (w mode target i : ℕ) → Piece
-end-piece w zero d i = last-part (order-of 8 d acc-slot 12) i (exact-size w .gates)
-end-piece w (suc m) d zero = part (order-of 5 acc-slot acc-slot 0) 0 0 1
-end-piece w (suc m) d (suc i) = last-part (order-of 7 d acc-slot 12) i (one-bit-size w .gates)
+end-piece w zero d i = last-part (order-with 8 d acc-slot 12) i (exact-size w .gates)
+end-piece w (suc m) d zero = part (order-with 5 acc-slot acc-slot 0) 0 0 1
+end-piece w (suc m) d (suc i) = last-part (order-with 7 d acc-slot 12) i (one-bit-size w .gates)
 
 -- i an index in a curve's program, on a table of n rows: the first gate, then the rows, then the truncation
 unfoldable pub curve-piece : (w rows : ℕ) → Order → (i : ℕ) → Piece
-curve-piece w n o zero = part (order-of 10 0 0 0) 0 0 1
+curve-piece w n o zero = part (order-with 10 0 0 0) 0 0 1
 curve-piece w n o (suc i) =
     cond (ltb (i / row-gates w) n) (row-piece w (o .source) (i / row-gates w) (i % row-gates w))
     (end-piece w (o .fourth) (o .target) (i - row-gates w * n))
@@ -77,15 +76,4 @@ curve-piece w n o (suc i) =
 unfoldable pub piece-at : (w : ℕ) → List Row → Order → (i : ℕ) → Piece
 piece-at w ps o i =
     cond (ltb (o .kind) 10) (last-part o i (length (program w ps o)))
-    (cond (eqb (o .kind) 10) (curve-piece w (length ps) o i) (last-part (order-of 13 0 0 0) i 0))
-
--- ---- what a walk needs of it (`stands`, proofs/Stands.antt)
-
--- the piece p holds the gate at index i of an order's program, and all that follow it as far as the piece goes; where
--- it is not the last one, it holds a gate at least
-pub record Stands (w : ℕ) (ps : List Row) (o : Order) (i : ℕ) (p : Piece) : Type 0 where
-  pub end : p .end ≡ length (piece-gates w ps p)
-  pub few : p .end ≤ 50
-  pub gates : drop i (program w ps o)
-      ≡ drop (p .from) (piece-gates w ps p) ++ cond (p .last) [] (drop (i + (p .end - p .from)) (program w ps o))
-  pub some : p .last ≡ false → p .from < p .end
+    (cond (eqb (o .kind) 10) (curve-piece w (length ps) o i) (last-part (order-with 13 0 0 0) i 0))

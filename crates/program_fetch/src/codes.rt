@@ -1,4 +1,4 @@
-// A gate written as numbers: operands that it has none of are 0.
+// A gate written as numbers: operands that it does not use are 0.
 ghost use mathlib.Core.Path.{_≡_};
 ghost use Rattle.gates.specs.Codes.{Past, fetched, gates-with, read};
 use gates::GateCode;

@@ -27,13 +27,25 @@ use gates::REFRESH;
 use gates::SCALE;
 use gates::SUB;
 use gates::XOR;
-use programs::ADDER_GATES;
 use programs::EXACT_HEAD;
+use programs::EXACT_LAST;
+use programs::EXACT_LOW;
+use programs::EXACT_LOW_NUMBER;
+use programs::EXACT_SCALE;
+use programs::EXACT_SUB;
+use programs::EXACT_SUM;
+use programs::EXACT_TOP;
+use programs::EXACT_TOP_NUMBER;
 use programs::G_SLOT;
 use programs::N_SLOT;
-use programs::NUMBER_GATES;
 use programs::Order;
 use programs::P_SLOT;
+use programs::RELU_LAST;
+use programs::RELU_NUMBER;
+use programs::RELU_ONE;
+use programs::RELU_SIGN;
+use programs::RELU_SUB;
+use programs::RELU_XOR;
 use programs::RES_SLOT;
 use programs::S_SLOT;
 use programs::T_SLOT;
@@ -97,6 +109,7 @@ pub(crate) fn one_gate(o: Order, i: usize) -> GateCode
     }
 }
 
+// floor(-L / 2^k) dealt, floor(m / 2^k) known, and their sum.
 pub(crate) fn slack_gate(k: u32, x: u32, d: u32, i: usize) -> GateCode
     ensures { λ g. ⌜ read g ≡ fetched (slack-program k x d) i ⌝ }
 {
@@ -108,7 +121,8 @@ pub(crate) fn slack_gate(k: u32, x: u32, d: u32, i: usize) -> GateCode
     }
 }
 
-// c' - r' + b × 2^(31-k) - 2^(30-k).
+// c' - r' + b × 2^(31-k) - 2^(30-k). Of x + 2^30: r' and the top bit of L are dealt, c' and the top bit of m are
+// known; b is made of the two top bits by one product.
 pub(crate) fn one_bit_gate(k: u32, x: u32, d: u32, i: usize) -> GateCode
     ensures { λ g. ⌜ read g ≡ fetched (one-bit-program 32 k x d) i ⌝ }
 {
@@ -130,25 +144,8 @@ pub(crate) fn one_bit_gate(k: u32, x: u32, d: u32, i: usize) -> GateCode
     }
 }
 
-// Where the gates of the exact truncation stand. Its first four are followed by the adder; the low bit b1 of G becomes
-// a number and is added to the sum; the top bit b2 becomes a number, which is scaled and subtracted.
-const EXACT_LOW: usize = EXACT_HEAD + ADDER_GATES;
-
-const EXACT_LOW_NUMBER: usize = EXACT_LOW + 1;
-
-const EXACT_SUM: usize = EXACT_LOW_NUMBER + NUMBER_GATES;
-
-const EXACT_TOP: usize = EXACT_SUM + 1;
-
-const EXACT_TOP_NUMBER: usize = EXACT_TOP + 1;
-
-const EXACT_SCALE: usize = EXACT_TOP_NUMBER + NUMBER_GATES;
-
-const EXACT_SUB: usize = EXACT_SCALE + 1;
-
-const EXACT_LAST: usize = EXACT_SUB + 1;
-
-// sum + b1 - b2 × 2^(32-k) - 2^(31-k).
+// sum + b1 - b2 × 2^(32-k) - 2^(31-k). Of x + 2^31: the sum is what is dealt of -L and known of m; b1 and b2 are the
+// carries out of the low k bits and out of the word.
 pub(crate) fn exact_gate(k: u32, x: u32, d: u32, i: usize) -> GateCode
     ensures { λ g. ⌜ read g ≡ fetched (exact-program 32 k x d) i ⌝ }
 {
@@ -170,21 +167,7 @@ pub(crate) fn exact_gate(k: u32, x: u32, d: u32, i: usize) -> GateCode
     }
 }
 
-// Where the gates of the ReLU stand. The adder is followed by the sign bit s, which becomes a number, and by the
-// product with 1 - s.
-const RELU_SIGN: usize = ADDER_GATES;
-
-const RELU_XOR: usize = RELU_SIGN + 1;
-
-const RELU_NUMBER: usize = RELU_XOR + 1;
-
-const RELU_ONE: usize = RELU_NUMBER + NUMBER_GATES;
-
-const RELU_SUB: usize = RELU_ONE + 1;
-
-const RELU_LAST: usize = RELU_SUB + 1;
-
-// The sign to a number, then the product of x with 1 - s.
+// The sign s to a number, then the product of x with 1 - s.
 pub(crate) fn relu_gate(x: u32, d: u32, i: usize) -> GateCode
     ensures { λ g. ⌜ read g ≡ fetched (relu-program 32 x d) i ⌝ }
 {

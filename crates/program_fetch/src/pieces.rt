@@ -6,7 +6,7 @@ ghost use lib.ListN.{length};
 ghost use Rattle.gates.specs.Codes.{fetched, read};
 ghost use Rattle.tables.specs.Table.{Row, rows};
 ghost use Rattle.programs.specs.Orders.{program};
-ghost use Rattle.program_fetch.specs.Pieces.{order-of, part, last-part, row-piece, end-piece, curve-piece};
+ghost use Rattle.program_fetch.specs.Pieces.{order-with, part, last-part, row-piece, end-piece, curve-piece};
 ghost use Rattle.program_fetch.specs.Pieces.{piece-at, piece-gates};
 use crate::Piece;
 use crate::codes::past;
@@ -58,7 +58,7 @@ const NONE: u32 = 13;
 const CURVE_SHIFT: u32 = 12;
 
 fn order(kind: u32, target: u32, source: u32, fourth: u32) -> Order
-    ensures { λ o. ⌜ o ≡ order-of kind target source fourth ⌝ }
+    ensures { λ o. ⌜ o ≡ order-with kind target source fourth ⌝ }
 {
     Order {
         kind,

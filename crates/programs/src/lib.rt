@@ -64,8 +64,21 @@ pub const NUMBER_DEALS: usize = 2;
 
 pub const NUMBER_WORDS_A: usize = 3;
 
-// The ReLU: the adder, two gates for the sign bit, which becomes a number, and three at the end, with a product.
-pub const RELU_GATES: usize = ADDER_GATES + 2 + NUMBER_GATES + 3;
+// The ReLU, by where its gates stand: the adder, two for the sign bit, which becomes a number, and three at the end,
+// with a product.
+pub const RELU_SIGN: usize = ADDER_GATES;
+
+pub const RELU_XOR: usize = RELU_SIGN + 1;
+
+pub const RELU_NUMBER: usize = RELU_XOR + 1;
+
+pub const RELU_ONE: usize = RELU_NUMBER + NUMBER_GATES;
+
+pub const RELU_SUB: usize = RELU_ONE + 1;
+
+pub const RELU_LAST: usize = RELU_SUB + 1;
+
+pub const RELU_GATES: usize = RELU_LAST + 1;
 
 // A curve's row: its ReLU between one gate and two.
 pub const ROW_HEAD: usize = 1;
@@ -80,10 +93,27 @@ pub const ROW_DEALS: usize = ADDER_DEALS + NUMBER_DEALS + 1;
 
 pub const ROW_WORDS_A: usize = ADDER_WORDS_A + NUMBER_WORDS_A + 2;
 
-// The exact truncation: four gates with a deal, the adder, and two bits made numbers.
+// The exact truncation, by where its gates stand: four with a deal, the adder, the low bit of G, which becomes a number
+// and is added to the sum, the top bit of G, which becomes a number, is scaled and subtracted, and the last one.
 pub const EXACT_HEAD: usize = 4;
 
-pub const EXACT_GATES: usize = EXACT_HEAD + ADDER_GATES + 1 + NUMBER_GATES + 2 + NUMBER_GATES + 3;
+pub const EXACT_LOW: usize = EXACT_HEAD + ADDER_GATES;
+
+pub const EXACT_LOW_NUMBER: usize = EXACT_LOW + 1;
+
+pub const EXACT_SUM: usize = EXACT_LOW_NUMBER + NUMBER_GATES;
+
+pub const EXACT_TOP: usize = EXACT_SUM + 1;
+
+pub const EXACT_TOP_NUMBER: usize = EXACT_TOP + 1;
+
+pub const EXACT_SCALE: usize = EXACT_TOP_NUMBER + NUMBER_GATES;
+
+pub const EXACT_SUB: usize = EXACT_SCALE + 1;
+
+pub const EXACT_LAST: usize = EXACT_SUB + 1;
+
+pub const EXACT_GATES: usize = EXACT_LAST + 1;
 
 pub const EXACT_EXCHANGES: usize = ADDER_EXCHANGES + 2;
 

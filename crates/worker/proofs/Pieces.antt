@@ -16,7 +16,8 @@ use Rattle.tables.specs.Table.{Row}
 use Rattle.programs.specs.declared.Order.{Order}
 use Rattle.programs.specs.Orders.{program}
 use Rattle.program_fetch.specs.declared.Piece.{Piece}
-use Rattle.program_fetch.specs.Pieces.{piece-gates, Stands}
+use Rattle.program_fetch.specs.Pieces.{piece-gates}
+use Rattle.program_fetch.proofs.Stands.{Stands}
 use Rattle.program_fetch.proofs.PieceSteps.{inside, outside, first-step, piece-cut, gates-behind}
 use Rattle.calls.specs.Lent.{Worker, worker-with}
 use Rattle.calls.specs.Calls.{Answer, word-at}

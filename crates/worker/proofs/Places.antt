@@ -20,7 +20,8 @@ use Rattle.programs.specs.declared.Sought.the-variants.{Nowhere}
 use Rattle.programs.specs.declared.Sought.the-variants as Sought
 use Rattle.programs.specs.Seek.{sought}
 use Rattle.program_fetch.specs.declared.Piece.{Piece}
-use Rattle.program_fetch.specs.Pieces.{piece-gates, Stands}
+use Rattle.program_fetch.specs.Pieces.{piece-gates}
+use Rattle.program_fetch.proofs.Stands.{Stands}
 use Rattle.jobs.specs.Job.{Fault, job-fault, job-gates, job-cost, order-at}
 use Rattle.calls.specs.Scripts.{job-script}
 use Rattle.calls.specs.Lent.{lent-fault, lent, passed}

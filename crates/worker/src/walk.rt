@@ -13,8 +13,8 @@ ghost use Rattle.walks.specs.Workers.{cursor};
 ghost use Rattle.walks.specs.Halts.{going-on, reported, steps-from, Going};
 ghost use Rattle.worker.specs.Jobs.{Sized};
 use gate_shape::used_by;
+use gates::FIRST_EXCHANGE;
 use gates::GateCode;
-use gates::MUL;
 use gates::PAST;
 use gates::Used;
 use job_order::order_at;
@@ -25,7 +25,7 @@ use worker_gate::Reach;
 use worker_gate::say;
 use worker_gate::step;
 
-// Where a walk through a piece stopped, and the gate there.
+// Where a walk through a piece stopped, by the gate's index in the piece, and the gate there.
 struct Stop {
     at: Reach,
     gate: GateCode,
@@ -89,7 +89,7 @@ fn walk_piece(
     let mut at = from;
     while at.gate < p.end {
         let gate = gate_at(p, table, at.gate);
-        if MUL <= gate.op {
+        if FIRST_EXCHANGE <= gate.op {
             return Stop { at, gate };
         }
         step(host, gate, masks, deals, at.a, at.deals, m, mask);

@@ -14,14 +14,14 @@ use gate_shape::used_by;
 use gate_speak::met_word;
 use gate_speak::word1;
 use gate_speak::word2;
-use gates::DEAL_SUM;
+use gates::FIRST_DEAL;
 use gates::GateCode;
 use gates::Shape;
 use word_lists::put;
 use word_lists::word_after;
 use word_lists::word_at;
 
-// Where a walk stands in an order: at a gate, with so many words of A and deals used.
+// Where a walk stands: at a gate, of an order or of a piece of it, with so many words of A and deals used.
 pub struct Reach {
     pub gate: usize,
     pub a: usize,
@@ -58,7 +58,7 @@ pub fn step(
 {
     step_m(g, m);
     // a local gate takes nothing
-    if g.op < DEAL_SUM {
+    if g.op < FIRST_DEAL {
         step_mask(g, 0, mask);
         return;
     }

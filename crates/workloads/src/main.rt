@@ -118,8 +118,9 @@ fn probing(a: &[u32], deals: &[u32], x: u32) -> u32 {
     add(fault, add(wrapping_mul(r.spoken, 257), place))
 }
 
-// One turn of a workload, which goes by the sum so far: preparation of a curve, starting host 1, starting host 2, a run
-// of one curve, 64 additions on three hosts, a run of 64 curves, probing, preparation of 64 curves.
+// One turn of a workload, by its digit, which goes by the sum so far: 1 preparation of a curve, 2 and 3 starting hosts
+// 1 and 2, 4 a run of one curve, 5 64 additions on three hosts, 6 a run of 64 curves, 7 probing, and else preparation
+// of 64 curves.
 fn once(
     w: u8,
     one: &[u32],
@@ -158,7 +159,7 @@ fn orders(kind: u32, target: u32, source: u32, fourth: u32) -> [u32; 256] {
     job
 }
 
-// The sum over n turns; workload 7 probes.
+// The sum over n turns, on lists as long as any job needs.
 fn summed(w: u8, n: u32) -> u32 {
     let mut a = [0u32; 28416];
     fill(&mut a, 2654435769, 1);
