@@ -1,0 +1,5 @@
+pub mod Layout
+pub mod Readings
+pub mod Checking
+pub mod Stepping
+pub mod FromC

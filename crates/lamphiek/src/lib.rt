@@ -1,0 +1,16 @@
+// The engine for C: every call of document 01 under a plain name, on words that the caller lends. include/lamphiek.h
+// declares what is exported here; a struct of that header is an array of words here, in the order of its fields.
+mod checking;
+mod layout;
+mod readings;
+mod stepping;
+
+// What a call returns: the number, 0 for none, and the order's index; a count, and the word given. What a call does not
+// give is 0.
+#[repr(C)]
+pub struct Answer {
+    pub number: u32,
+    pub index: u32,
+    pub count: u32,
+    pub word: u32,
+}

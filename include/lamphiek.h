@@ -1,0 +1,179 @@
+/* Lamphiek: a masked calibration engine for three hosts (docs/01-scope.md), for C11, C++11 and later.
+ *
+ * No call allocates, blocks, or keeps anything between calls: what a call reads and writes is lent to it for that call
+ * alone. Words are uint32_t, and arithmetic on them is modulo 2^32.
+ *
+ * Each call but lamphiek_house gives document 01's number: 0 for none, or the first condition that it meets, in
+ * checking order (lamphiek_unused_a and _b write it). A call that is refused leaves what it was lent as it was, but for
+ * that number.
+ *
+ * What a caller owes for any of this to hold, and no call can check:
+ *   - a list is a pointer and the count of words behind it: a real count. The pointer of an empty list may be NULL;
+ *   - every other pointer is not NULL; each is aligned for its type, and what it points to is initialised, also where
+ *     the call only writes;
+ *   - what a call writes (a pointer without const) overlaps nothing else that is lent to that call. Lists that are only
+ *     read may overlap;
+ *   - no other thread writes what is lent while the call runs, or reads what the call writes. Calls that share nothing
+ *     but what they only read may run at once.
+ *
+ * What the three hosts owe for the plant room to open document 01's value, and no call can check:
+ *   - every call of a job is lent the same job, table and mask lists, host 2 the deals that host 0's preparation wrote;
+ *   - before it their registers open: zero shares, shares of a split reading, or what an earlier job left;
+ *   - host 0 prepares and hosts 1 and 2 start it once, host 2 after the preparation;
+ *   - a hearing gets the state that its host's last call left, unaltered, and the word that the other host spoke at
+ *     that same place, once;
+ *   - no word of a mask list is used for two jobs.
+ */
+#ifndef LAMPHIEK_H
+#define LAMPHIEK_H
+
+#include <stddef.h>
+#include <stdint.h>
+
+#ifdef __cplusplus
+extern "C" {
+#define LAMPHIEK_ASSERT(test) static_assert(test, #test)
+#else
+#define LAMPHIEK_ASSERT(test) _Static_assert(test, #test)
+#endif
+
+/* ---- the numbers: document 01, "Turned down, in checking order" */
+enum {
+    LAMPHIEK_OK = 0,           /* completed */
+    LAMPHIEK_NO_HOST = 1,      /* starting or hearing names a host other than 1 or 2 */
+    LAMPHIEK_JOB_SIZE = 2,     /* the job has no words, more than 256, or a number of words not divisible by 4 */
+    LAMPHIEK_KIND = 3,         /* an order's kind is above 10 */
+    LAMPHIEK_REGISTER = 4,     /* a target or source is above 15 */
+    LAMPHIEK_FOURTH = 5,       /* a shift or mode is outside its range, a word due to be 0 is not 0, or a curve's table
+                                  breaks its rules */
+    LAMPHIEK_SHORT_MASKS = 6,  /* a mask list that this host uses is shorter than the job needs */
+    LAMPHIEK_SHORT_DEALS = 7,  /* the deal list or deal buffer is shorter than the job's deals */
+    LAMPHIEK_PLACE = 8,        /* the state's place is neither the end nor a product or refresh of this job */
+    LAMPHIEK_END = 9,          /* hearing is called at the end */
+    LAMPHIEK_DISAGREE = 10,    /* the opened shares disagree in L1, in L2 or in m */
+    LAMPHIEK_RANGE = 11        /* a reading to be split is outside -2^30 to 2^30 - 1 */
+};
+
+/* ---- a job: 1 to 64 orders of four words, kind, target, first source and fourth word; registers are 0 to 15 */
+enum {
+    LAMPHIEK_ADD = 0,            /* fourth word: the second source */
+    LAMPHIEK_SUBTRACT = 1,       /* the second source */
+    LAMPHIEK_ADD_CONSTANT = 2,   /* the constant */
+    LAMPHIEK_TIMES_CONSTANT = 3, /* the constant */
+    LAMPHIEK_PRODUCT = 4,        /* the second source */
+    LAMPHIEK_REFRESH = 5,        /* 0 */
+    LAMPHIEK_LARGE_SLACK = 6,    /* the shift, 1 to 31 */
+    LAMPHIEK_ONE_BIT = 7,        /* the shift, 1 to 30 */
+    LAMPHIEK_EXACT = 8,          /* the shift, 1 to 31 */
+    LAMPHIEK_RELU = 9,           /* 0 */
+    LAMPHIEK_CURVE = 10          /* the mode */
+};
+
+enum { LAMPHIEK_MODE_EXACT = 0, LAMPHIEK_MODE_ONE_BIT = 1 };
+
+enum {
+    LAMPHIEK_ORDER_WORDS = 4,
+    LAMPHIEK_JOB_WORDS = 256,  /* at most */
+    LAMPHIEK_TABLE_WORDS = 32, /* at most: 16 rows of two words, a count and micrograms per litre */
+    LAMPHIEK_HOUSE_WORDS = 16, /* of the house table */
+    LAMPHIEK_REGISTERS = 16,
+    LAMPHIEK_LANE = 24         /* the registers, and 8 kept words behind them */
+};
+
+/* ---- what is lent */
+
+/* What a host holds of one value: host 0 both masks; hosts 1 and 2 the masked value and their own mask, L1 or L2. */
+typedef struct {
+    uint32_t l1, l2;
+} lamphiek_dealer_share;
+
+typedef struct {
+    uint32_t m, l;
+} lamphiek_worker_share;
+
+typedef struct {
+    lamphiek_dealer_share host0;
+    lamphiek_worker_share host1, host2;
+} lamphiek_shares;
+
+/* What a job uses: deals, words spoken by both hosts together, words of the mask lists A and B. */
+typedef struct {
+    uint32_t deals, words, a, b;
+} lamphiek_counts;
+
+/* Host 0: its masks of the registers. */
+typedef struct {
+    uint32_t l1[LAMPHIEK_REGISTERS], l2[LAMPHIEK_REGISTERS];
+} lamphiek_masks;
+
+/* Host 1 or 2: in each lane its registers, then its kept words; and its place (at the end: number of orders, and 0). */
+typedef struct {
+    uint32_t m[LAMPHIEK_LANE], mask[LAMPHIEK_LANE];
+    uint32_t order, turn;
+} lamphiek_state;
+
+/* The number, and the order's index, which is 0 except for the numbers 3 to 5. What a call does not give is 0, and so
+ * are count and word where it is refused. */
+typedef struct {
+    uint32_t number, index, count, word;
+} lamphiek_answer;
+
+/* The library takes each struct as this many words, in the order of its fields. */
+LAMPHIEK_ASSERT(sizeof(lamphiek_shares) == 6 * sizeof(uint32_t));
+LAMPHIEK_ASSERT(offsetof(lamphiek_shares, host1) == 2 * sizeof(uint32_t));
+LAMPHIEK_ASSERT(offsetof(lamphiek_shares, host2) == 4 * sizeof(uint32_t));
+LAMPHIEK_ASSERT(sizeof(lamphiek_counts) == 4 * sizeof(uint32_t));
+LAMPHIEK_ASSERT(sizeof(lamphiek_masks) == 32 * sizeof(uint32_t));
+LAMPHIEK_ASSERT(offsetof(lamphiek_masks, l2) == 16 * sizeof(uint32_t));
+LAMPHIEK_ASSERT(sizeof(lamphiek_state) == 50 * sizeof(uint32_t));
+LAMPHIEK_ASSERT(offsetof(lamphiek_state, mask) == 24 * sizeof(uint32_t));
+LAMPHIEK_ASSERT(offsetof(lamphiek_state, order) == 48 * sizeof(uint32_t));
+LAMPHIEK_ASSERT(sizeof(lamphiek_answer) == 4 * sizeof(uint32_t));
+
+/* ---- controller: splits a reading under two mask words, drawn for it alone. Writes the six words of the shares.
+ * Gives 0 or 11. */
+uint32_t lamphiek_split(int64_t reading, uint32_t l1, uint32_t l2, lamphiek_shares *shares);
+
+/* ---- plant room: opens six words. Writes the value. Gives 0 or 10. */
+uint32_t lamphiek_open(const lamphiek_shares *shares, int64_t *value);
+
+/* ---- anybody: checks a job with its table (which only curves use). Writes the job's counts. Numbers 2 to 5. */
+lamphiek_answer lamphiek_check(const uint32_t *job, size_t job_words, const uint32_t *table, size_t table_words,
+                               lamphiek_counts *counts);
+
+/* Gives how many words at the end of mask list A, or B, the job leaves unused: they begin at a + (a_words - given). All
+ * of the list's where it is refused. Writes the number: 0, or 2 to 6. */
+size_t lamphiek_unused_a(const uint32_t *job, size_t job_words, const uint32_t *table, size_t table_words,
+                         const uint32_t *a, size_t a_words, uint32_t *number);
+size_t lamphiek_unused_b(const uint32_t *job, size_t job_words, const uint32_t *table, size_t table_words,
+                         const uint32_t *b, size_t b_words, uint32_t *number);
+
+/* Writes the house table: eight rows. */
+void lamphiek_house(uint32_t table[LAMPHIEK_HOUSE_WORDS]);
+
+/* ---- host 0: prepares a job. Writes its deals, for host 2, to the front of the buffer, whose later words stay as they
+ * are, and over the masks of the registers those of the results. count: the deals written. Numbers 2 to 7. */
+lamphiek_answer lamphiek_prepare(lamphiek_masks *masks, const uint32_t *job, size_t job_words, const uint32_t *table,
+                                 size_t table_words, const uint32_t *a, size_t a_words, const uint32_t *b,
+                                 size_t b_words, uint32_t *deals, size_t deals_words);
+
+/* ---- host 1 (masks: list A; deals: may be NULL and 0) and host 2 (masks: list B; deals: those of host 0).
+ * word: the word to speak, which may be 0 too. At the end (order is job_words / 4) there is none, and 0 is given.
+ * count: the words spoken so far, and the one to speak. */
+
+/* Starts a job from the registers in the state, whatever its kept words and its place are. Writes the state. Numbers 1
+ * to 7. */
+lamphiek_answer lamphiek_start(lamphiek_state *state, uint32_t host, const uint32_t *job, size_t job_words,
+                               const uint32_t *table, size_t table_words, const uint32_t *masks, size_t masks_words,
+                               const uint32_t *deals, size_t deals_words);
+
+/* Hears the word that the other host spoke at the state's place. Writes the state. Numbers 1 to 9. */
+lamphiek_answer lamphiek_hear(lamphiek_state *state, uint32_t host, const uint32_t *job, size_t job_words,
+                              const uint32_t *table, size_t table_words, const uint32_t *masks, size_t masks_words,
+                              const uint32_t *deals, size_t deals_words, uint32_t heard);
+
+#undef LAMPHIEK_ASSERT
+#ifdef __cplusplus
+}
+#endif
+#endif
