@@ -1,0 +1,80 @@
+/* Workloads of bench.c over include/lamphiek.h: what the border to C costs. library W N: workload W, N times, and the
+ * sum that bench.c and the crate workloads print. */
+#include "lamphiek.h"
+#include "engine.h"
+#include <stdio.h>
+#include <stdlib.h>
+#include <string.h>
+
+struct job { const uint32_t *words; size_t n; };
+
+static uint32_t A[MOST_A], B[MOST_B], D[MOST_DEALS], curves[256], table[LAMPHIEK_HOUSE_WORDS];
+
+#define JOB(job) (job).words, (job).n, table, LAMPHIEK_HOUSE_WORDS
+#define LENT_1(job) 1, JOB(job), A, MOST_A, D, MOST_DEALS
+#define LENT_2(job) 2, JOB(job), B, MOST_B, D, MOST_DEALS
+
+static lamphiek_answer prepare_job(struct job job, lamphiek_masks *k)
+{
+    return lamphiek_prepare(k, JOB(job), A, MOST_A, B, MOST_B, D, MOST_DEALS);
+}
+
+static uint32_t preparing(struct job job, uint32_t v)
+{
+    lamphiek_masks k = {{v}, {v + 7}};
+    lamphiek_answer p = prepare_job(job, &k);
+    return p.count + k.l1[0] + k.l2[0];
+}
+
+static uint32_t starting(uint32_t host, struct job job, uint32_t v)
+{
+    lamphiek_state s = {{v + 202}, {v}, 0, 0};
+    lamphiek_answer r = host == 1 ? lamphiek_start(&s, LENT_1(job)) : lamphiek_start(&s, LENT_2(job));
+    return r.word + r.count + s.m[0] + s.mask[1];
+}
+
+static uint32_t running(struct job job, uint32_t v)
+{
+    lamphiek_masks k = {{v}, {v + 7}};
+    lamphiek_state s = {{v + v + 209}, {v}, 0, 0}, t = {{v + v + 209}, {v + 7}, 0, 0};
+    lamphiek_answer p = prepare_job(job, &k);
+    lamphiek_answer one = lamphiek_start(&s, LENT_1(job)), two = lamphiek_start(&t, LENT_2(job));
+    while (s.order < job.n / LAMPHIEK_ORDER_WORDS) {
+        uint32_t w1 = one.word, w2 = two.word;
+        one = lamphiek_hear(&s, LENT_1(job), w2);
+        two = lamphiek_hear(&t, LENT_2(job), w1);
+    }
+    return s.m[0] + two.count + k.l1[0] + p.count;
+}
+
+static uint32_t once(int w, uint32_t x)
+{
+    static const uint32_t words[4] = {LAMPHIEK_CURVE, 0, 0, LAMPHIEK_MODE_EXACT};
+    struct job one = {words, 4}, curve64 = {curves, 256};
+    switch (w) {
+    case 1: return preparing(one, x);
+    case 2: return starting(1, one, x);
+    case 3: return starting(2, one, x);
+    case 4: return running(one, x);
+    case 6: return running(curve64, x);
+    case 8: return preparing(curve64, x);
+    }
+    return 0;
+}
+
+int main(int argc, char **argv)
+{
+    lamphiek_house(table);
+    for (uint32_t j = 0; j < MOST_A; j++)
+        A[j] = FACTOR_A * (j + 2);
+    for (uint32_t j = 0; j < MOST_B; j++)
+        B[j] = FACTOR_B * (j + 2);
+    for (int i = 0; i < 256; i += 4)
+        memcpy(curves + i, (const uint32_t[4]){LAMPHIEK_CURVE, 1, 0, LAMPHIEK_MODE_EXACT}, 16);
+    if (argc != 3)
+        return 2;
+    uint32_t sum = 0;
+    for (long i = 0, n = atol(argv[2]); i < n; i++)
+        sum += once(atoi(argv[1]), sum + (uint32_t)i);
+    printf("%u\n", sum);
+}

@@ -1,0 +1,29 @@
+/* include/lamphiek.h by itself, as C and as C++: each call has the type declared and stands in the library under its
+ * name; each struct is as its fields say. */
+#include "lamphiek.h"
+
+static const uint32_t job[LAMPHIEK_ORDER_WORDS] = {LAMPHIEK_ADD, 1, 2, 3};
+
+int main(void)
+{
+    lamphiek_shares shares = {{0, 0}, {0, 0}, {0, 0}};
+    lamphiek_counts counts = {1, 1, 1, 1};
+    lamphiek_masks masks = {{0}, {0}};
+    lamphiek_state state = {{0}, {0}, 0, 0};
+    uint32_t table[LAMPHIEK_HOUSE_WORDS] = {0}, number = LAMPHIEK_END;
+    int64_t value = 0;
+    lamphiek_house(table);
+    int bad = table[0] != 200 || table[LAMPHIEK_HOUSE_WORDS - 1] != 4250;
+    bad |= lamphiek_split(-5, 7, 9, &shares) != LAMPHIEK_OK || lamphiek_open(&shares, &value) != LAMPHIEK_OK;
+    bad |= value != -5 || shares.host0.l1 != 7 || shares.host1.m != 11 || shares.host1.l != 7 || shares.host2.l != 9;
+    bad |= lamphiek_check(job, LAMPHIEK_ORDER_WORDS, NULL, 0, &counts).number != LAMPHIEK_OK || counts.deals != 0;
+    bad |= lamphiek_unused_a(job, LAMPHIEK_ORDER_WORDS, NULL, 0, table, 3, &number) != 3 || number != LAMPHIEK_OK;
+    bad |= lamphiek_unused_b(job, 3, NULL, 0, table, 3, &number) != 3 || number != LAMPHIEK_JOB_SIZE;
+    masks.l2[3] = 9;
+    bad |= lamphiek_prepare(&masks, job, LAMPHIEK_ORDER_WORDS, NULL, 0, NULL, 0, NULL, 0, NULL, 0).number != 0;
+    state.m[2] = 40, state.mask[3] = 2;
+    bad |= lamphiek_start(&state, 1, job, LAMPHIEK_ORDER_WORDS, NULL, 0, NULL, 0, NULL, 0).number != LAMPHIEK_OK;
+    bad |= masks.l2[1] != 9 || state.m[1] != 40 || state.mask[1] != 2 || state.order != 1 || state.turn != 0;
+    bad |= lamphiek_hear(&state, 2, job, LAMPHIEK_ORDER_WORDS, NULL, 0, NULL, 0, NULL, 0, 1).number != LAMPHIEK_END;
+    return bad;
+}

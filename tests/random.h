@@ -1,0 +1,119 @@
+/* The parts of the random test: what is drawn and lent (random_make.c), each call made on the library and on the model
+ * (random_both.c), and what plain arithmetic says (random_plain.c). */
+#ifndef RANDOM_H
+#define RANDOM_H
+#include "model.h"
+#include <stdbool.h>
+
+struct words {
+    uint32_t *at;
+    size_t n;
+};
+
+/* What a call is lent; a host uses one of the mask lists. */
+struct lent {
+    struct words job, table, a, b, deals;
+};
+
+/* A host's state on either side. */
+struct host {
+    lamphiek_state library, model;
+};
+
+/* ---- random_make.c */
+
+void seed(uint64_t s);
+uint32_t draw(void);
+uint32_t below(uint32_t n);
+bool chance(uint32_t percent);
+uint32_t one_of(const uint32_t *from, size_t n);
+
+/* Lists lie in rooms, each with a page before and behind it that nobody may touch: the library is not compiled with
+ * the address sanitizer, and reads past what it is lent must be seen in it too. */
+enum room {
+    ROOM_JOB,
+    ROOM_TABLE,
+    ROOM_OTHER_JOB,
+    ROOM_OTHER_TABLE,
+    ROOM_A,
+    ROOM_B,
+    ROOM_DEALS, /* which preparation alone writes; those before it are only read */
+    ROOM_DEALS_MODEL,
+    ROOMS
+};
+
+void open_rooms(void);
+/* So many words that end or begin where their room does, copied from a list, or at random if that is NULL. */
+struct words lend(enum room room, const uint32_t *from, size_t n);
+/* Remembers what a room holds now, and says whether it still does. */
+void remember(enum room room);
+bool unchanged(enum room room);
+/* A list of 2^32 words and four, of which the first four are an order and also two rows; none where the machine does
+ * not grant it. */
+struct words long_list(void);
+/* The words of a room: a list in it with what lies before and behind. */
+struct words whole_room(enum room room);
+
+enum { ORDERS = 64, JOB_MOST = 260, TABLE_MOST = 34, KINDS = 11 };
+
+/* How often an order speaks (each host). */
+uint32_t turns(const uint32_t *order, struct words table);
+/* An accepted job of so many orders, of all kinds or all but curves; its number of words. */
+size_t make_job(uint32_t *job, uint32_t orders, bool curves);
+size_t damage_job(uint32_t *job, size_t n);
+size_t make_table(uint32_t *table);
+size_t damage_table(uint32_t *table, size_t n);
+void make_registers(lamphiek_state *s);
+void forge_place(lamphiek_state *s, const struct lent *l);
+int64_t make_reading(void);
+
+/* A job, accepted or perhaps damaged, with its table and lists as long as it needs or longer. */
+struct lent make_lent(bool damaged);
+/* The job that needs most: 64 exact curves on 16 rows. */
+struct lent make_largest(void);
+/* A list one word short, or none; and the same lists with a mask list or the deals cut so. */
+struct words cut(struct words w);
+struct lent cut_one(struct lent l);
+uint32_t make_host(void);
+struct host make_state(void);
+
+/* ---- random_both.c: a call on both sides, its answer and all that was lent compared; the first that differs is
+ * printed and ends the program. */
+
+/* Whether the kept words of a state are those of calls that were made on both sides alike, each side having its own. */
+enum kept { GENUINE, FORGED };
+
+uint32_t both_split(int64_t reading, uint32_t l1, uint32_t l2, lamphiek_shares *shares);
+uint32_t both_open(const lamphiek_shares *shares, int64_t *value);
+uint32_t both_check(const struct lent *l, lamphiek_counts *counts);
+void both_unused(const struct lent *l);
+void both_house(uint32_t table[LAMPHIEK_HOUSE_WORDS]);
+/* The deal buffer is as long as l->deals, which holds the library's deals afterwards. */
+lamphiek_answer both_prepare(lamphiek_masks *masks, const struct lent *l);
+lamphiek_answer both_start(struct host *h, uint32_t number, const struct lent *l);
+lamphiek_answer both_hear(struct host *h, uint32_t number, const struct lent *l, uint32_t heard, enum kept kept);
+
+void begin(uint64_t seed_given);
+uint64_t calls_made(void);
+/* Prints how often each call gave each number; whether each number that it can give came. */
+bool numbers_came(void);
+/* Ends the program where the test itself finds something else than it must. */
+void fail(const char *what);
+
+/* ---- random_plain.c */
+
+/* A value by plain arithmetic: not known, this, or this and at most one more (the one-bit truncation under masks that
+ * are not known); and the sum of its masks, where that is known. */
+struct value {
+    enum { UNKNOWN, THIS, OR_ONE_MORE } known;
+    int64_t v;
+    bool masked;
+    int64_t masks;
+};
+
+int64_t signed_reading(int64_t v);
+/* Whether a reading can be split. */
+bool in_range(int64_t x);
+/* What the registers open after an accepted job. */
+void plain_job(struct value r[LAMPHIEK_REGISTERS], struct words job, struct words table);
+#endif

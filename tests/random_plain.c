@@ -1,0 +1,98 @@
+/* What the registers of a run open, by 64-bit arithmetic (document 01, "Orders" and "The curve"): no shares, no gates.
+ * Of the masks only their sum L is followed, and only through kinds 0 to 3 and 6, since the truncations of kinds 6 and
+ * 7 depend on it; elsewhere it is not known, and then neither is what depends on it. */
+#include "random.h"
+
+static const int64_t WORDS = (int64_t)1 << 32, BOUND = (int64_t)1 << 30;
+
+static int64_t floored(int64_t x, int64_t by)
+{
+    int64_t rest = x % by;
+    return x / by - (rest < 0);
+}
+
+int64_t signed_reading(int64_t v)
+{
+    v -= floored(v, WORDS) * WORDS;
+    return v < WORDS / 2 ? v : v - WORDS;
+}
+
+static int64_t relu(int64_t x) { return x > 0 ? x : 0; }
+
+static int64_t scaled_sum(struct words table, int64_t x)
+{
+    int64_t y = 4096 * (int64_t)table.at[1];
+    for (size_t i = 0; i + 3 < table.n; i += 2) {
+        int64_t r = table.at[i], c = table.at[i + 1], next_r = table.at[i + 2], next_c = table.at[i + 3];
+        y += floored((next_c - c) * 4096, next_r - r) * (relu(x - r) - relu(x - next_r));
+    }
+    return y;
+}
+
+/* A value under new masks. */
+static struct value plainly(int64_t v) { return (struct value){THIS, v, false, 0}; }
+
+bool in_range(int64_t x) { return x >= -BOUND && x < BOUND; }
+
+/* Kind 6: what it deals of -L, whose masks then are -L's share, and what is known of m. */
+static struct value slack(struct value x, uint32_t k)
+{
+    int64_t by = (int64_t)1 << k, dealt = floored(signed_reading(-x.masks), by);
+    if (x.known != THIS || !x.masked)
+        return (struct value){UNKNOWN, 0, x.masked, -dealt};
+    int64_t m = signed_reading(x.v + x.masks);
+    return (struct value){THIS, signed_reading(dealt + floored(m, by)), true, -dealt};
+}
+
+/* Kind 7: one more exactly where the low bits of x and L carry. */
+static struct value one_bit(struct value x, uint32_t k)
+{
+    int64_t by = (int64_t)1 << k, quotient = floored(x.v, by);
+    if (x.known != THIS || !in_range(x.v))
+        return (struct value){UNKNOWN, 0, false, 0};
+    if (!x.masked)
+        return (struct value){OR_ONE_MORE, quotient, false, 0};
+    int64_t low = x.v - quotient * by, masks_low = x.masks - floored(x.masks, by) * by;
+    return (struct value){THIS, quotient + (low + masks_low >= by), false, 0};
+}
+
+/* The refresh before the one-bit truncation takes new masks. */
+static struct value curve(struct value x, uint32_t mode, struct words table)
+{
+    if (x.known != THIS || !in_range(x.v))
+        return (struct value){UNKNOWN, 0, false, 0};
+    int64_t y = scaled_sum(table, x.v);
+    return mode ? one_bit(plainly(y), 12) : plainly(floored(y, 4096));
+}
+
+/* Kinds 0 to 3, which do the same to values and masks: x times one factor and y times another, and a constant. */
+static struct value linear(struct value x, int64_t by, struct value y, int64_t and_by, int64_t constant)
+{
+    bool known = x.known == THIS && (y.known == THIS || and_by == 0), masked = x.masked && (y.masked || and_by == 0);
+    return (struct value){known ? THIS : UNKNOWN, signed_reading(x.v * by + y.v * and_by + constant), masked,
+                          signed_reading(x.masks * by + y.masks * and_by)};
+}
+
+static struct value plain_order(const struct value r[LAMPHIEK_REGISTERS], const uint32_t *o, struct words table)
+{
+    struct value x = r[o[2]], y = r[o[3] & 15], none = {UNKNOWN, 0, false, 0};
+    switch (o[0]) {
+    case 0: return linear(x, 1, y, 1, 0);
+    case 1: return linear(x, 1, y, -1, 0);
+    case 2: return linear(x, 1, none, 0, signed_reading(o[3]));
+    case 3: return linear(x, signed_reading(o[3]), none, 0, 0);
+    case 4: return y.known == THIS && x.known == THIS ? plainly(signed_reading(x.v * y.v)) : none;
+    case 5: return (struct value){x.known, x.v, false, 0};
+    case 6: return slack(x, o[3]);
+    case 7: return one_bit(x, o[3]);
+    case 8: return x.known == THIS ? plainly(floored(x.v, (int64_t)1 << o[3])) : none;
+    case 9: return x.known == THIS ? plainly(relu(x.v)) : none;
+    default: return curve(x, o[3], table);
+    }
+}
+
+void plain_job(struct value r[LAMPHIEK_REGISTERS], struct words job, struct words table)
+{
+    for (size_t i = 0; i < job.n; i += 4)
+        r[job.at[i + 1]] = plain_order(r, job.at + i, table);
+}
