@@ -99,7 +99,7 @@ fn completed<T>(number: u32, given: T) -> Result<T, Refused> {
     if number == 0 { Ok(given) } else { Err(number) }
 }
 
-/// What every host holds. Slices have a real count of words, and mutable ones overlap nothing: a call is owed no more.
+/// The job and table that every host is lent. A slice gives what the header asks of a pointer and its count.
 #[derive(Clone, Copy)]
 pub struct Job<'a> {
     pub orders: &'a [u32],

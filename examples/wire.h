@@ -11,7 +11,7 @@
  *   whoever connects                         the greeting: WIRE_MAGIC, and who is calling (WIRE_HOST0 to WIRE_HOTEL)
  *   the hotel to each host                   how many words the job has, the job, the host's two words of register 0
  *   host 0 to host 2                         how many deals, the deals
- *   hosts 1 and 2 to each other, in turns    one word
+ *   hosts 1 and 2 to each other, at once     one word at every product and refresh
  *   each host to the hotel                   number, index; where the number is 0, its two words of register 0, and
  *                                            from hosts 1 and 2 how many words they spoke
  *
@@ -56,7 +56,8 @@ struct word_list {
     size_t words;
 };
 
-/* First of all: who this program is. It waits 10 s for anything, or as many milliseconds as WIRE_WAIT_MS says. */
+/* First of all: who this program is. It waits 10 s for a message, or as many milliseconds as WIRE_WAIT_MS says; for a
+ * greeting an eighth of that. */
 void wire_begin(uint32_t me);
 
 /* A port from an argument; 0 where it is none. */

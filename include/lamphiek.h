@@ -17,12 +17,21 @@
  *     but what they only read may run at once.
  *
  * What the three hosts owe for the plant room to open document 01's value, and no call can check:
- *   - every call of a job is lent the same job, table and mask lists, host 2 the deals that host 0's preparation wrote;
- *   - before it their registers open: zero shares, shares of a split reading, or what an earlier job left;
- *   - host 0 prepares and hosts 1 and 2 start it once, host 2 after the preparation;
- *   - a hearing gets the state that its host's last call left, unaltered, and the word that the other host spoke at
- *     that same place, once;
- *   - no word of a mask list is used for two jobs.
+ *   - before a job all sixteen registers open: zero shares, shares of a split reading, or what an earlier job left that
+ *     both workers brought to its end;
+ *   - every call of the job is lent the same job, table and mask lists, and host 2 the deals that host 0's preparation
+ *     wrote, unaltered;
+ *   - host 0 completes one preparation, hosts 1 and 2 each one start, host 2 after the preparation. A refused call has
+ *     changed nothing, and may stand anywhere;
+ *   - a hearing gets, both unaltered, the state that its host's last call left and the word that the other host spoke
+ *     at that same place (order and turn);
+ *   - the plant room opens the three hosts' words of a register when both workers are at the end: from its preparation
+ *     on, host 0 holds the masks of the end.
+ *
+ * What they owe for nobody to learn a reading: every mask word is drawn at random and used once, for one split or one
+ * job, also where a job broke off.
+ *
+ * The library is built for x86-64 Linux. Its calls need at most 1,600 bytes of stack.
  */
 #ifndef LAMPHIEK_H
 #define LAMPHIEK_H
@@ -74,7 +83,8 @@ enum { LAMPHIEK_MODE_EXACT = 0, LAMPHIEK_MODE_ONE_BIT = 1 };
 enum {
     LAMPHIEK_ORDER_WORDS = 4,
     LAMPHIEK_JOB_WORDS = 256,  /* at most */
-    LAMPHIEK_TABLE_WORDS = 32, /* at most: 16 rows of two words, a count and micrograms per litre */
+    LAMPHIEK_TABLE_WORDS = 32, /* at most: 2 to 16 rows of two words, a count, which rises strictly within 0 to 4095,
+                                  and micrograms per litre, 0 to 20000 */
     LAMPHIEK_HOUSE_WORDS = 16, /* of the house table */
     LAMPHIEK_REGISTERS = 16,
     LAMPHIEK_LANE = 24         /* the registers, and 8 kept words behind them */
@@ -159,7 +169,7 @@ lamphiek_answer lamphiek_prepare(lamphiek_masks *masks, const uint32_t *job, siz
 
 /* ---- host 1 (masks: list A; deals: may be NULL and 0) and host 2 (masks: list B; deals: those of host 0).
  * word: the word to speak, which may be 0 too. At the end (order is job_words / 4) there is none, and 0 is given.
- * count: the words spoken so far, and the one to speak. */
+ * count: how many words this host has spoken, the one to speak now included. */
 
 /* Starts a job from the registers in the state, whatever its kept words and its place are. Writes the state. Numbers 1
  * to 7. */

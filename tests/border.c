@@ -1,6 +1,6 @@
 /* Every number of document 01 by every call that can give it. All that a refused call is lent stands on pages that
- * cannot be written (but for the number of unused masks), and every list ends where a page ends behind which nothing
- * can be read: a store, or a read too far, ends the program. */
+ * cannot be written (but for the number of unused masks), and every list that is only read ends where a page ends
+ * behind which nothing can be read: a store, or a read too far, ends the program. */
 #define _GNU_SOURCE
 #include <stdio.h>
 #include <string.h>

@@ -1,5 +1,5 @@
-/* include/lamphiek.h by itself, as C and as C++: each call has the type declared and stands in the library under its
- * name; each struct is as its fields say. */
+/* include/lamphiek.h by itself, as C and as C++: each call stands in the library under its name and answers a case as
+ * declared; the structs' fields lie where the calls read and write them. */
 #include "lamphiek.h"
 
 static const uint32_t job[LAMPHIEK_ORDER_WORDS] = {LAMPHIEK_ADD, 1, 2, 3};

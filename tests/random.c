@@ -1,5 +1,5 @@
 /* random [CALLS [SEED]]: the library held to the model (model.h) on calls at random, the same ones at every time. Ends
- * after the round in which the calls were made: some tens of thousands are needed for each number to come.
+ * after the round that reaches CALLS calls; each number comes only after some tens of thousands.
  *
  * First lists of 2^32 words and a run of the largest job; then rounds: splitting and opening; calls on accepted and
  * damaged jobs, tables and lists, and on forged states; a host alone that hears words at random from its start to its
@@ -265,7 +265,7 @@ static void round_of_three_hosts(struct lent lent)
     runs++;
 }
 
-/* A number behind the program's name, or what it is else. */
+/* Argument i as a number, or `otherwise` where it is not given. */
 static uint64_t argument(int argc, char **argv, int i, uint64_t otherwise)
 {
     char *end = NULL;
@@ -302,7 +302,7 @@ int main(int argc, char **argv)
            ", or one more: %" PRIu64 ", not known by it: %" PRIu64 "\n",
            runs, values_held[THIS], values_held[OR_ONE_MORE], values_held[UNKNOWN]);
     if (!all) {
-        puts("random: a number that a call can give never came, or one that it cannot give came");
+        puts("random: a number that a call can give never came, or one came that it cannot give, or no value was held");
         return 1;
     }
     printf("random: %" PRIu64 " calls, each as the model\n", calls_made());

@@ -95,7 +95,7 @@ lamphiek_answer both_hear(struct host *h, uint32_t number, const struct lent *l,
 
 void begin(uint64_t seed_given);
 uint64_t calls_made(void);
-/* Prints how often each call gave each number; whether each number that it can give came. */
+/* Prints how often each call gave each number; whether each number that it can give came, and no other. */
 bool numbers_came(void);
 /* Ends the program where the test itself finds something else than it must. */
 void fail(const char *what);

@@ -9,7 +9,7 @@
  *     they are worth is seen in the words spoken and the registers written later, which are compared;
  *   - a starting or hearing that is not refused is made once more on the library, the starting on other kept words and
  *     another place: all of the state as before, but for kept words at the end, which are free;
- *   - a hearing on forged kept words, the same words on both sides: nothing of what depends on them. At a product or a
+ *   - a hearing on forged kept words, the same on both sides: what depends on them is not compared. At a product or a
  *     refresh of its own (kinds 4, 5) that is nothing, so all is compared as above. Inside kinds 7 to 10 it is the word
  *     given, and the registers that the order's result reaches; number, index, count, place and the other registers are
  *     compared. */

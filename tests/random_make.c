@@ -295,7 +295,7 @@ static void lend_lists(struct lent *l, const lamphiek_counts *need)
     l->deals = lend(ROOM_DEALS, NULL, need->deals + (chance(60) ? 0 : more));
 }
 
-/* Long jobs have no curves, but for a few: they are most of the time otherwise. */
+/* Long jobs seldom have curves, which would take most of the time. */
 struct lent make_lent(bool damaged)
 {
     uint32_t job[JOB_MOST], table[TABLE_MOST], orders = make_orders();

@@ -3,26 +3,27 @@ use mathlib.Core.Path.{_≡_, refl, sym, ap, _∙_, subst}
 use mathlib.Core.Logic.{_≢_}
 use lib.Dec.{T}
 use mathlib.Core.List.{List, [], _∷_, _++_}
-use Prim.Native.Nat.{ℕ, _+_, _^_, _<_}
+use Prim.Native.Nat.{ℕ, _+_, _^_, _≤_, _<_}
 use native.Mathlib.Omega.{arith}
 use lib.ListN.{length, take, drop}
 use lib.IntN.{ℤ}
-use lib.Seq.{getD-take, getD-drop}
+use lib.Seq.{getD-take, getD-drop, take-take}
 use Rattle.words.specs.Signed.{in-range}
-use Rattle.shares.specs.Sharing.{Six, split, reconstruction}
+use Rattle.shares.specs.Sharing.{split, reconstruction}
 use Rattle.shares.proofs.RoundTrip.{round-trip}
 use Rattle.gates.specs.Steps.{at}
 use Rattle.gates.specs.Hosts.{Pair}
 use Rattle.calls.specs.Scripts.{job-script}
 use Rattle.calls.specs.Lent.{Lent, lent, worker-of}
 use Rattle.calls.specs.Calls as Calls
-use Rattle.runs.specs.Runs.{Setting, staged, Spoken, placed-word, Among, Dealer, idle, ready, Side, going, dealer-holds, with-masks, World, world}
+use Rattle.runs.specs.Runs.{Setting, staged, Spoken, placed-word, Among, Dealer, idle, ready, Side, going, dealer-holds, with-masks, side-state, world}
 use Rattle.runs.specs.Runs.{registers, Refuses, refuses0, refuses0-elsewhere, lent1, lent2, Dealt, Begins, given-out}
 use Rattle.runs.specs.Runs.{Completes, prepares, starts1, starts2, hears1, hears2, six, preparing, starting1, starting2, hearing1, hearing2}
+use Rattle.runs.specs.Returned.{opened-now}
 use Rattle.lamphiek.specs.Layout.{six-in, six-out, masks-in, state-in, registers-in}
 use Rattle.lamphiek.specs.Readings.{shares-left}
 use Rattle.lamphiek.specs.Stepping.{preparation, masks-left, state-left}
-use Rattle.lamphiek.specs.FromC.{FromC, prepare0, start1, start2, hear1, hear2, waits, goes, speaks, on-with}
+use Rattle.lamphiek.specs.FromC.{FromC, prepare0, start1, start2, hear1, hear2, waits, goes, speaks, on-with, share-words}
 use Rattle.lamphiek.proofs.Told.{is-written}
 use Rattle.lamphiek.proofs.Left.{masks-read, masks-long, taken, start-long, start-read, start-turned, hear-long, hear-read, hear-turned}
 
@@ -135,23 +136,29 @@ module _ (S : Setting) (buf D s : List ℕ) (l : length s ≡ 50) where
 
 -- ---- opening
 
-opens : (M one two : List ℕ) (i : ℕ) → i < 16
-    → six-in (at M i ∷ at M (16 + i) ∷ at one i ∷ at one (24 + i) ∷ at two i ∷ at two (24 + i) ∷ [])
-    ≡ six (masks-in M) (state-in one .m, state-in one .mask) (state-in two .m, state-in two .mask) i
-opens M one two i h = λ t. record {
-  l1-of-0 = front 16 M (omega arith) t;
-  l2-of-0 = behind 16 M (omega arith) t;
-  m-of-1 = front 24 one (omega arith) t;
-  l1-of-1 = behind 24 one (omega arith) t;
-  m-of-2 = front 24 two (omega arith) t;
-  l2-of-2 = behind 24 two (omega arith) t;
-}
+opens : (z : Dealer) (buf M one two : List ℕ) (x y : Side) (i : ℕ) → i < 16 → dealer-holds z ≡ masks-in M → side-state x ≡ state-in one → side-state y ≡ state-in two
+    → reconstruction 32 (six-in (share-words M one two i)) ≡ opened-now 32 16 (world z buf x y) i
+unfolding opened-now
+opens z buf M one two x y i h e f g =
+    ap (reconstruction 32) (words ∙ (λ t. six (sym e t) (registers 16 (sym f t)) (registers 16 (sym g t)) i))
   where
-    front : (n : ℕ) (w : List ℕ) → i < n → at w i ≡ at (take n w) i
-    front n w k = sym (getD-take n w i 0 k)
+    -- a word of a struct is that of a lane's first n, and of its first 16
+    front : (n : ℕ) (w : List ℕ) → 16 ≤ n → at w i ≡ at (take 16 (take n w)) i
+    front n w k = sym (getD-take 16 w i 0 h) ∙ ap (λ (l : List ℕ). at l i) (sym (take-take 16 n w k))
 
-    behind : (n : ℕ) (w : List ℕ) → i < n → at w (n + i) ≡ at (take n (drop n w)) i
-    behind n w k = sym (getD-drop n w i 0) ∙ sym (getD-take n (drop n w) i 0 k)
+    behind : (n : ℕ) (w : List ℕ) → 16 ≤ n → at w (n + i) ≡ at (take 16 (take n (drop n w))) i
+    behind n w k = sym (getD-drop n w i 0) ∙ front n (drop n w) k
+
+    words : six-in (share-words M one two i) ≡ six (masks-in M) (registers 16 (state-in one)) (registers 16 (state-in two)) i
+    words =
+        λ t. record {
+          l1-of-0 = sym (getD-take 16 M i 0 h) t;
+          l2-of-0 = (sym (getD-drop 16 M i 0) ∙ sym (getD-take 16 (drop 16 M) i 0 h)) t;
+          m-of-1 = front 24 one (omega arith) t;
+          l1-of-1 = behind 24 one (omega arith) t;
+          m-of-2 = front 24 two (omega arith) t;
+          l2-of-2 = behind 24 two (omega arith) t;
+        }
 
 pub from-c : FromC
 from-c =

@@ -2,7 +2,7 @@
 use mathlib.Core.List.{List}
 use Prim.Native.Nat.{ℕ, _-_}
 use lib.ListN.{length, drop}
-use Rattle.jobs.specs.Answers.{Verdict, check-job, leftover-number, leftover-part}
+use Rattle.jobs.specs.Answers.{Verdict, leftover-number, leftover-part}
 use Rattle.jobs.specs.declared.Which.{Which}
 use Rattle.lamphiek.specs.declared.Answer.{Answer}
 use Rattle.lamphiek.specs.Layout.{answer, written, counts-out}

@@ -1,6 +1,7 @@
--- A call from C is a step of a run (runs/specs/Runs.antt), from what the lent words read as before it to what they read
--- as after it. So a list of calls from C that keeps to document 01's text of a run is a `Run`, by its own constructors
--- `begin`, `complete` and `refuse`, and what is proved of every run holds of it. Assumes nothing.
+-- A preparation, starting or hearing from C, made as document 01's text of a run has it, is a step of a run
+-- (runs/specs/Runs.antt), from what the lent words read as before it to what they read as after it. So a list of such
+-- calls is a `Run`: `begins` is for its constructor `begin`, what completes for `complete`, and what is refused for
+-- `refuse`, a starting or hearing by `refuses1` or `refuses2`. Assumes nothing.
 use mathlib.Core.Path.{_≡_}
 use mathlib.Core.Logic.{_≢_}
 use lib.Dec.{T}
@@ -14,8 +15,9 @@ use Rattle.gates.specs.Steps.{at}
 use Rattle.gates.specs.Hosts.{Pair}
 use Rattle.calls.specs.Calls as Calls
 use Rattle.runs.specs.Runs.{Setting, staged, Spoken, placed-word, Among, Dealer, idle, ready, Side, waiting, going}
-use Rattle.runs.specs.Runs.{dealer-holds, with-masks, World, world, Turned, Refuses, Dealt, Begins, Completes, six}
+use Rattle.runs.specs.Runs.{dealer-holds, with-masks, side-state, world, Turned, Refuses, Dealt, Begins, Completes}
 use Rattle.runs.specs.Runs.{preparing, starting1, starting2, hearing1, hearing2}
+use Rattle.runs.specs.Returned.{opened-now}
 use Rattle.lamphiek.specs.Layout.{six-in, masks-in, state-in, registers-in}
 use Rattle.lamphiek.specs.Readings.{shares-left}
 use Rattle.lamphiek.specs.Stepping.{preparation, masks-left, starting, hearing, state-left}
@@ -53,6 +55,12 @@ speaks s v = placed-word (state-in s) v
 
 abbrev pub on-with : Calls.Answer → (state : List ℕ) → List Pair → List Spoken → Side
 on-with a s t said = goes (state-left a s) t (speaks (state-left a s) (a .word) ∷ said)
+
+-- ---- the six words of register i in the structs of the three hosts, as lamphiek_open takes them
+
+abbrev pub share-words : (masks one two : List ℕ) (i : ℕ) → List ℕ
+share-words M one two i =
+    at M i ∷ at M (16 + i) ∷ at one i ∷ at one (24 + i) ∷ at two i ∷ at two (24 + i) ∷ []
 
 pub record FromC : Type 0 where
   -- "splitting then opening gives back the reading"
@@ -124,7 +132,10 @@ pub record FromC : Type 0 where
   pub refused-hearing : (s : List ℕ) (h : ℕ) (J T M D : List ℕ) (v : ℕ) → length s ≡ 50
       → hearing s h J T M D v .number ≢ 0
       → Turned 16 (state-in s) (state-in (state-left (hearing s h J T M D v) s))
-  -- opening register i: the six words that stand in the three hosts' structs
-  pub opens : (M one two : List ℕ) (i : ℕ) → i < 16
-      → six-in (at M i ∷ at M (16 + i) ∷ at one i ∷ at one (24 + i) ∷ at two i ∷ at two (24 + i) ∷ [])
-      ≡ six (masks-in M) (state-in one .m, state-in one .mask) (state-in two .m, state-in two .mask) i
+  -- opening, on a register's six words in the structs of the three hosts: what the run's hosts open as they stand, of
+  -- which `returned` (runs/specs/Returned.antt) speaks
+  pub opens : (z : Dealer) (buf M one two : List ℕ) (x y : Side) (i : ℕ) → i < 16
+      → dealer-holds z ≡ masks-in M
+      → side-state x ≡ state-in one
+      → side-state y ≡ state-in two
+      → reconstruction 32 (six-in (share-words M one two i)) ≡ opened-now 32 16 (world z buf x y) i

@@ -1,4 +1,4 @@
--- What crosses to C: each struct of include/lamphiek.h as the list of its words, and what a call leaves in lent words.
+-- What crosses to C: each lent struct of include/lamphiek.h as the list of its words; what a call leaves in lent words.
 -- Assumes nothing.
 use mathlib.Core.List.{List, [], _∷_, _++_}
 use Prim.Native.Nat.{ℕ, zero, suc}

@@ -12,7 +12,7 @@ use jobs::Checked;
 use jobs::Which;
 use tables::HOUSE;
 
-// Numbers 2 to 5.
+// Checks a job with its table, and writes its counts. Numbers 2 to 5.
 #[no_mangle]
 pub extern "C" fn lamphiek_check(job: &[u32], table: &[u32], counts: &mut [u32; 4]) -> Answer
     ensures answer { λ r. ⌜ r ≡ checked (check-job 32 (now (job .entry)) (now (table .entry))) ⌝ }

@@ -1,5 +1,5 @@
 // The engine for C: every call of document 01 under a plain name, on words that the caller lends. include/lamphiek.h
-// declares what is exported here; a struct of that header is an array of words here, in the order of its fields.
+// declares what is exported here; a struct that is lent is an array of words here, in the order of its fields.
 mod checking;
 mod layout;
 mod readings;
