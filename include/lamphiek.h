@@ -31,7 +31,7 @@
  * What they owe for nobody to learn a reading: every mask word is drawn at random and used once, for one split or one
  * job, also where a job broke off.
  *
- * The library is built for x86-64 Linux. Its calls need at most 1,600 bytes of stack.
+ * The library is built for x86-64 Linux. Its calls need less than 2,048 bytes of stack.
  */
 #ifndef LAMPHIEK_H
 #define LAMPHIEK_H

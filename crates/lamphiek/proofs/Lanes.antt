@@ -4,7 +4,7 @@ use mathlib.Core.Bool.{Bool, true, false, cond}
 use mathlib.Core.List.{List, [], _∷_}
 use Prim.Native.Nat.{ℕ, zero, suc, _+_}
 use lib.Dec.{eqb}
-use lib.ListN.{length, length-set, length-append, replicate}
+use lib.ListN.{length, set, length-set, length-append, replicate}
 use Rattle.gates.specs.Steps.{Lane, Step, local, deal, exchange, end, Exchange, Cursor, origin, past}
 use Rattle.gates.specs.Walk.{walk, whole, mark}
 use Rattle.gates.specs.Hosts.{Pair, on-m, on-mask, act0, act1, hear1, act2, hear2}
@@ -18,6 +18,10 @@ use Rattle.calls.specs.Calls as Calls
 pub record Wide (n : ℕ) (s : Pair) : Type 0 where
   pub m : length (s .0) ≡ n
   pub mask : length (s .1) ≡ n
+
+-- a word written on both
+set-wide : (n d : ℕ) (s : Pair) (a b : ℕ) → Wide n s → Wide n (set (s .0) d a, set (s .1) d b)
+set-wide n d s a b h = record { m = length-set (s .0) d a ∙ h .m; mask = length-set (s .1) d b ∙ h .mask }
 
 -- ---- hosts 1 and 2
 
@@ -35,25 +39,21 @@ mask-kept (deal d f) v s = length-set s d v
 mask-kept (exchange d e) v s = refl
 mask-kept end v s = refl
 
+acts-wide : (n : ℕ) (x : Step) (v : ℕ) (s : Pair) → Wide n s → Wide n (on-m x (s .0), on-mask x v (s .1))
+acts-wide n x v s h = record { m = m-kept x (s .0) ∙ h .m; mask = mask-kept x v (s .1) ∙ h .mask }
+
+-- a worker's steps and hearings
 record Keeps (P : Worker) : Type 0 where
   acts : (n : ℕ) (x : Step) (c : Cursor) (s : Pair) → Wide n s → Wide n (P .act x c s)
   hears : (n d : ℕ) (e : Exchange) (c : Cursor) (s : Pair) (v : ℕ) → Wide n s → Wide n (P .hear d e c s v)
 
 keeps1 : (A : List ℕ) → Keeps (worker1 A)
 unfolding act1 hear1
-keeps1 A =
-    record {
-      acts = λ n x c s h. record { m = m-kept x (s .0) ∙ h .m; mask = mask-kept x _ (s .1) ∙ h .mask };
-      hears = λ n d e c s v h. record { m = length-set (s .0) d _ ∙ h .m; mask = length-set (s .1) d _ ∙ h .mask };
-    }
+keeps1 A = record { acts = λ n x c s h. acts-wide n x _ s h; hears = λ n d e c s v h. set-wide n d s _ _ h }
 
 keeps2 : (B D : List ℕ) → Keeps (worker2 B D)
 unfolding act2 hear2
-keeps2 B D =
-    record {
-      acts = λ n x c s h. record { m = m-kept x (s .0) ∙ h .m; mask = mask-kept x _ (s .1) ∙ h .mask };
-      hears = λ n d e c s v h. record { m = length-set (s .0) d _ ∙ h .m; mask = length-set (s .1) d _ ∙ h .mask };
-    }
+keeps2 B D = record { acts = λ n x c s h. acts-wide n x _ s h; hears = λ n d e c s v h. set-wide n d s _ _ h }
 
 either : (b : Bool) (M D : List ℕ) → Keeps (cond b (worker1 M) (worker2 M D))
 either true M D = keeps1 M
@@ -114,9 +114,9 @@ hear-full n loan s v h =
 
 act0-wide : (A B : List ℕ) (n : ℕ) (x : Step) (c : Cursor) (s : Pair) → Wide n s → Wide n (act0 A B x c s)
 unfolding act0
-act0-wide A B n (local d m l) c s h = record { m = length-set (s .0) d _ ∙ h .m; mask = length-set (s .1) d _ ∙ h .mask }
-act0-wide A B n (deal d f) c s h = record { m = length-set (s .0) d _ ∙ h .m; mask = length-set (s .1) d _ ∙ h .mask }
-act0-wide A B n (exchange d e) c s h = record { m = length-set (s .0) d _ ∙ h .m; mask = length-set (s .1) d _ ∙ h .mask }
+act0-wide A B n (local d m l) c s h = set-wide n d s _ _ h
+act0-wide A B n (deal d f) c s h = set-wide n d s _ _ h
+act0-wide A B n (exchange d e) c s h = set-wide n d s _ _ h
 act0-wide A B n end c s h = h
 
 whole-wide : (A B : List ℕ) (n : ℕ) (ss : List Step) (c : Cursor) (s : Pair) (t : List Pair) → Wide n s → Wide n (whole (act0 A B) ss c s t .state)
