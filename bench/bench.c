@@ -66,7 +66,7 @@ static uint32_t probing(uint32_t i)
         s.m[j] = i, s.l[j] = 7;
     s.order = i / 4 % 10;
     s.turn = i / 40 % 260;
-    struct lent h = {{job, 32}, table, {A, i / 10400 % 300}, {D, i / 20800 % 200}};
+    struct lent h = {{job, 32}, table, {A, i / 1000 % 330}, {D, i / 1300 % 200}};
     struct answer r = {.state = s};
     if (in_place)
         hear_at(&r, i % 4, &h, 5);
@@ -93,6 +93,8 @@ static uint32_t once(int w, uint32_t x)
 }
 
 /* ---- the rehearsal */
+
+enum { LINE_A = 262, LINE_B = 120, LINE_DEALS = 142 }; /* an exact curve on the house table */
 
 static char out[1 << 16];
 static size_t out_n;
@@ -131,39 +133,44 @@ static void refuse(int n)
     out[out_n++] = '\n';
 }
 
-static void line(const char *s, size_t n)
+/* Whether a line has the form that is due, and its reading. */
+static int formed(const char *s, size_t n, int64_t *v)
 {
-    int64_t v = 0;
-    if (n > 64 || n < 3 || (s[0] != 'E' && s[0] != 'S') || s[1] != ' ') {
-        refuse(0);
-        return;
-    }
+    if (n > 64 || n < 3 || (s[0] != 'E' && s[0] != 'S') || s[1] != ' ')
+        return 0;
     int minus = s[2] == '-';
     size_t i = 2 + (size_t)minus;
-    if (n == i || n - i > 10) {
+    if (n == i || n - i > 10)
+        return 0;
+    for (*v = 0; i < n; i++) {
+        if (s[i] < '0' || s[i] > '9')
+            return 0;
+        *v = *v * 10 + (s[i] - '0');
+    }
+    if (minus)
+        *v = -*v;
+    return 1;
+}
+
+static void line(const char *s, size_t n)
+{
+    int64_t v;
+    if (!formed(s, n, &v)) {
         refuse(0);
         return;
     }
-    for (; i < n; i++) {
-        if (s[i] < '0' || s[i] > '9') {
-            refuse(0);
-            return;
-        }
-        v = v * 10 + (s[i] - '0');
-    }
-    if (minus)
-        v = -v;
     if (v < -1073741824 || v > 1073741823) {
         refuse(11);
         return;
     }
-    uint32_t a[236], b[108], d[128], l1 = FACTOR_A, l2 = FACTOR_B, job[4] = {10, 0, 0, s[0] == 'S'};
-    for (uint32_t j = 0; j < 236; j++)
+    uint32_t a[LINE_A], b[LINE_B], d[LINE_DEALS], l1 = FACTOR_A, l2 = FACTOR_B, job[4] = {10, 0, 0, s[0] == 'S'};
+    for (uint32_t j = 0; j < LINE_A; j++)
         a[j] = FACTOR_A * (j + 2);
-    for (uint32_t j = 0; j < 108; j++)
+    for (uint32_t j = 0; j < LINE_B; j++)
         b[j] = FACTOR_B * (j + 2);
     struct end e;
-    run(&e, (struct list){job, 4}, (struct list){a, 236}, (struct list){b, 108}, d, 128, (uint32_t)v + l1 + l2, l1, l2);
+    run(&e, (struct list){job, 4}, (struct list){a, LINE_A}, (struct list){b, LINE_B}, d, LINE_DEALS,
+        (uint32_t)v + l1 + l2, l1, l2);
     if (e.one.state.m[0] != e.two.state.m[0] || e.one.state.l[0] != e.p.l1[0] || e.two.state.l[0] != e.p.l2[0]) {
         refuse(10);
         return;

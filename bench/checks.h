@@ -33,15 +33,12 @@ struct checked { u32 number, index; struct cost whole, before; };
 static inline __attribute__((always_inline)) struct checked check_job(struct list job, struct list table, u32 place)
 {
     struct checked r = {0};
-    if (job.n == 0 || job.n > 256 || job.n % 4) {
-        r.number = 2;
-        return r;
-    }
-    u32 rows = table.n / 2;
-    struct cost curve[2] = {{14 * rows + 16, 26 * rows + 28, 12 * rows + 12},
-                            {14 * rows + 3, 26 * rows + 5, 12 * rows + 2}};
-    u32 deals = 0, a = 0, b = 0, i = 0, fault;
-    int ruled = 0;
+    if (job.n == 0 || job.n > 256 || job.n % 4)
+        return (struct checked){.number = 2};
+    u32 rows = table.n / 2; /* a kind 9 for each, and as much once more behind the truncation */
+    struct cost curve[2] = {{14 * rows + 30, 26 * rows + 54, 12 * rows + 24},
+                            {14 * rows + 17, 26 * rows + 31, 12 * rows + 14}};
+    u32 deals = 0, a = 0, b = 0, i = 0, ruled = 0, fault;
     for (const u32 *o = job.at, *end = o + job.n; o < end; o += 4, i++) {
         u32 kind = o[0], fourth = o[3];
         const struct cost *c;
@@ -53,7 +50,7 @@ static inline __attribute__((always_inline)) struct checked check_job(struct lis
             goto refused;
         if (kind == 10) {
             fault = 5;
-            if (fourth > 1 || !(ruled || (ruled = keeps_rules(table))))
+            if (fourth > 1 || !(ruled || (ruled = (u32)keeps_rules(table))))
                 goto refused;
             c = &curve[fourth];
         } else {
@@ -71,9 +68,7 @@ static inline __attribute__((always_inline)) struct checked check_job(struct lis
     r.whole = (struct cost){deals, a, b};
     return r;
 refused:
-    r.number = fault;
-    r.index = i;
-    return r;
+    return (struct checked){.number = fault, .index = i};
 }
 
 static inline __attribute__((always_inline)) struct checked check_lent(u32 host, const struct lent *l, u32 place)

@@ -12,6 +12,7 @@ static inline u32 sum(struct pair x) { return x.l1 + x.l2; }
 static inline struct pair padd(struct pair x, struct pair y) { return (struct pair){x.l1 + y.l1, x.l2 + y.l2}; }
 static inline struct pair psub(struct pair x, struct pair y) { return (struct pair){x.l1 - y.l1, x.l2 - y.l2}; }
 static inline struct pair pxor(struct pair x, struct pair y) { return (struct pair){x.l1 ^ y.l1, x.l2 ^ y.l2}; }
+static inline struct pair pneg(struct pair x) { return (struct pair){0 - x.l1, 0 - x.l2}; }
 static inline struct pair pscale(struct pair x, u32 c) { return (struct pair){x.l1 * c, x.l2 * c}; }
 static inline struct pair pup(struct pair x, u32 d) { return (struct pair){x.l1 << d, x.l2 << d}; }
 static inline struct pair pbit(struct pair x, u32 i) { return (struct pair){x.l1 >> i & 1, x.l2 >> i & 1}; }
@@ -74,12 +75,13 @@ static inline struct pair bit_number(struct dealer *p, struct pair q)
     return psub(l, pscale(known_product(p), 2));
 }
 
-static struct pair relu(struct dealer *p, struct pair x)
+static inline struct pair sign(struct dealer *p, struct pair x)
 {
     struct pair first, g = adder(p, x, &first);
-    struct pair s = bit_number(p, pxor(pbit(first, 31), pbit(g, 30)));
-    return mul(p, x, (struct pair){0 - s.l1, 0 - s.l2});
+    return bit_number(p, pxor(pbit(first, 31), pbit(g, 30)));
 }
+
+static struct pair relu(struct dealer *p, struct pair x) { return mul(p, x, pneg(sign(p, x))); }
 
 static struct pair exact(struct dealer *p, struct pair x, u32 k)
 {
@@ -96,14 +98,16 @@ static struct pair one_bit(struct dealer *p, struct pair x, u32 k)
     return psub(pscale(b, 1u << (31 - k)), r);
 }
 
-static struct pair curve(struct dealer *p, struct pair x, u32 mode, struct list t)
+/* R-1: a, the sign of last r - x, times the value plus 1 is taken off the value; what is known has no masks. Not
+ * inline: in the loop over the orders it would slow the short kinds. */
+static __attribute__((noinline)) struct pair curve(struct dealer *p, struct pair x, u32 mode, struct list t)
 {
-    struct pair y = {0, 0};
+    struct pair y = {0, 0}, v, a;
     for (u32 row = 0; row < t.n / 2; row++)
         y = padd(y, pscale(relu(p, x), change(t, row)));
-    if (mode == 0)
-        return exact(p, y, 12);
-    return one_bit(p, fresh(p), 12);
+    v = mode == 0 ? exact(p, y, 12) : one_bit(p, fresh(p), 12);
+    a = sign(p, pneg(x));
+    return psub(v, mul(p, a, v));
 }
 
 struct prepared prepare(struct list job, struct list table, struct list a, struct list b, u32 *deals, size_t room,

@@ -1,59 +1,11 @@
 /* Hosts 1 and 2: a switch over kind and turn, no gate interpreter. Hearing finds its place from (order, turn),
  * conditions 8 and 9, and works its own word out again. */
-#include "checks.h"
+#include "gates.h"
 #include <string.h>
 
-struct share { u32 m, l; };
-
-/* kept words: m xor n, P and G of the adder; a bit made a number, and 1 - s; the truncation's sum; the curve's sum */
-enum { FIRST = 16, PP, GG, BIT, REST, SUM, CURVE };
-
-static inline struct share get(const struct state *s, u32 i) { return (struct share){s->m[i], s->l[i]}; }
-static inline void put(struct state *s, u32 i, struct share v) { s->m[i] = v.m; s->l[i] = v.l; }
-static inline struct share add(struct share x, struct share y) { return (struct share){x.m + y.m, x.l + y.l}; }
-static inline struct share sub(struct share x, struct share y) { return (struct share){x.m - y.m, x.l - y.l}; }
-static inline struct share xor(struct share x, struct share y) { return (struct share){x.m ^ y.m, x.l ^ y.l}; }
-static inline struct share scale(struct share x, u32 c) { return (struct share){x.m * c, x.l * c}; }
-static inline struct share up(struct share x, u32 d) { return (struct share){x.m << d, x.l << d}; }
-static inline struct share bit(struct share x, u32 i) { return (struct share){x.m >> i & 1, x.l >> i & 1}; }
-
-/* A host with its lists, and how much of them it has used. */
-struct walk { u32 host; const u32 *masks, *deals; u32 a, b, k; };
-
-static inline u32 deal(struct walk *w)
-{
-    u32 i = w->a++, j = w->k++;
-    return w->host == 1 ? w->masks[i] : w->deals[j];
-}
-
-/* g1 or g2 of a product */
-static inline u32 part(const struct walk *w) { return w->host == 1 ? w->masks[w->a] : w->deals[w->k]; }
-static inline u32 product_mask(const struct walk *w) { return w->masks[w->host == 1 ? w->a + 1 : w->b]; }
-static inline u32 refresh_mask(const struct walk *w) { return w->masks[w->host == 1 ? w->a : w->b]; }
-static inline void past_product(struct walk *w) { w->a += 2; w->b++; w->k++; }
-static inline void past_refresh(struct walk *w) { w->a++; w->b++; }
-
-static inline u32 mul_word(const struct walk *w, struct share x, struct share y)
-{
-    u32 own = part(w) + product_mask(w) - x.m * y.l - y.m * x.l;
-    return w->host == 1 ? own + x.m * y.m : own;
-}
-
-static inline u32 and_word(const struct walk *w, struct share x, struct share y)
-{
-    u32 own = part(w) ^ product_mask(w) ^ (x.m & y.l) ^ (y.m & x.l);
-    return w->host == 1 ? own ^ (x.m & y.m) : own;
-}
-
-/* A known value times a dealt one, both kept in one share. */
-static inline u32 mul_known(const struct walk *w, struct share q) { return part(w) + product_mask(w) - q.m * q.l; }
-static inline u32 and_known(const struct walk *w, struct share q) { return part(w) ^ product_mask(w) ^ (q.m & q.l); }
-
-static inline u32 refresh_word(const struct walk *w, struct share x)
-{
-    u32 own = refresh_mask(w) - x.l;
-    return w->host == 1 ? own + x.m : own;
-}
+/* kept words: m xor n, P and G of the adder; a bit made a number; the sign's factor, 1 - s of ReLU and a of the curve's
+ * end; the truncation's sum; the curve's sum, then what its truncation gives */
+enum { FIRST = 16, PP, GG, BIT, FACTOR, SUM, CURVE };
 
 /* the adder's ten products: turns 0 to 9 */
 
@@ -91,16 +43,18 @@ static inline void bit_begin(struct state *s, struct walk *w, struct share q)
     put(s, BIT, (struct share){q.m, deal(w)});
 }
 
-/* ReLU, turns 0 to 11; heard gives 1 where v is its result */
+/* a sign s made a number, and a product of x with its factor: turns 0 to 11; heard gives 1 where v is the product */
 
-static inline u32 relu_word(const struct state *s, const struct walk *w, struct share x, u32 turn)
+enum factor { ONE_LESS_SIGN, SIGN }; /* ReLU's, and that of the curve's end */
+
+static inline u32 sign_word(const struct state *s, const struct walk *w, struct share x, u32 turn)
 {
     if (turn < 10)
         return adder_word(s, w, turn);
-    return turn == 10 ? mul_known(w, get(s, BIT)) : mul_word(w, x, get(s, REST));
+    return turn == 10 ? mul_known(w, get(s, BIT)) : mul_word(w, x, get(s, FACTOR));
 }
 
-static inline int relu_heard(struct state *s, struct walk *w, u32 turn, struct share v)
+static inline int sign_heard(struct state *s, struct walk *w, enum factor f, u32 turn, struct share v)
 {
     if (turn < 10) {
         adder_heard(s, turn, v);
@@ -110,7 +64,7 @@ static inline int relu_heard(struct state *s, struct walk *w, u32 turn, struct s
     }
     if (turn == 10) {
         struct share sign = number(s, v);
-        put(s, REST, (struct share){1 - sign.m, 0 - sign.l});
+        put(s, FACTOR, f == SIGN ? sign : (struct share){1 - sign.m, 0 - sign.l});
         return 0;
     }
     return 1;
@@ -165,7 +119,8 @@ static inline struct share one_bit_end(const struct state *s, u32 k, struct shar
     return r;
 }
 
-/* the curve: a row's ReLU of x - r, then the truncation of the sum */
+/* the curve: a row's ReLU of x - r, the truncation of the sum, and behind it (R-1) the value less a times the value
+ * plus 1, a the sign of last r - x */
 
 static inline struct share row_source(const struct state *s, const u32 *o, struct list t, u32 row)
 {
@@ -223,8 +178,8 @@ struct answer start(u32 host, const struct lent *lent, const u32 m[16], const u3
     return r;
 }
 
-/* Words of A, and deals, before a turn of kind 9 and of kind 8. */
-static inline void relu_place(struct walk *w, u32 turn)
+/* Words of A, and deals, before a turn of kind 9 (a sign and a product) and of kind 8. */
+static inline void sign_place(struct walk *w, u32 turn)
 {
     w->a += turn < 10 ? 1 + 2 * turn : 2 * turn + 2;
     w->k += turn < 10 ? 1 + turn : turn + 2;
@@ -236,13 +191,6 @@ static inline void exact_place(struct walk *w, u32 turn)
     w->k += turn < 10 ? 2 + turn : turn == 10 ? 13 : 15;
 }
 
-static inline struct share met(struct walk *w, u32 sum)
-{
-    struct share v = {sum, product_mask(w)};
-    past_product(w);
-    return v;
-}
-
 static inline int said(struct answer *r, const struct walk *w, u32 word)
 {
     r->state.turn++;
@@ -252,16 +200,16 @@ static inline int said(struct answer *r, const struct walk *w, u32 word)
 }
 
 /* A turn of kind 8 or 9 (of a curve, too): 1 where it was the last one, with the result in v. */
-static inline __attribute__((always_inline)) int relu_turn(struct answer *r, struct walk *w, struct share x,
-                             u32 turn, u32 heard, struct share *v)
+static inline __attribute__((always_inline)) int sign_turn(struct answer *r, struct walk *w, struct share x,
+                             enum factor f, u32 turn, u32 heard, struct share *v)
 {
     struct state *s = &r->state;
-    relu_place(w, turn);
-    u32 own = relu_word(s, w, x, turn);
+    sign_place(w, turn);
+    u32 own = sign_word(s, w, x, turn);
     *v = met(w, turn < 10 ? own ^ heard : own + heard);
-    if (relu_heard(s, w, turn, *v))
+    if (sign_heard(s, w, f, turn, *v))
         return 1;
-    return said(r, w, relu_word(s, w, x, turn + 1));
+    return said(r, w, sign_word(s, w, x, turn + 1));
 }
 
 static inline __attribute__((always_inline)) int exact_turn(struct answer *r, struct walk *w, u32 k,
@@ -284,48 +232,77 @@ static inline int one_bit_turn(struct answer *r, struct walk *w, u32 k, u32 hear
     return 1;
 }
 
-static inline __attribute__((always_inline)) int curve_turn(struct answer *r, struct walk *w, const u32 *o,
-                    struct list t,
-                             u32 turn, u32 heard, struct share *v)
+/* A turn of the curve's rows; behind the last of them the truncation begins. */
+static inline __attribute__((always_inline)) int row_turn(struct answer *r, struct walk *w, const u32 *o,
+                    struct list t, u32 turn, u32 heard)
 {
     struct state *s = &r->state;
-    u32 rows = t.n / 2, row = turn / 12;
-    if (row < rows) {
-        w->a += 26 * row;
-        w->k += 14 * row;
-        if (!relu_turn(r, w, row_source(s, o, t, row), turn % 12, heard, v))
-            return 0;
-        struct share sum = add(get(s, CURVE), scale(*v, change(t, row)));
-        put(s, CURVE, sum);
-        if (++row < rows) {
-            adder_begin(s, w, row_source(s, o, t, row).m);
-            return said(r, w, adder_word(s, w, 0));
-        }
-        if (o[3])
-            return said(r, w, refresh_word(w, sum));
-        exact_begin(s, w, sum, 12);
+    struct share v;
+    u32 row = turn / 12;
+    w->a += 26 * row;
+    w->k += 14 * row;
+    if (!sign_turn(r, w, row_source(s, o, t, row), ONE_LESS_SIGN, turn % 12, heard, &v))
+        return 0;
+    struct share sum = add(get(s, CURVE), scale(v, change(t, row)));
+    put(s, CURVE, sum);
+    if (2 * ++row < t.n) {
+        adder_begin(s, w, row_source(s, o, t, row).m);
         return said(r, w, adder_word(s, w, 0));
     }
+    if (o[3])
+        return said(r, w, refresh_word(w, sum));
+    exact_begin(s, w, sum, 12);
+    return said(r, w, adder_word(s, w, 0));
+}
+
+/* A turn of its truncation, or of the refresh before that; behind it the value is kept, and the sign's adder begins. */
+static inline __attribute__((always_inline)) int curve_truncation_turn(struct answer *r, struct walk *w, const u32 *o,
+                    struct list t, u32 turn, u32 heard)
+{
+    struct state *s = &r->state;
+    struct share v;
+    if (o[3] == 0) {
+        if (!exact_turn(r, w, 12, turn, heard, &v))
+            return 0;
+    } else if (turn == 0) {
+        v = (struct share){refresh_word(w, get(s, CURVE)) + heard, refresh_mask(w)};
+        past_refresh(w);
+        one_bit_begin(s, w, v, 12);
+        return said(r, w, mul_known(w, get(s, BIT)));
+    } else {
+        w->a++;
+        one_bit_turn(r, w, 12, heard, &v);
+    }
+    put(s, CURVE, v);
+    adder_begin(s, w, t.at[t.n - 2] - get(s, o[2]).m);
+    return said(r, w, adder_word(s, w, 0));
+}
+
+/* A turn of a curve: 1 where it was the last one, with the result in v. */
+static inline __attribute__((always_inline)) int curve_turn(struct answer *r, struct walk *w, const u32 *o,
+                    struct list t, u32 turn, u32 heard, struct share *v)
+{
+    u32 rows = t.n / 2;
+    if (turn < 12 * rows)
+        return row_turn(r, w, o, t, turn, heard);
     w->a += 26 * rows;
     w->k += 14 * rows;
     turn -= 12 * rows;
-    if (o[3] == 0)
-        return exact_turn(r, w, 12, turn, heard, v);
-    if (turn == 0) {
-        struct share sum = get(s, CURVE);
-        *v = (struct share){refresh_word(w, sum) + heard, refresh_mask(w)};
-        past_refresh(w);
-        put(s, CURVE, *v);
-        one_bit_begin(s, w, *v, 12);
-        return said(r, w, mul_known(w, get(s, BIT)));
-    }
-    w->a++;
-    return one_bit_turn(r, w, 12, heard, v);
+    u32 truncated = o[3] ? 2 : 12;
+    if (turn < truncated)
+        return curve_truncation_turn(r, w, o, t, turn, heard);
+    w->a += o[3] ? 5 : 28;
+    w->k += o[3] ? 3 : 16;
+    struct share value = get(&r->state, CURVE), over = {value.m + 1, value.l};
+    if (!sign_turn(r, w, over, SIGN, turn - truncated, heard, v))
+        return 0;
+    *v = sub(value, *v);
+    return 1;
 }
 
 static inline u32 turns(const u32 *o, struct list t)
 {
-    return o[0] < 10 ? COST[o[0]].b : 12 * (t.n / 2) + (o[3] ? 2 : 12);
+    return o[0] < 10 ? COST[o[0]].b : 12 * (t.n / 2) + (o[3] ? 14 : 24);
 }
 
 static inline __attribute__((always_inline)) void hear_in(struct answer *r, u32 host, const struct lent *lent,
@@ -359,7 +336,7 @@ static inline __attribute__((always_inline)) void hear_in(struct answer *r, u32 
         break;
     case 7: done = one_bit_turn(r, &w, o[3], heard, &v); break;
     case 8: done = exact_turn(r, &w, o[3], turn, heard, &v); break;
-    case 9: done = relu_turn(r, &w, get(s, o[2]), turn, heard, &v); break;
+    case 9: done = sign_turn(r, &w, get(s, o[2]), ONE_LESS_SIGN, turn, heard, &v); break;
     default: done = curve_turn(r, &w, o, lent->table, turn, heard, &v);
     }
     if (done) {

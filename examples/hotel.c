@@ -1,8 +1,9 @@
 /* The hotel, controller and plant room: hotel E|S READING PORT0 PORT1 PORT2
  *
  * Splits the reading under two fresh mask words, sends each host the job and its share, waits for the three answers and
- * opens them: "opened 1". E is the exact mode, S the one-bit mode. What is said, what the exit status means, and what a
- * real deployment must have that this has not: wire.h. */
+ * opens them: "opened 1"; on the house table -1 is no reading, the probe being above the last row (R-1). E is the exact
+ * mode, S the one-bit mode. What is said, what the exit status means, and what a real deployment must have that this
+ * has not: wire.h. */
 #include <inttypes.h>
 #include <stdio.h>
 #include <stdlib.h>

@@ -1,4 +1,5 @@
-/* Lamphiek: a masked calibration engine for three hosts (docs/01-scope.md), for C11, C++11 and later.
+/* Lamphiek: a masked calibration engine for three hosts (docs/01-scope.md, and of docs/02-change-requests.md R-1), for
+ * C11, C++11 and later.
  *
  * No call allocates, blocks, or keeps anything between calls: what a call reads and writes is lent to it for that call
  * alone. Words are uint32_t, and arithmetic on them is modulo 2^32.
@@ -16,7 +17,7 @@
  *   - no other thread writes what is lent while the call runs, or reads what the call writes. Calls that share nothing
  *     but what they only read may run at once.
  *
- * What the three hosts owe for the plant room to open document 01's value, and no call can check:
+ * What the three hosts owe for the plant room to open the value that is defined, and no call can check:
  *   - before a job all sixteen registers open: zero shares, shares of a split reading, or what an earlier job left that
  *     both workers brought to its end;
  *   - every call of the job is lent the same job, table and mask lists, and host 2 the deals that host 0's preparation
@@ -75,7 +76,9 @@ enum {
     LAMPHIEK_ONE_BIT = 7,        /* the shift, 1 to 30 */
     LAMPHIEK_EXACT = 8,          /* the shift, 1 to 31 */
     LAMPHIEK_RELU = 9,           /* 0 */
-    LAMPHIEK_CURVE = 10          /* the mode */
+    LAMPHIEK_CURVE = 10          /* the mode. Above the table's last count it opens -1, no reading (R-1). Where a
+                                    table's values fall to 0 it may open -1 too; not where they never fall, or are
+                                    all at least 1. Later orders compute with -1 as with any number */
 };
 
 enum { LAMPHIEK_MODE_EXACT = 0, LAMPHIEK_MODE_ONE_BIT = 1 };
@@ -144,7 +147,7 @@ LAMPHIEK_ASSERT(sizeof(lamphiek_answer) == 4 * sizeof(uint32_t));
  * Gives 0 or 11. */
 uint32_t lamphiek_split(int64_t reading, uint32_t l1, uint32_t l2, lamphiek_shares *shares);
 
-/* ---- plant room: opens six words. Writes the value. Gives 0 or 10. */
+/* ---- plant room: opens six words. Writes the value; of a curve -1 is no reading (LAMPHIEK_CURVE). Gives 0 or 10. */
 uint32_t lamphiek_open(const lamphiek_shares *shares, int64_t *value);
 
 /* ---- anybody: checks a job with its table (which only curves use). Writes the job's counts. Numbers 2 to 5. */

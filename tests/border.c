@@ -9,7 +9,7 @@
 
 #include "lamphiek.h"
 
-enum { A_WORDS = 236, B_WORDS = 108, DEALS = 128 }; /* an exact curve on the house table */
+enum { A_WORDS = 262, B_WORDS = 120, DEALS = 142 }; /* an exact curve on the house table */
 enum { PAGE = 4096, PLACES = 8 };
 enum call { SPLIT, OPEN, CHECK, UNUSED_A, UNUSED_B, PREPARE, START, HEAR, CALLS };
 
@@ -236,8 +236,8 @@ static void complete(struct given g)
 
 static void seal(void)
 {
-    static const uint32_t places[PLACES][2] = {{0, 108}, {0, 109}, {0, UINT32_MAX}, {1, 1},
-                                          {2, 0},   {2, 1},   {UINT32_MAX, 0}, {1, UINT32_MAX}};
+    static const uint32_t places[PLACES][2] = {{0, B_WORDS}, {0, B_WORDS + 1}, {0, UINT32_MAX}, {1, 1},
+                                               {2, 0},       {2, 1},           {UINT32_MAX, 0}, {1, UINT32_MAX}};
     struct sealed *s = pages(sizeof *s);
     s->end.order = 1;
     for (int i = 0; i < PLACES; i++) {

@@ -202,7 +202,7 @@ static void make_run(struct run *r)
     r->one = make_state();
     r->two = make_state();
     for (int i = 0; i < LAMPHIEK_REGISTERS; i++) {
-        int64_t reading = make_reading();
+        int64_t reading = chance(25) ? make_count(r->lent.table) : make_reading();
         uint32_t l1 = draw(), l2 = draw();
         lamphiek_shares s;
         if (both_split(reading, l1, l2, &s)) { /* a register may hold any word */

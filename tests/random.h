@@ -66,6 +66,8 @@ size_t damage_table(uint32_t *table, size_t n);
 void make_registers(lamphiek_state *s);
 void forge_place(lamphiek_state *s, const struct lent *l);
 int64_t make_reading(void);
+/* The count of a row, most often of the last one, or one off it. */
+int64_t make_count(struct words table);
 
 /* A job, accepted or perhaps damaged, with its table and lists as long as it needs or longer. */
 struct lent make_lent(bool damaged);

@@ -31,7 +31,7 @@ uint32_t one_of(const uint32_t *from, size_t n) { return from[below((uint32_t)n)
 
 /* The most words of each: the longest job's needs, 64 exact curves on 16 rows, and some more. */
 static const size_t MOST[ROOMS] = {JOB_MOST,   TABLE_MOST, JOB_MOST,   TABLE_MOST,
-                                   28416 + 16, 13056 + 16, 15360 + 16, 15360 + 16};
+                                   30080 + 16, 13824 + 16, 16256 + 16, 16256 + 16};
 
 static struct {
     struct words all;
@@ -98,12 +98,13 @@ struct words lend(enum room room, const uint32_t *from, size_t n)
 
 /* ---- jobs */
 
-/* B's column in document 01's table of costs: a row more or fewer is one ReLU more or fewer. */
+/* B's column in document 01's table of costs: a row more or fewer is one ReLU more or fewer, and R-1 adds as many words
+ * as one ReLU. */
 uint32_t turns(const uint32_t *order, struct words table)
 {
     static const uint32_t B[KINDS - 1] = {0, 0, 0, 0, 1, 1, 0, 1, 12, 12};
     uint32_t rows = (uint32_t)(table.n / 2);
-    return order[0] < 10 ? B[order[0]] : 12 * rows + (order[3] ? 2 : 12);
+    return order[0] < 10 ? B[order[0]] : 12 * rows + (order[3] ? 2 : 12) + 12;
 }
 
 static uint32_t make_constant(void)
@@ -255,7 +256,7 @@ void forge_place(lamphiek_state *s, const struct lent *l)
     case 3: s->turn--; break;
     case 4: s->order = orders; s->turn = ONE_OF(0, 0, 1, most); break;
     case 5: s->order = orders + below(3); s->turn = below(2); break;
-    case 6: s->order = ONE_OF(most, any, s->order); s->turn = ONE_OF(most, any, below(210)); break;
+    case 6: s->order = ONE_OF(most, any, s->order); s->turn = ONE_OF(most, any, below(222)); break;
     default:
         s->order = below(orders + 1);
         s->turn = below(14);
@@ -280,6 +281,12 @@ int64_t make_reading(void)
     case 6: return (int64_t)below(5) - 2;
     default: return (int64_t)below(6000) - 500;
     }
+}
+
+int64_t make_count(struct words table)
+{
+    size_t row = chance(70) ? table.n / 2 - 1 : below((uint32_t)(table.n / 2));
+    return (int64_t)table.at[2 * row] + below(3) - 1;
 }
 
 /* ---- what is lent */

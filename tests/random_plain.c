@@ -1,4 +1,5 @@
-/* What the registers of a run open, by 64-bit arithmetic (document 01, "Orders" and "The curve"): no shares, no gates.
+/* What the registers of a run open, by 64-bit arithmetic (document 01, "Orders" and "The curve"; R-1): no shares, no
+ * gates.
  * Of the masks only their sum L is followed, and only through kinds 0 to 3 and 6, since the truncations of kinds 6 and
  * 7 depend on it; elsewhere it is not known, and then neither is what depends on it. */
 #include "random.h"
@@ -56,11 +57,14 @@ static struct value one_bit(struct value x, uint32_t k)
     return (struct value){THIS, quotient + (low + masks_low >= by), false, 0};
 }
 
-/* The refresh before the one-bit truncation takes new masks. */
+/* R-1: -1 above the last row's count, and where the difference wraps far below, which no reading that can be split
+ * reaches; elsewhere no row's difference wraps. The refresh before the one-bit truncation takes new masks. */
 static struct value curve(struct value x, uint32_t mode, struct words table)
 {
-    if (x.known != THIS || !in_range(x.v))
+    if (x.known != THIS)
         return (struct value){UNKNOWN, 0, false, 0};
+    if (signed_reading(table.at[table.n - 2] - x.v) < 0)
+        return plainly(-1);
     int64_t y = scaled_sum(table, x.v);
     return mode ? one_bit(plainly(y), 12) : plainly(floored(y, 4096));
 }

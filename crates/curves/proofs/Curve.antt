@@ -1,7 +1,7 @@
 -- Y and C of every table that keeps the rules, at every whole number x. Assumes nothing.
 use mathlib.Core.Path.{_≡_, refl, sym, ap, ap₂, _∙_}
 use mathlib.Core.Bool.{Bool, true, false, cond}
-use mathlib.Core.List.{List, _∷_}
+use mathlib.Core.List.{List}
 use mathlib.Core.Logic.{⊎-elim}
 use Prim.Native.Nat.{ℕ, suc, _+_, _-_, _*_, _%_, _^_, _≤_, _<_}
 use native.Mathlib.Nat.{mul-le-mul, le-refl, mod-lt}
@@ -14,12 +14,12 @@ use Rattle.words.specs.Signed.{floor, wrap}
 use Rattle.truncations.specs.Truncation.{slip}
 use Rattle.words.proofs.Solver.{_⊕_, _⊖_, _⊗_, ⊝, solve}
 use Rattle.words.proofs.Integers.{le-or-lt, sub-ge}
-use Rattle.tables.specs.Table.{Row, rows, keeps-rules}
-use Rattle.curves.specs.Curve.{scaled, Quotient, line, last-count, Near}
+use Rattle.tables.specs.Table.{rows, keeps-rules}
+use Rattle.curves.specs.Curve.{scaled, Quotient, line, Near}
 use Rattle.curves.proofs.Integers.{integers, integer-ring, minus, up, le-gap, lt-gap, cancel-lt, rest, rest-lt, rest-wrap}
 use Rattle.curves.proofs.Integers.{floor-rest}
-use Rattle.tables.proofs.Rows.{Rising, for-table}
-use Rattle.curves.proofs.Scaled.{Loss, loss, level}
+use Rattle.tables.proofs.Rows.{for-table}
+use Rattle.curves.proofs.Scaled.{Loss, loss}
 
 -- ---- where Y lies
 
@@ -124,14 +124,6 @@ next-near C Y l h =
     ∙ ap (λ (z : ℤ). z +ℤ pos 4096) (sym (floor-rest Y 4096 (omega arith))))
     (omega (arith, rest-lt Y 4096 (omega arith))) (omega arith)
 
-level-from : (p : Row) (ps : List Row) → Rising p ps → (x : ℤ) → pos (last-count (p ∷ ps)) ≤ℤ x
-    → scaled (p ∷ ps) x ≡ scaled (p ∷ ps) (pos (last-count (p ∷ ps)))
-unfolding scaled
-level-from p ps h (pos n) l =
-    let m : ℕ = last-count (p ∷ ps) in
-    ap (λ (z : ℤ). pos (4096 * p .c) +ℤ z) (level p ps h n m (leb→le m n (l .le)) (le-refl m))
-level-from p ps h (negsuc n) l = absurd (l .le)
-
 -- ---- the laws, for every table that keeps the rules
 
 module _ (ws : List ℕ) (keeps : T (keeps-rules ws)) (x : ℤ) where
@@ -184,8 +176,3 @@ module _ (ws : List ℕ) (keeps : T (keeps-rules ws)) (x : ℤ) where
           let m : L % 4096 < 4096 = mod-lt L (omega arith) in
           one-more-near (omega arith)
       go false e = rw (+ℤ-idr (floor (scaled (rows ws) x) 4096)) exact-near
-
-  -- Y is the same from the last row's count on
-  pub scaled-level : pos (last-count (rows ws)) ≤ℤ x → scaled (rows ws) x ≡ scaled (rows ws) (pos (last-count (rows ws)))
-  scaled-level =
-      for-table (λ ps. pos (last-count ps) ≤ℤ x → scaled ps x ≡ scaled ps (pos (last-count ps))) (λ p ps h. level-from p ps h x) ws keeps

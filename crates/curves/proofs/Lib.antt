@@ -4,4 +4,5 @@ pub mod Curve
 pub mod Counting
 pub mod Wrapping
 pub mod WordCurve
+pub mod Above
 pub mod Segments

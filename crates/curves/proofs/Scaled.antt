@@ -6,13 +6,14 @@ use Prim.Native.Nat.{ℕ, zero, suc, _+_, _-_, _*_, _≤_, _<_}
 use native.Mathlib.Nat.{mul-le-mul, le-refl}
 use native.Mathlib.Omega.{arith}
 use borrow.Author.Tests.{lt-ltb, le-ltb, le-leb, lt-leb}
+use lib.Dec.{T}
 use lib.IntN.{ℤ, pos, negsuc, subℕ, _+ℤ_, _-ℤ_, _*ℤ_, +ℤ-idr, *ℤ-zero}
 use Rattle.words.proofs.Solver.{_⊕_, _⊖_, _⊗_, solve}
 use Rattle.words.proofs.Integers.{le-or-lt, sub-ge, sub-below}
-use Rattle.tables.specs.Table.{Row, slope}
+use Rattle.tables.specs.Table.{Row, rows, keeps-rules, slope}
 use Rattle.curves.specs.Curve.{relu, segments, scaled, Quotient, whole, between, line-from, line, last-count}
 use Rattle.curves.proofs.Integers.{integers, integer-ring, minus, up, rest, rest-lt, floor-rest}
-use Rattle.tables.proofs.Rows.{Fits, Rising, head-fits}
+use Rattle.tables.proofs.Rows.{Fits, Rising, head-fits, for-table}
 
 -- ---- ReLU: x - r cut at 0, and so nothing of x counts below 0
 
@@ -73,16 +74,8 @@ unfolding last-count
 last-fits p [] h = h .0
 last-fits p (q ∷ ps) h = last-fits q ps (h .2)
 
--- the same from the last row on
-pub level : (p : Row) (ps : List Row) → Rising p ps → (n m : ℕ) → last-count (p ∷ ps) ≤ n → last-count (p ∷ ps) ≤ m
-    → segments (p ∷ ps) (pos n) ≡ segments (p ∷ ps) (pos m)
-unfolding segments last-count
-level p [] h n m ln lm = refl
-level p (q ∷ ps) h n m ln lm =
-    let l : q .r ≤ last-count (q ∷ ps) = last-above q ps (h .2) in
-    let e : n - p .r - (n - q .r) ≡ m - p .r - (m - q .r) = omega arith in
-    segment p q ps (h .1) n ∙ ap₂ (λ (t : ℕ) (y : ℤ). slope p q *ℤ pos t +ℤ y) e (level q ps (h .2) n m ln lm)
-    ∙ sym (segment p q ps (h .1) m)
+pub last-at-most : (ws : List ℕ) → T (keeps-rules ws) → last-count (rows ws) ≤ 4095
+last-at-most = for-table (λ ps. last-count ps ≤ 4095) last-fits
 
 -- ---- how far Y lies below 4096 C
 

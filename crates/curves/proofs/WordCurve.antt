@@ -1,25 +1,24 @@
 -- The sum of words, row by row, reads as Y: by summation by parts on whole numbers, and then word by word. Assumes nothing.
 use mathlib.Core.Path.{_≡_, refl, sym, ap, ap₂, _∙_}
 use mathlib.Core.List.{List, [], _∷_}
-use Prim.Native.Nat.{ℕ, _+_, _-_, _*_, _^_, _≤_, _<_}
-use native.Mathlib.Nat.{mod-eq-of-lt, lt-of-lt-of-le, le-refl}
+use Prim.Native.Nat.{ℕ, suc, _+_, _-_, _*_, _^_, _≤_, _<_}
+use native.Mathlib.Nat.{mod-eq-of-lt, lt-of-lt-of-le}
 use native.Mathlib.Omega.{arith}
-use lib.Dec.{T, le→leb}
+use lib.Dec.{T}
 use lib.IntN.{ℤ, pos, _+ℤ_, _-ℤ_, _*ℤ_}
-use lib.Signed.{mag, leZ-yes}
+use lib.Signed.{mag}
 use lib.Pow.{pow-mono}
 use Rattle.words.specs.Words.{add, sub, mul}
 use Rattle.words.specs.Signed.{signed, wrap, in-range}
 use Rattle.words.proofs.Solver.{_⊕_, _⊖_, _⊗_, `0, solve}
-use Rattle.words.proofs.Integers.{sub-ge}
-use Rattle.words.proofs.Signed.{signed-low, wrap-signed, signed-wrap, in-range-mag, halves}
+use Rattle.words.proofs.Signed.{wrap-signed, signed-wrap, in-range-mag, halves}
 use Rattle.tables.specs.Table.{Row, rows, keeps-rules, slope}
 use Rattle.curves.specs.Curve.{relu, segments, scaled, last-count, slope-after, coefficient, relu-word, word-sum, word-curve}
-use Rattle.curves.proofs.Integers.{integers, integer-ring, minus}
+use Rattle.curves.proofs.Integers.{integers, integer-ring}
 use Rattle.curves.proofs.Wrapping.{wrap-add, wrap-minus, wrap-mul, mag-minus}
 use Rattle.tables.proofs.Rows.{Fits, Rising, head-fits, for-table}
-use Rattle.curves.proofs.Scaled.{last-above, last-fits}
-use Rattle.curves.proofs.Curve.{scaled-mag, scaled-level}
+use Rattle.curves.proofs.Scaled.{last-above, last-at-most}
+use Rattle.curves.proofs.Curve.{scaled-mag}
 
 -- the word x of z, where z - r is in range for every row
 module _ (w x : ℕ) (z : ℤ) (o : 28 ≤ w) (is : x ≡ wrap w z) where
@@ -85,33 +84,16 @@ module _ (w : ℕ) (o : 28 ≤ w) (ws : List ℕ) (keeps : T (keeps-rules ws)) (
           → word-curve w ps x ≡ wrap w (scaled ps (signed w x)))
           (word-of-scaled w x (signed w x) o (sym (wrap-signed w x h))) ws keeps m
 
-  -- for a word in range
-  in-range-rows : T (in-range w (signed w x)) → (r : ℕ) → r ≤ last-count (rows ws) → mag (signed w x -ℤ pos r) < 2 ^ (w - 1)
-  in-range-rows t r l =
+  -- for a word in range, which is far from wrapping at any row
+  pub in-range-far : T (in-range w (signed w x)) → (r : ℕ) → r ≤ last-count (rows ws) → r + suc (mag (signed w x)) < 2 ^ (w - 1)
+  in-range-far t r l =
       let e : w - 1 - 1 ≡ w - 2 = omega arith in
       let q : 2 ^ (w - 1) ≡ 2 ^ (w - 2) + 2 ^ (w - 2) = rw e at (halves (w - 1) (omega arith)) in
       let g : 2 ^ 26 ≤ 2 ^ (w - 2) = pow-mono {i = 26} {j = w - 2} (omega arith) in
-      let k : last-count (rows ws) ≤ 4095 = for-table (λ ps. last-count ps ≤ 4095) last-fits ws keeps in
-      omega (arith, mag-minus (signed w x) r, in-range-mag w (signed w x) t)
+      omega (arith, in-range-mag w (signed w x) t, last-at-most ws keeps)
+
+  in-range-rows : T (in-range w (signed w x)) → (r : ℕ) → r ≤ last-count (rows ws) → mag (signed w x -ℤ pos r) < 2 ^ (w - 1)
+  in-range-rows t r l = omega (arith, mag-minus (signed w x) r, in-range-far t r l)
 
   pub in-range-reads : x < 2 ^ w → T (in-range w (signed w x)) → signed w (word-curve w (rows ws) x) ≡ scaled (rows ws) (signed w x)
   in-range-reads h t = reads (in-range-rows t) h .1
-
-  -- and for one from the last row's count on, up to the largest
-  above-rows : last-count (rows ws) ≤ x → x < 2 ^ (w - 1) → (r : ℕ) → r ≤ last-count (rows ws) → mag (signed w x -ℤ pos r) < 2 ^ (w - 1)
-  above-rows l h r k = rw (signed-low w x h, minus x r, sub-ge x r (omega arith)) (omega arith)
-
-  pub above-reads : last-count (rows ws) ≤ x → x < 2 ^ (w - 1) → signed w (word-curve w (rows ws) x) ≡ scaled (rows ws) (signed w x)
-  above-reads l h = reads (above-rows l h) (omega (arith, halves w (omega arith))) .1
-
-  above-word : last-count (rows ws) ≤ x → x < 2 ^ (w - 1)
-      → word-curve w (rows ws) x ≡ wrap w (scaled (rows ws) (pos (last-count (rows ws))))
-  above-word l h =
-      reads (above-rows l h) (omega (arith, halves w (omega arith))) .0
-      ∙ ap (wrap w) (ap (scaled (rows ws)) (signed-low w x h) ∙ scaled-level ws keeps (pos x) (leZ-yes (le→leb (last-count (rows ws)) x l)))
-
--- the sum of words is the same from the last row's count on
-pub above-alike : (w : ℕ) → 28 ≤ w → (ws : List ℕ) → T (keeps-rules ws) → (x : ℕ) → last-count (rows ws) ≤ x → x < 2 ^ (w - 1)
-    → word-curve w (rows ws) x ≡ word-curve w (rows ws) (last-count (rows ws))
-above-alike w o ws keeps x l h =
-    above-word w o ws keeps x l h ∙ sym (above-word w o ws keeps (last-count (rows ws)) (le-refl (last-count (rows ws))) (omega arith))

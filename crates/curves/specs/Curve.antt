@@ -1,5 +1,5 @@
--- Document 01, "The curve": the scaled sum Y and the exact line C on whole numbers, where nothing wraps; and the sum
--- that the hosts form of words. Assumes nothing.
+-- Document 01, "The curve", and R-1: the scaled sum Y and the exact line C on whole numbers, where nothing wraps; the
+-- sum that the hosts form of words, and what they give above the last row. Assumes nothing.
 use mathlib.Core.Bool.{cond}
 use mathlib.Core.List.{List, [], _∷_}
 use Prim.Native.Nat.{ℕ, _-_, _*_, _<_}
@@ -90,6 +90,16 @@ word-sum w s (p ∷ ps) x sum = word-sum w (slope-after p ps) ps x
 unfoldable pub word-curve : ℕ → List Row → ℕ → ℕ
 word-curve w [] x = 0
 word-curve w (p ∷ ps) x = word-sum w (pos 0) (p ∷ ps) x (4096 * p .c)
+
+-- ---- R-1: what a curve gives above the last row
+
+-- a: "takes the sign of (last r - x), makes it a number": 1 where that word reads negative, and else 0
+unfoldable pub above-last : (w last-r x : ℕ) → ℕ
+above-last w r x = cond (ltZ (signed w (sub w r x)) (pos 0)) 1 0
+
+-- "and subtracts the product of a with the value plus 1"
+unfoldable pub saturated : (w a value : ℕ) → ℕ
+saturated w a v = sub w v (mul w a (add w v 1))
 
 -- ---- document 01's own sum of words, segment by segment: for every x, in range or not, and any rows
 

@@ -5,25 +5,32 @@ use native.Mathlib.Omega.{arith}
 use borrow.Author.Tests.{ltb-false}
 use lib.Dec.{T, eqb, ltb}
 use lib.IntN.{ℤ, pos, negℤ, _+ℤ_, _-ℤ_, _*ℤ_}
+use lib.Pow.{pow-mono}
+use lib.Signed.{_≤ℤ_, _<ℤ_}
 use Rattle.words.specs.Words.{add}
-use Rattle.words.specs.Signed.{floor, signed, wrap, in-range}
+use Rattle.words.specs.Signed.{floor, signed, wrap, shr-signed, in-range}
 use Rattle.words.proofs.Words.{add-lt, sub-lt}
-use Rattle.words.proofs.Signed.{signed-shr, wrap-signed}
+use Rattle.words.proofs.Signed.{signed-low, signed-shr, wrap-signed}
 use Rattle.truncations.specs.Truncation.{one-bit, slip}
 use Rattle.tables.specs.Table.{rows}
-use Rattle.curves.specs.Curve.{relu, word-curve, word-scaled}
+use Rattle.curves.specs.Curve.{relu, word-curve, above-last, saturated, word-scaled}
 use Rattle.curves.proofs.WordCurve.{in-range-reads}
+use Rattle.curves.proofs.Above.{above-one, not-above, above-digit, saturated-reads}
 use Rattle.curves.proofs.Segments.{same-sum, scaled-lt}
-use Rattle.programs.specs.Opens.{curve-value, values}
+use Rattle.programs.specs.Programs.{t-slot}
+use Rattle.programs.specs.Opens.{truncated, curve-value, values}
+use Rattle.programs.proofs.Calibration.{truncated-lt}
 use Rattle.programs.proofs.Readings.{sum-reads, difference-reads, product-reads, plus-reads, times-reads, slack-reads}
 use Rattle.programs.proofs.Readings.{relu-reads, one-bit-reads}
 use Rattle.jobs.specs.Job.{ill-fourth, ill-fourths}
 use Rattle.jobs.proofs.Accepted.{or-false}
-use Rattle.runs.specs.Runs.{Setting, staged, World}
+use Rattle.runs.specs.Runs.{Setting, staged, World, opened-after}
 use Rattle.runs.specs.Orders.{order-of, refresh-mask, source-value, source-mask, second-value, reading, opens, Finishes}
-use Rattle.demands.specs.Demand3.{Y-of, Exact, OneBit}
-use Rattle.demands.specs.ByKind.{reduced, second-reading, shift, m-of, W-of, ByKind}
-use Rattle.runs.proofs.InJob.{good-order}
+use Rattle.demands.specs.Demand3.{Y-of, Exact, OneBit, last-r}
+use Rattle.demands.specs.ByKind.{reduced, second-reading, shift, m-of, W-of, a-of, less-product, ByKind}
+use Rattle.runs.proofs.InJob.{in-job, checked, good-order}
+use Rattle.runs.proofs.Opened.{a-left as a-left-on}
+use Rattle.runs.proofs.Opening.{finished-opens}
 use Rattle.demands.proofs.Curves.{rules-kept, kind-value, of-kind, curve-opens}
 
 module _ (w : ℕ) (wide : 12 < w) (S : Setting) (q : ℕ) (v : World) (F : Finishes w (staged w S) q v) where
@@ -125,17 +132,57 @@ module _ (w : ℕ) (wide : 12 < w) (S : Setting) (q : ℕ) (v : World) (F : Fini
   unfolding Y-of reading
   curve-range o k h = ap (signed w) (sym W-is) ∙ in-range-reads w o (S .table) (rules-kept w S q v F k) x hx h
 
-  curve-exact : Exact S q → opens w S v q ≡ (0, floor (signed w (W-of w S q)) 4096)
-  unfolding curve-value
+  -- R-1's a
+  a-is : above-last w (last-r S) x ≡ a-of w S q
+  unfolding a-of reading
+  a-is = ap (above-last w (last-r S)) (sym (wrap-signed w x hx))
+
+  -- what R-1's steps make of a value
+  less-a : (v : ℕ) → v < 2 ^ w → signed w (saturated w (above-last w (last-r S) x) v) ≡ less-product (a-of w S q) (signed w v)
+  less-a v h =
+      saturated-reads w v one h (above-last w (last-r S) x) (above-digit w (last-r S) x) ∙ ap (λ (a : ℕ). less-product a (signed w v)) a-is
+
+  curve-exact : Exact S q → opens w S v q ≡ (0, less-product (a-of w S q) (floor (signed w (W-of w S q)) 4096))
+  unfolding curve-value truncated
   curve-exact e =
       curve-opens w wide S q v F 0 (e .kind) (e .mode)
-      ∙ ap {B = ℕ × ℤ} (λ (z : ℤ). (0, z)) (rw W-is (signed-shr w 12 (W-of w S q) one W-lt))
+      ∙ ap {B = ℕ × ℤ} (λ (z : ℤ). (0, z))
+      (less-a (shr-signed w 12 (word-curve w (rows (S .table)) x)) (truncated-lt w 0 (word-curve w (rows (S .table)) x) 0)
+      ∙ ap (λ (n : ℕ). less-product (a-of w S q) (signed w (shr-signed w 12 n))) W-is
+      ∙ ap (less-product (a-of w S q)) (signed-shr w 12 (W-of w S q) one W-lt))
 
-  curve-one-bit : OneBit S q → opens w S v q ≡ (0, signed w (one-bit w 12 (add w (W-of w S q) (refresh-mask w S q)) (refresh-mask w S q)))
-  unfolding curve-value
+  curve-one-bit : OneBit S q
+      → opens w S v q
+      ≡ (0, less-product (a-of w S q) (signed w (one-bit w 12 (add w (W-of w S q) (refresh-mask w S q)) (refresh-mask w S q))))
+  unfolding curve-value truncated
   curve-one-bit e =
+      let R = refresh-mask w S q in
       curve-opens w wide S q v F 1 (e .kind) (e .mode)
-      ∙ ap {B = ℕ × ℤ} (λ (n : ℕ). (0, signed w (one-bit w 12 (add w n (refresh-mask w S q)) (refresh-mask w S q)))) W-is
+      ∙ ap {B = ℕ × ℤ} (λ (z : ℤ). (0, z))
+      (less-a (one-bit w 12 (add w (word-curve w (rows (S .table)) x) R) R) (truncated-lt w 1 (word-curve w (rows (S .table)) x) R)
+      ∙ ap (λ (n : ℕ). less-product (a-of w S q) (signed w (one-bit w 12 (add w n R) R))) W-is)
+
+  a-below : 28 ≤ w → order-of S q .kind ≡ 10 → T (in-range w (reading w S q)) → reading w S q ≤ℤ pos (last-r S) → a-of w S q ≡ 0
+  unfolding reading
+  a-below o k h l = sym a-is ∙ not-above w o (S .table) (rules-kept w S q v F k) x hx h l
+
+  a-left : order-of S q .kind ≡ 10 → opened-after w v q t-slot ≡ (0, pos (a-of w S q))
+  a-left k =
+      finished-opens (staged w S) w v (F .run) q t-slot (F .finished)
+      ∙ ap {B = ℕ × ℤ} (λ (n : ℕ). (0, signed w n))
+      (a-left-on w S (F .words) wide (checked w S q v F .script) q (in-job w S q v F) k ∙ a-is)
+      ∙ ap {B = ℕ × ℤ} (λ (z : ℤ). (0, z)) (signed-low w (a-of w S q) small)
+    where
+      small : a-of w S q < 2 ^ (w - 1)
+      small = omega (arith, rw a-is at (above-digit w (last-r S) x), pow-mono {i = 1} {j = w - 1} (omega arith))
+
+-- whatever the run
+a-above : (w : ℕ) → 12 < w → (S : Setting) (q : ℕ) → pos (last-r S) <ℤ reading w S q → a-of w S q ≡ 1
+unfolding a-of reading
+a-above w wide S q l =
+    let x = source-value w S q in
+    let h : x < 2 ^ w = sub-lt w _ _ in
+    ap (above-last w (last-r S)) (wrap-signed w x h) ∙ above-one w (last-r S) x (omega arith) h l
 
 -- at every width above the 12 bits that a curve truncates by
 pub by-kind : (w : ℕ) → 12 < w → ByKind w
@@ -154,6 +201,9 @@ by-kind w wide =
       larger = larger w wide;
       curve-exact = curve-exact w wide;
       curve-one-bit = curve-one-bit w wide;
+      a-above = a-above w wide;
+      a-below = λ o S q v F. a-below w wide S q v F o;
+      a-left = a-left w wide;
       curve-sum = same-sum;
       curve-range = λ o S q v F. curve-range w wide S q v F o;
     }

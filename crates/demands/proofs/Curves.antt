@@ -1,22 +1,36 @@
 -- What a finished order opens after a run: its kind's value; of a curve, the curve's value of its reading. Assumes nothing.
-use mathlib.Core.Path.{_≡_, ap, _∙_}
-use Prim.Native.Nat.{ℕ, suc, _^_, _<_}
-use lib.Dec.{T, lit<, lit≤}
-use lib.IntN.{ℤ, pos, _+ℤ_}
+use mathlib.Core.Path.{_≡_, refl, ap, _∙_}
+use mathlib.Core.Bool.{Bool, true, false, _&&_}
+use Prim.Native.Nat.{ℕ, suc, _-_, _^_, _<_}
+use native.Mathlib.Omega.{arith}
+use lib.Dec.{T, leb, leb→le, lt→ltb, lit<, lit≤}
+use lib.IntN.{ℤ, pos, negsuc, negℤ, _+ℤ_}
 use lib.ListN.{getD}
-use Rattle.words.specs.Signed.{floor, signed, wrap}
+use lib.Signed.{_≤ℤ_, _<ℤ_}
+use Rattle.words.specs.Signed.{floor, signed, wrap, in-range}
 use Rattle.truncations.specs.Truncation.{slip}
 use Rattle.words.proofs.Words.{add-lt, sub-lt}
 use Rattle.tables.specs.Table.{rows, keeps-rules}
+use Rattle.curves.proofs.Scaled.{last-at-most}
 use Rattle.programs.specs.Opens.{curve-value, values, order-value}
-use Rattle.programs.proofs.Calibration.{Promised, exact-curve, one-bit-curve}
+use Rattle.programs.proofs.Calibration.{above-curve, exact-curve, one-bit-curve}
 use Rattle.jobs.proofs.Accepted.{curve-ruled}
 use Rattle.runs.specs.Runs.{Setting, staged, World}
 use Rattle.runs.specs.Orders.{order-of, refresh-mask, source-value, source-mask, second-value, reading, opens, Finishes}
-use Rattle.demands.specs.Demand3.{Y-of}
+use Rattle.demands.specs.Demand3.{Y-of, last-r, Covered}
 use Rattle.runs.proofs.Opened.{order-leaves}
 use Rattle.runs.proofs.Opening.{finished-opens}
 use Rattle.runs.proofs.InJob.{in-job, checked, good-order}
+
+-- from -2^30 to n, where n is below 2^30
+in-range-of : (z : ℤ) (n : ℕ) → negℤ (pos (2 ^ 30)) ≤ℤ z → z ≤ℤ pos n → n < 2 ^ 30 → T (in-range 32 z)
+unfolding in-range
+in-range-of (pos k) n l h m = lt→ltb k (2 ^ 30) (omega (arith, leb→le k n (h .le)))
+in-range-of (negsuc k) n l h m = and-true (leb k (2 ^ 30 - 1)) (l .le)
+  where
+    and-true : (b : Bool) → T b → T (b && true)
+    and-true true t = tt
+    and-true false t = absurd t
 
 -- ---- at every width
 
@@ -48,10 +62,9 @@ module _ (w : ℕ) (wide : 12 < w) (S : Setting) (q : ℕ) (v : World) (F : Fini
       of-kind 10 k
       ∙ ap {B = ℕ × ℤ} (λ (c : ℕ). (0, signed w (curve-value w (rows (S .table)) c (source-value w S q) (refresh-mask w S q)))) m
 
--- ---- at 32 bits: a reading that the curve is promised for
+-- ---- at 32 bits
 
-module _ (S : Setting) (q : ℕ) (v : World) (F : Finishes 32 (staged 32 S) q v) (k : order-of S q .kind ≡ 10)
-    (p : Promised 32 (S .table) (source-value 32 S q)) where
+module _ (S : Setting) (q : ℕ) (v : World) (F : Finishes 32 (staged 32 S) q v) (k : order-of S q .kind ≡ 10) where
   abbrev x : ℕ
   x = source-value 32 S q
 
@@ -62,16 +75,35 @@ module _ (S : Setting) (q : ℕ) (v : World) (F : Finishes 32 (staged 32 S) q v)
   unfolding refresh-mask
   mask-lt = add-lt 32 _ _
 
-  pub exact-opens : order-of S q .fourth ≡ 0 → opens 32 S v q ≡ (0, floor (Y-of 32 S q) 4096)
-  unfolding Y-of reading
-  exact-opens m =
-      curve-opens 32 (lit< tt) S q v F 0 k m
-      ∙ ap {B = ℕ × ℤ} (λ (y : ℤ). (0, y)) (exact-curve 32 (lit≤ tt) (S .table) (rules-kept 32 S q v F k) x (sub-lt 32 _ _) p R)
+  abbrev kept : T (keeps-rules (S .table))
+  kept = rules-kept 32 S q v F k
 
-  pub one-bit-opens : (c : ℕ) → order-of S q .fourth ≡ suc c
-      → opens 32 S v q ≡ (0, floor (Y-of 32 S q) 4096 +ℤ pos (slip 12 (wrap 12 (Y-of 32 S q)) R))
-  unfolding Y-of reading
-  one-bit-opens c m =
-      curve-opens 32 (lit< tt) S q v F (suc c) k m
-      ∙ ap {B = ℕ × ℤ} (λ (y : ℤ). (0, y))
-      (one-bit-curve 32 (lit≤ tt) (S .table) (rules-kept 32 S q v F k) x (sub-lt 32 _ _) p R c mask-lt)
+  -- a reading from -2^30 to the last row's count
+  module _ (h : Covered S q) where
+    ranged : T (in-range 32 (signed 32 x))
+    unfolding reading
+    ranged = in-range-of (signed 32 x) (last-r S) (h .from-low) (h .to-last) (omega (arith, last-at-most (S .table) kept))
+
+    up-to : signed 32 x ≤ℤ pos (last-r S)
+    unfolding reading
+    up-to = h .to-last
+
+    pub exact-opens : order-of S q .fourth ≡ 0 → opens 32 S v q ≡ (0, floor (Y-of 32 S q) 4096)
+    unfolding Y-of reading
+    exact-opens m =
+        curve-opens 32 (lit< tt) S q v F 0 k m
+        ∙ ap {B = ℕ × ℤ} (λ (y : ℤ). (0, y)) (exact-curve 32 (lit≤ tt) (S .table) kept x (sub-lt 32 _ _) ranged up-to R)
+
+    pub one-bit-opens : (c : ℕ) → order-of S q .fourth ≡ suc c
+        → opens 32 S v q ≡ (0, floor (Y-of 32 S q) 4096 +ℤ pos (slip 12 (wrap 12 (Y-of 32 S q)) R))
+    unfolding Y-of reading
+    one-bit-opens c m =
+        curve-opens 32 (lit< tt) S q v F (suc c) k m
+        ∙ ap {B = ℕ × ℤ} (λ (y : ℤ). (0, y)) (one-bit-curve 32 (lit≤ tt) (S .table) kept x (sub-lt 32 _ _) ranged up-to R c mask-lt)
+
+  -- above the last row
+  pub above-opens : pos (last-r S) <ℤ reading 32 S q → opens 32 S v q ≡ (0, negsuc 0)
+  unfolding reading
+  above-opens l =
+      curve-opens 32 (lit< tt) S q v F (order-of S q .fourth) k refl
+      ∙ ap {B = ℕ × ℤ} (λ (y : ℤ). (0, y)) (above-curve 32 (lit≤ tt) (S .table) kept x (sub-lt 32 _ _) (order-of S q .fourth) R l)

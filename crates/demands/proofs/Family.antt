@@ -17,7 +17,8 @@ use Rattle.gates.specs.Walk.{Conf, whole, far}
 use Rattle.gates.specs.Hosts.{Triple, act, share}
 use Rattle.gates.specs.Costs.{Cost, plus}
 use Rattle.gates.proofs.Needs.{far-used, whole-alike}
-use Rattle.programs.specs.Programs.{sum-program, one-bit-program, curve-one-bit}
+use Rattle.curves.specs.Curve.{last-count}
+use Rattle.programs.specs.Programs.{sum-program, one-bit-program, truncation, saturation}
 use Rattle.programs.specs.Orders.{curve-program, kinds, program}
 use Rattle.programs.specs.Costs.{program-cost}
 use Rattle.programs.proofs.Sizes.{cost-after, refresh-uses}
@@ -49,17 +50,18 @@ module _ (w : ℕ) (S : Setting) (q : ℕ) where
 
   -- the refresh's word of A is one of those that the job needs
   pub place-needed : OneBit S q → q < length (orders (S .job)) → i < job-cost w (S .job) (S .table) .a
-  unfolding refresh-place used-before job-cost steps-of program kinds curve-program curve-one-bit plus
+  unfolding refresh-place used-before job-cost steps-of program kinds curve-program truncation plus
   place-needed o h =
       let ps = rows (S .table) in
       let x : ℕ = order-of S q .source in
       let d : ℕ = order-of S q .target in
-      let rest : List Gate = Refresh 22 22 ∷ one-bit-program w 12 22 d in
+      let after : List Gate = one-bit-program w 12 22 22 ++ saturation w (last-count ps) x d in
+      let rest : List Gate = Refresh 22 22 ∷ after in
       let e : getD (gates w S) q [] ≡ sum-program w x ps ++ rest =
       gates-is w S q h
       ∙ ap (λ (n : ℕ). getD (kinds w ps d x (order-of S q .fourth)) n []) (o .kind) ∙ ap (λ (c : ℕ). curve-program w x d ps c) (o .mode) in
       let c = ap (λ (gs : List Gate). program-cost w gs .a) e ∙ ap (λ (k : Cost). k .a) (cost-after w (sum-program w x ps) rest) in
-      omega (arith, c, refresh-uses w 22 22 (one-bit-program w 12 22 d), used-within w (gates w S) q (in-gates w S q h))
+      omega (arith, c, refresh-uses w 22 22 after, used-within w (gates w S) q (in-gates w S q h))
 
   -- the same shares before the order, whatever the word
   before-same : (a : ℕ) → Words w (staged w S) → Words w (staged w (with-word w S q a)) → q < length (orders (S .job))

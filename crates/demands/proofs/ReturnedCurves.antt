@@ -2,10 +2,9 @@
 use mathlib.Core.Path.{_≡_, sym, ap, _∙_, subst}
 use mathlib.Core.List.{List, [], _∷_}
 use Prim.Native.Nat.{ℕ, zero, suc, _*_, _^_, _<_}
-use lib.Dec.{T}
 use lib.IntN.{ℤ, pos, _+ℤ_}
 use lib.ListN.{length, set, length-set}
-use Rattle.words.specs.Signed.{floor, wrap, in-range}
+use Rattle.words.specs.Signed.{floor, wrap}
 use Rattle.tables.specs.Table.{rows}
 use Rattle.curves.specs.Curve.{line, Near}
 use Rattle.curves.specs.Count.{count}
@@ -15,7 +14,7 @@ use Rattle.calls.specs.Scripts.{orders-in}
 use Rattle.calls.specs.Calls.{given}
 use Rattle.runs.specs.Runs.{Stage, Setting, staged, World, Begins, given-out, begin, Accepted}
 use Rattle.runs.specs.Orders.{Words, order-of, reading, opens, Finishes}
-use Rattle.demands.specs.Demand3.{Y-of, OneBit, refresh-place, with-word, eqZ}
+use Rattle.demands.specs.Demand3.{Y-of, OneBit, refresh-place, with-word, eqZ, Covered}
 use Rattle.runs.specs.Strict.{Done}
 use Rattle.demands.specs.Whole.{first-world}
 use Rattle.demands.specs.ReturnedCurves.{Stays, target-opens, ReturnedCurves}
@@ -85,7 +84,7 @@ module _ (w : ℕ) (S : Setting) (q : ℕ) where
 -- ---- the count
 
 module _ (S : Setting) (q : ℕ) (v : ℕ → World) (W : Words 32 (staged 32 S))
-    (F : (a : ℕ) → a < 2 ^ 32 → Stays 32 (with-word 32 S q a) q (v a)) (e : OneBit S q) (h : T (in-range 32 (reading 32 S q))) where
+    (F : (a : ℕ) → a < 2 ^ 32 → Stays 32 (with-word 32 S q a) q (v a)) (e : OneBit S q) (h : Covered S q) where
   word-now : (a : ℕ) → a < 2 ^ 32 → target-opens 32 S (v a) q ≡ opens 32 S (v a) q
   unfolding with-word order-of
   word-now a l = now-opens (with-word 32 S q a) q (v a) (F a l)
@@ -109,7 +108,6 @@ returned-curves =
       slips = λ S q v W F e h. slips S q v W F e h;
       near-exact = λ S q v F e h. subst (NearLine S q) (sym (now-opens S q v F)) (demand3 .near-exact S q v (F .finishes) e h);
       near-one-bit = λ S q v F e h. subst (NearLine S q) (sym (now-opens S q v F)) (demand3 .near-one-bit S q v (F .finishes) e h);
-      saturated = λ S S′ q v v′ a F F′ k e l.
-          now-opens S q v F ∙ demand3 .saturated S S′ q v v′ a (F .finishes) (F′ .finishes) k e l ∙ sym (now-opens S′ q v′ F′);
+      above = λ S q v F k l. now-opens S q v F ∙ demand3 .above S q v (F .finishes) k l;
       family = λ w S q buf W acc h. family w S q buf W acc h;
     }

@@ -1,7 +1,8 @@
--- Document 01, "House table by hand": its bold cases, in every run and from the definitions alone. Assumes nothing.
+-- Document 01, "House table by hand": its bold cases, and those that R-1 changes, in every run and from the definitions
+-- alone. Assumes nothing.
 use mathlib.Core.Path.{_≡_}
 use mathlib.Core.List.{List, [], _∷_, map}
-use Prim.Native.Nat.{ℕ, _-_, _^_}
+use Prim.Native.Nat.{ℕ, _-_, _^_, _≤_}
 use lib.IntN.{ℤ, pos, negℤ}
 use Rattle.words.specs.Signed.{floor, signed, wrap}
 use Rattle.tables.specs.Table.{rows, house}
@@ -13,11 +14,15 @@ use Rattle.runs.specs.Orders.{order-of, source-mask, reading, opens, Finishes}
 use Rattle.demands.specs.Demand3.{Exact}
 
 -- "Exact mode: -2^30 gives 0; 200 gives 0; 201 gives 0; 202 gives 1; 455 gives 249; 456 gives 250; 3571 gives 4248;
--- 3572 gives 4249; 2^30 - 1 gives 4249": what the source reads, and what the order opens
+-- 3572 gives 4249": what the source reads, and what the order opens
 abbrev pub curve-cases : List (ℤ × ℤ)
 curve-cases =
     (negℤ (pos (2 ^ 30)), pos 0) ∷ (pos 200, pos 0) ∷ (pos 201, pos 0) ∷ (pos 202, pos 1) ∷ (pos 455, pos 249)
-    ∷ (pos 456, pos 250) ∷ (pos 3571, pos 4248) ∷ (pos 3572, pos 4249) ∷ (pos (2 ^ 30 - 1), pos 4249) ∷ []
+    ∷ (pos 456, pos 250) ∷ (pos 3571, pos 4248) ∷ (pos 3572, pos 4249) ∷ []
+
+-- R-1: "The cases 5000 and 2^30 - 1 now open -1", in both modes; and so does the first count above the last r
+abbrev pub above-cases : List (ℤ × ℤ)
+above-cases = (pos 3573, negℤ (pos 1)) ∷ (pos 5000, negℤ (pos 1)) ∷ (pos (2 ^ 30 - 1), negℤ (pos 1)) ∷ []
 
 -- "Kind 7, x = 5, k = 2: L = 2 gives 1; L = 3 gives 2": the mask L, and what the order opens
 abbrev pub one-bit-cases : List (ℕ × ℤ)
@@ -33,6 +38,13 @@ exact-cases = (negℤ (pos 5), 1, negℤ (pos 3)) ∷ (negℤ (pos 1), 31, neg�
 abbrev pub CurveOpens : ℤ × ℤ → Type 0
 CurveOpens c =
     (S : Setting) (q : ℕ) (v : World) → Finishes 32 (staged 32 S) q v → Exact S q → S .table ≡ house
+    → reading 32 S q ≡ c .0 → opens 32 S v q ≡ (0, c .1)
+
+-- .. in either mode
+abbrev pub AboveOpens : ℤ × ℤ → Type 0
+AboveOpens c =
+    (S : Setting) (q : ℕ) (v : World) → Finishes 32 (staged 32 S) q v → order-of S q .kind ≡ 10
+    → S .table ≡ house
     → reading 32 S q ≡ c .0 → opens 32 S v q ≡ (0, c .1)
 
 -- order q truncates by k
@@ -67,9 +79,12 @@ gives kind c x L =
 
 pub record ByHand : Type 0 where
   pub curves : Each CurveOpens curve-cases
+  pub aboves : Each AboveOpens above-cases
   pub one-bits : Each OneBitOpens one-bit-cases
   pub exacts : Each ExactOpens exact-cases
   pub curves-defined : map (λ c. gives 10 0 (c .0) 0) curve-cases ≡ map (λ c. c .1) curve-cases
+  pub aboves-defined : (mode : ℕ) → mode ≤ 1
+      → map (λ c. gives 10 mode (c .0) 0) above-cases ≡ map (λ c. c .1) above-cases
   pub one-bits-defined : map (λ c. gives 7 2 (pos 5) (c .0)) one-bit-cases ≡ map (λ c. c .1) one-bit-cases
   pub exacts-defined : map (λ c. gives 8 (c .1) (c .0) 0) exact-cases ≡ map (λ c. c .2) exact-cases
   -- "opens exactly floor(Y / 4096) in exact mode"

@@ -5,14 +5,16 @@ use mathlib.Core.List.{List}
 use Prim.Native.Nat.{ℕ, _^_, _≤_}
 use lib.Dec.{T}
 use lib.IntN.{ℤ, pos, negℤ, _+ℤ_, _-ℤ_, _*ℤ_}
+use lib.Signed.{_≤ℤ_, _<ℤ_}
 use Rattle.words.specs.Words.{add}
 use Rattle.words.specs.Signed.{floor, signed, wrap, in-range}
 use Rattle.truncations.specs.Truncation.{one-bit, slip}
 use Rattle.tables.specs.Table.{Row, rows}
-use Rattle.curves.specs.Curve.{relu, word-curve, word-scaled}
-use Rattle.runs.specs.Runs.{Setting, staged, World}
+use Rattle.curves.specs.Curve.{relu, word-curve, above-last, word-scaled}
+use Rattle.programs.specs.Programs.{t-slot}
+use Rattle.runs.specs.Runs.{Setting, staged, World, opened-after}
 use Rattle.runs.specs.Orders.{order-of, refresh-mask, source-mask, second-value, reading, opens, Finishes}
-use Rattle.demands.specs.Demand3.{Y-of, Exact, OneBit}
+use Rattle.demands.specs.Demand3.{Y-of, Exact, OneBit, last-r}
 
 -- "arithmetic on them is modulo 2^32": the signed reading of the word that is z modulo 2^w
 unfoldable pub reduced : (w : ℕ) → ℤ → ℤ
@@ -33,6 +35,14 @@ m-of w S q = wrap w (reading w S q +ℤ pos (source-mask w S q))
 -- W: "4096 × first c + sum over segments of S × (ReLU(x - r) - ReLU(x - next r))" on words, modulo 2^w throughout
 unfoldable pub W-of : (w : ℕ) → Setting → ℕ → ℕ
 W-of w S q = word-scaled w (rows (S .table)) (wrap w (reading w S q))
+
+-- R-1's a: "takes the sign of (last r - x), makes it a number a", on words
+unfoldable pub a-of : (w : ℕ) → Setting → ℕ → ℕ
+a-of w S q = above-last w (last-r S) (wrap w (reading w S q))
+
+-- "and subtracts the product of a with the value plus 1": of the value v
+abbrev pub less-product : ℕ → ℤ → ℤ
+less-product a v = v -ℤ pos a *ℤ (v +ℤ pos 1)
 
 -- whatever the run, an order q of this kind that it finishes opens f of the order, and meets no number
 abbrev pub KindOpens : (w kind : ℕ) → (Setting → ℕ → ℤ) → Type 0
@@ -70,13 +80,25 @@ pub record ByKind (w : ℕ) : Type 0 where
   pub exact-floor : KindOpens w 8 (λ S q. floor (reading w S q) (2 ^ shift S q))
   -- "9 ReLU: ..; opens the larger of x and 0."
   pub larger : KindOpens w 9 (λ S q. relu (reading w S q))
-  -- "Each row's ReLU runs in row order; then kind 8 with k = 12": every x
+  -- "Each row's ReLU runs in row order; then kind 8 with k = 12", and then R-1's steps: every x
   pub curve-exact : (S : Setting) (q : ℕ) (v : World) → Finishes w (staged w S) q v → Exact S q
-      → opens w S v q ≡ (0, floor (signed w (W-of w S q)) 4096)
-  -- "or kind 5 and kind 7 with k = 12", under the refresh's mask: every x
+      → opens w S v q ≡ (0, less-product (a-of w S q) (floor (signed w (W-of w S q)) 4096))
+  -- "or kind 5 and kind 7 with k = 12", under the refresh's mask, and then R-1's steps: every x
   pub curve-one-bit : (S : Setting) (q : ℕ) (v : World) → Finishes w (staged w S) q v → OneBit S q
       → opens w S v q
-      ≡ (0, signed w (one-bit w 12 (add w (W-of w S q) (refresh-mask w S q)) (refresh-mask w S q)))
+      ≡ (
+        0,
+        less-product (a-of w S q)
+            (signed w (one-bit w 12 (add w (W-of w S q) (refresh-mask w S q)) (refresh-mask w S q))),
+      )
+  -- a is 1 for every x above the last r, and 0 for a reading in range up to it
+  pub a-above : (S : Setting) (q : ℕ) → pos (last-r S) <ℤ reading w S q → a-of w S q ≡ 1
+  pub a-below : 28 ≤ w → (S : Setting) (q : ℕ) (v : World) → Finishes w (staged w S) q v
+      → order-of S q .kind ≡ 10
+      → T (in-range w (reading w S q)) → reading w S q ≤ℤ pos (last-r S) → a-of w S q ≡ 0
+  -- a stands in a temporary when the order ends: opening slot t as the order leaves it gives a
+  pub a-left : (S : Setting) (q : ℕ) (v : World) → Finishes w (staged w S) q v → order-of S q .kind ≡ 10
+      → opened-after w v q t-slot ≡ (0, pos (a-of w S q))
   -- W is the sum that the hosts form of words, row by row: at any width, for every x and whatever the rows
   pub curve-sum : (w′ : ℕ) (ps : List Row) (x : ℕ) → word-curve w′ ps x ≡ word-scaled w′ ps x
   -- "and nothing wraps": for a reading in range W reads Y, which takes at most 28 bits

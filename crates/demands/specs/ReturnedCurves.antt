@@ -3,19 +3,18 @@
 use mathlib.Core.Path.{_≡_}
 use mathlib.Core.List.{List}
 use Prim.Native.Nat.{ℕ, suc, _*_, _^_, _<_}
-use lib.Dec.{T}
-use lib.IntN.{ℤ, pos, _+ℤ_}
+use lib.IntN.{ℤ, pos, negℤ, _+ℤ_}
 use lib.ListN.{length}
-use lib.Signed.{_≤ℤ_}
-use Rattle.words.specs.Signed.{floor, wrap, in-range}
+use lib.Signed.{_<ℤ_}
+use Rattle.words.specs.Signed.{floor, wrap}
 use Rattle.truncations.specs.Truncation.{slip}
 use Rattle.tables.specs.Table.{rows}
-use Rattle.curves.specs.Curve.{line, last-count, Near}
+use Rattle.curves.specs.Curve.{line, Near}
 use Rattle.curves.specs.Count.{count}
 use Rattle.jobs.specs.Job.{orders}
 use Rattle.runs.specs.Runs.{Setting, staged, World, Accepted}
 use Rattle.runs.specs.Orders.{Words, order-of, refresh-mask, reading, Finishes}
-use Rattle.demands.specs.Demand3.{Y-of, Exact, OneBit, with-word, eqZ, Alike}
+use Rattle.demands.specs.Demand3.{Y-of, Exact, OneBit, with-word, eqZ, last-r, Covered}
 use Rattle.runs.specs.Returned.{opened-now, UntargetedFrom}
 
 -- a run that finishes order q, and no later order writes its target
@@ -28,28 +27,23 @@ abbrev pub target-opens : (w : ℕ) → Setting → World → ℕ → ℕ × ℤ
 target-opens w S v q = opened-now w 16 v (order-of S q .target)
 
 pub record ReturnedCurves : Type 0 where
-  pub exact : (S : Setting) (q : ℕ) (v : World) → Stays 32 S q v → Exact S q → T (in-range 32 (reading 32 S q))
+  pub exact : (S : Setting) (q : ℕ) (v : World) → Stays 32 S q v → Exact S q → Covered S q
       → target-opens 32 S v q ≡ (0, floor (Y-of 32 S q) 4096)
-  pub one-bit : (S : Setting) (q : ℕ) (v : World) → Stays 32 S q v → OneBit S q
-      → T (in-range 32 (reading 32 S q))
+  pub one-bit : (S : Setting) (q : ℕ) (v : World) → Stays 32 S q v → OneBit S q → Covered S q
       → target-opens 32 S v q
       ≡ (0, floor (Y-of 32 S q) 4096 +ℤ pos (slip 12 (wrap 12 (Y-of 32 S q)) (refresh-mask 32 S q)))
   pub slips : (S : Setting) (q : ℕ) (v : ℕ → World) → Words 32 (staged 32 S)
       → ((a : ℕ) → a < 2 ^ 32 → Stays 32 (with-word 32 S q a) q (v a)) → OneBit S q
-      → T (in-range 32 (reading 32 S q))
+      → Covered S q
       → count (2 ^ 32) (λ a. eqZ (target-opens 32 S (v a) q .1) (floor (Y-of 32 S q) 4096 +ℤ pos 1))
       ≡ wrap 12 (Y-of 32 S q) * 2 ^ 20
-  pub near-exact : (S : Setting) (q : ℕ) (v : World) → Stays 32 S q v → Exact S q
-      → T (in-range 32 (reading 32 S q))
+  pub near-exact : (S : Setting) (q : ℕ) (v : World) → Stays 32 S q v → Exact S q → Covered S q
       → Near (line (rows (S .table)) (reading 32 S q)) (target-opens 32 S v q .1)
   pub near-one-bit : (S : Setting) (q : ℕ) (v : World) → Stays 32 S q v → OneBit S q
-      → T (in-range 32 (reading 32 S q)) → Near (line (rows (S .table)) (reading 32 S q)) (target-opens 32 S v q .1)
-  pub saturated : (S S′ : Setting) (q : ℕ) (v v′ : World) → Alike S S′ → Stays 32 S q v
-      → Stays 32 S′ q v′
-      → order-of S q .kind ≡ 10
-      → reading 32 S q ≡ pos (last-count (rows (S .table)))
-      → pos (last-count (rows (S .table))) ≤ℤ reading 32 S′ q
-      → target-opens 32 S v q ≡ target-opens 32 S′ v′ q
+      → Covered S q → Near (line (rows (S .table)) (reading 32 S q)) (target-opens 32 S v q .1)
+  pub above : (S : Setting) (q : ℕ) (v : World) → Stays 32 S q v → order-of S q .kind ≡ 10
+      → pos (last-r S) <ℤ reading 32 S q
+      → target-opens 32 S v q ≡ (0, negℤ (pos 1))
   -- the 2^32 runs of `slips` exist, whatever the buffer, for every order of an accepted job on words: at every width as
   -- many runs as there are words
   pub family : (w : ℕ) (S : Setting) (q : ℕ) (buffer : List ℕ) → Words w (staged w S)

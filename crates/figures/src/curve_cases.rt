@@ -1,6 +1,7 @@
-// The curve on the house table and on others: what it opens, how close to the line, and that it is level from the last
-// row on.
+// The curve on the house table and on others: what it opens, how close to the line, and that it opens -1 above the last
+// row.
 use crate::draw::table;
+use crate::line::last_count;
 use crate::lists::entry;
 use crate::lists::nth;
 use crate::lists::part;
@@ -8,7 +9,9 @@ use crate::output::EXACT_CURVE;
 use crate::output::HOUSE_BOTH;
 use crate::output::HOUSE_COUNTS;
 use crate::output::HOUSE_RANGE;
-use crate::output::OTHER_TABLES;
+use crate::output::TABLES_BOTH;
+use crate::output::TABLES_COUNTS;
+use crate::output::TABLES_RANGE;
 use crate::sums::NO_TRIALS;
 use crate::sums::Sums;
 use crate::sums::print_rest;
@@ -16,6 +19,7 @@ use crate::sums::print_values;
 use crate::sweeps::Readings;
 use crate::sweeps::sweep;
 use crate::trials::Trial;
+use crate::trials::compared;
 use crate::trials::opened;
 use crate::trials::run_trial;
 use std::num::wrapping_add_u32;
@@ -118,91 +122,122 @@ const TABLES: [u32; 92] = [
     20000, //
 ];
 
-// Every count, then readings of the whole range.
+// Every count, then readings from -2^30 to 2^31 - 1.
 pub(crate) fn house(mode: u32) {
     let name = wrapping_add_u32(EXACT_CURVE, mode);
     let rows: &[u32] = &tables::HOUSE;
     let counts = sweep(10, mode, Readings::Counts, 21, rows, 4096);
     print_values(name, HOUSE_COUNTS, counts);
-    let range = sweep(10, mode, Readings::Range, 22, rows, 1000);
+    let range = sweep(10, mode, Readings::Upward, 22, rows, 1000);
     print_values(name, HOUSE_RANGE, range);
     print_rest(name, HOUSE_BOTH, counts.plus(range));
 }
 
-// A drawn table with 2 to 16 rows, narrow or wide ones.
-fn on_drawn_table(i: u32, mode: u32) -> Sums {
-    let seed = wrapping_add_u32(100, i);
-    let rows = table(seed, i % 3 == 0);
-    let length = i % 15 * 2 + 4;
-    sweep(10, mode, Readings::Near, seed, part(&rows, 0, length), 300)
+// How many words one of fifteen drawn tables has: 2 to 16 rows.
+fn drawn_length(i: u32) -> u32 {
+    i % 15 * 2 + 4
+}
+
+// The words of a drawn table: narrow rows, or wide ones that may reach up to 4094.
+fn drawn_rows(i: u32) -> [u32; 32] {
+    let most = match i % 3 {
+        0 => 4,
+        _ => 3895 / (i % 15 + 1),
+    };
+    table(wrapping_add_u32(100, i), most)
 }
 
 // Six fixed tables, then fifteen drawn ones.
-fn on_table(i: u32, mode: u32) -> Sums {
-    if 5 < i {
-        return on_drawn_table(i - 6, mode);
+fn on_table(i: u32, mode: u32, readings: Readings, n: u32) -> Sums {
+    let seed = wrapping_add_u32(31, i);
+    if i < 6 {
+        return sweep(10, mode, readings, seed, nth(&TABLES, i), n);
     }
-    let rows = nth(&TABLES, i);
-    sweep(10, mode, Readings::Near, wrapping_add_u32(31, i), rows, 300)
+    let rows = drawn_rows(i - 6);
+    sweep(
+        10,
+        mode,
+        readings,
+        seed,
+        part(&rows, 0, drawn_length(i - 6)),
+        n,
+    )
 }
 
 // Tables of 2 to 16 rows, those that fall among them.
-pub(crate) fn others(mode: u32) {
+fn on_tables(mode: u32, readings: Readings, n: u32) -> Sums {
     let mut sum = NO_TRIALS;
     let mut i: u32 = 0;
     while i < 21 {
-        sum = sum.plus(on_table(i, mode));
+        sum = sum.plus(on_table(i, mode, readings, n));
         i += 1;
     }
-    let name = wrapping_add_u32(EXACT_CURVE, mode);
-    print_values(name, OTHER_TABLES, sum);
-    print_rest(name, OTHER_TABLES, sum);
+    sum
 }
 
-fn opened_at(rows: &[u32], mode: u32, x: u32) -> i64 {
+// The same readings as on the house table.
+pub(crate) fn others(mode: u32) {
+    let name = wrapping_add_u32(EXACT_CURVE, mode);
+    let counts = on_tables(mode, Readings::Counts, 4096);
+    print_values(name, TABLES_COUNTS, counts);
+    let range = on_tables(mode, Readings::Upward, 300);
+    print_values(name, TABLES_RANGE, range);
+    print_rest(name, TABLES_BOTH, counts.plus(range));
+}
+
+// The last row's count and three past it, then readings above every table. The last four cannot be split.
+const LATER: [u32; 12] = [
+    0,
+    1,
+    2,
+    100,
+    4096,
+    65536,
+    16777216,
+    1073741823,
+    1073741824,
+    1500000000,
+    2147483646,
+    2147483647,
+];
+
+// Case 0 of a table is the last row's count, which is to open its value; the eleven readings above it are to open -1.
+// Each case has masks of its own.
+fn wrong_at_end(rows: &[u32], mode: u32, i: u32, seed: u32) -> u32 {
+    let last = last_count(rows);
+    let later = entry(&LATER, i);
+    let x = if i < 4 {
+        wrapping_add_u32(last, later)
+    } else {
+        later
+    };
     let trial = Trial {
         kind: 10,
         target: 3,
         source: 5,
         fourth: mode,
         x,
-        seed: 41,
+        seed,
     };
-    opened(run_trial(trial, rows), 3)
-}
-
-// The last are no readings that can be split, and open the same all the way to 2^31 - 1.
-const ABOVE: [u32; 12] = [
-    0,
-    1,
-    2,
-    100,
-    4095,
-    65536,
-    16777216,
-    1073737728,
-    1073741824,
-    1500000000,
-    2000000000,
-    2147479552,
-];
-
-// Under the same lists a reading above the last row's count opens what that count opens: twelve readings, in both
-// modes. No word's number is above 2^31 - 1.
-fn unlike(rows: &[u32], last: u32, i: u32) -> u32 {
-    let mode = i / 12 % 2;
-    let due = opened_at(rows, mode, last);
-    let found = opened_at(rows, mode, wrapping_add_u32(last, entry(&ABOVE, i % 12)));
-    ((found != due) | (found > 2147483647)) as u32
-}
-
-// On three of the fixed tables and on the house table, 24 cases each.
-pub(crate) fn level_end(i: u32) -> u32 {
-    let fixed: &[u32] = &TABLES;
-    match i / 24 {
-        0 => unlike(nth(fixed, 0), 4095, i),
-        1 => unlike(nth(fixed, 4), 4095, i),
-        2 => unlike(nth(fixed, 5), 1015, i),
-        _ => unlike(&tables::HOUSE, 3572, i),
+    if i == 0 {
+        let at_last = compared(trial, rows);
+        return at_last.value | at_last.line;
     }
+    (opened(run_trial(trial, rows), 3) != -1) as u32
+}
+
+// On the six fixed tables, the fifteen drawn ones and the house table: twelve cases in each mode.
+pub(crate) fn at_end(i: u32) -> u32 {
+    let mode = i / 12 % 2;
+    let case = i % 12;
+    let seed = wrapping_add_u32(4100, i);
+    let at = i / 24;
+    if at < 6 {
+        return wrong_at_end(nth(&TABLES, at), mode, case, seed);
+    }
+    if 20 < at {
+        return wrong_at_end(&tables::HOUSE, mode, case, seed);
+    }
+    let rows = drawn_rows(at - 6);
+    wrong_at_end(part(&rows, 0, drawn_length(at - 6)), mode, case, seed)
 }

@@ -62,8 +62,16 @@ pub(crate) fn changed(list: &[u32], seed: u32, from: u32, n: u32) -> u32 {
     difference
 }
 
-// Sixteen rows: r rises by 1 to 4 where they are narrow, by 1 to 250 elsewhere; c is drawn below 20001.
-pub(crate) fn table(seed: u32, narrow: bool) -> [u32; 32] {
+// 1 to a largest number.
+fn up_to(most: u32, drawn: u32) -> u32 {
+    match most {
+        0 => 1,
+        _ => wrapping_add_u32(drawn % most, 1),
+    }
+}
+
+// Sixteen rows: the first r is below 200, each rises by 1 to so much; c is drawn below 20001.
+pub(crate) fn table(seed: u32, most: u32) -> [u32; 32] {
     let mut rows = [0u32; 32];
     let mut r = word(seed, 100) % 200;
     let mut row: u32 = 0;
@@ -71,13 +79,7 @@ pub(crate) fn table(seed: u32, narrow: bool) -> [u32; 32] {
         let at = row as usize * 2;
         rows[at] = r;
         rows[at + 1] = word(seed, row) % 20001;
-        let drawn = word(seed, row + 200);
-        let rise = if narrow {
-            drawn % 4 + 1
-        } else {
-            drawn % 250 + 1
-        };
-        r = wrapping_add_u32(r, rise);
+        r = wrapping_add_u32(r, up_to(most, word(seed, row + 200)));
         row += 1;
     }
     rows

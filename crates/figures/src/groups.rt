@@ -1,5 +1,5 @@
 // The groups of cases that are numbered one by one.
-use crate::curve_cases::level_end;
+use crate::curve_cases::at_end;
 use crate::output::NOTHING;
 use crate::output::print;
 use crate::rejected::at_place;
@@ -18,7 +18,7 @@ use std::num::wrapping_sub_u32;
 fn wrong_case(group: u32, i: u32) -> u32 {
     match group {
         0 => slack(i),
-        3 => level_end(i),
+        3 => at_end(i),
         4 => no_host(i),
         5 => ill_sized(i),
         6 => faulty_order(3, i),

@@ -17,11 +17,12 @@ pub(crate) struct Segment {
     come: u32,
 }
 
-// A table's rows, 16 at most; Y, from -4095 to some 82 million; the last segment that the reading has come into, or the
-// first.
+// A table's rows, 16 at most; Y, from -4095 to some 82 million; whether the reading is above the last row's count; the
+// last segment that the reading has come into, or the first.
 pub(crate) struct Curve {
     pub(crate) rows: u32,
     pub(crate) sum: u32,
+    pub(crate) above: bool,
     last: Segment,
 }
 
@@ -40,6 +41,12 @@ fn segment_at(x: u32, table: &[u32], at: u32) -> Segment {
     }
 }
 
+// The count of a table's last row.
+pub(crate) fn last_count(table: &[u32]) -> u32 {
+    let words = (table.len() % 33) as u32;
+    entry(table, wrapping_sub_u32(words, 2))
+}
+
 // Each segment adds its slope, rounded down, for each count of the way.
 pub(crate) fn curve_at(x: u32, table: &[u32]) -> Curve {
     let rows = (table.len() / 2 % 17) as u32;
@@ -55,12 +62,18 @@ pub(crate) fn curve_at(x: u32, table: &[u32]) -> Curve {
         }
         row += 1;
     }
-    Curve { rows, sum, last }
+    let above = last_count(table) < x;
+    Curve {
+        rows,
+        sum,
+        above,
+        last,
+    }
 }
 
 // Whether v > C - 2 and v < C + 1 for C = c + change * come / width: v + 2 - C, times width, lies between 0 and 3 *
-// width. It stays far below 2^31 in size, so that a negative one wraps to a large word. Before the first row and past
-// the last the way ends, and so the line is level.
+// width. It stays far below 2^31 in size, so that a negative one wraps to a large word. Before the first row the way
+// has not begun, and so the line is level.
 pub(crate) fn close_to_line(v: u32, curve: Curve) -> bool {
     let s = curve.last;
     let lifted = wrapping_add_u32(v, 2);

@@ -57,7 +57,7 @@ fn main() {
     curve_cases::house(1);
     curve_cases::others(0);
     curve_cases::others(1);
-    group_line(3, 0, 96);
+    group_line(3, 0, 528);
     group_line(4, 0, 12);
     group_line(5, 0, 56);
     group_line(6, 0, 48);

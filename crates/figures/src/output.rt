@@ -2,10 +2,10 @@
 use std::num::wrapping_add_u32;
 
 // 0 to 14 name the groups of cases (`groups`), 15 is empty.
-const PIECES: [u8; 943] = *b"kind 6, x = 0, k = 1, L = 2^31 opens -2^31
+const PIECES: [u8; 1101] = *b"kind 6, x = 0, k = 1, L = 2^31 opens -2^31
 splitting -2^30, -1, 0 and 2^30 - 1, opened again
 refused 11, splitting 2^30, -2^30 - 1, 2^31 - 1 and -2^31
-curve, readings at and above the last row open alike
+curve, at the last row its value, above it to 2^31 - 1 always -1
 refused 1, hosts 0, 3 and 2^32 - 1
 refused 2, jobs of 0, 1, 3, 6, 255, 257 and 260 words
 refused 3, kinds above 10
@@ -25,10 +25,12 @@ kinds 0 to 9
 curve exact
 curve one-bit
 , house table, counts 0 to 4095
-, house table, readings in range
+, house table, readings from -2^30 to 2^31 - 1
 , house table, both
-, 21 tables of 2 to 16 rows
-, above C - 2 and below C + 1
+, 21 tables of 2 to 16 rows, counts 0 to 4095
+, 21 tables of 2 to 16 rows, readings from -2^30 to 2^31 - 1
+, 21 tables of 2 to 16 rows, both
+, up to the last row above C - 2 and below C + 1
 , the fifteen other registers
 , deals, words spoken, rest of the deal buffer
 :
@@ -56,21 +58,25 @@ pub(crate) const HOUSE_RANGE: u32 = 23;
 
 pub(crate) const HOUSE_BOTH: u32 = 24;
 
-pub(crate) const OTHER_TABLES: u32 = 25;
+pub(crate) const TABLES_COUNTS: u32 = 25;
 
-pub(crate) const CLOSE_TO_LINE: u32 = 26;
+pub(crate) const TABLES_RANGE: u32 = 26;
 
-pub(crate) const OTHER_REGISTERS: u32 = 27;
+pub(crate) const TABLES_BOTH: u32 = 27;
 
-pub(crate) const COUNTS: u32 = 28;
+pub(crate) const CLOSE_TO_LINE: u32 = 28;
 
-const CASES: u32 = 29;
+pub(crate) const OTHER_REGISTERS: u32 = 29;
 
-const WRONG: u32 = 30;
+pub(crate) const COUNTS: u32 = 30;
 
-const MISMATCHES: u32 = 31;
+const CASES: u32 = 31;
 
-const FIRST: u32 = 32;
+const WRONG: u32 = 32;
+
+const MISMATCHES: u32 = 33;
+
+const FIRST: u32 = 34;
 
 // Writes a piece, byte by byte.
 fn piece(number: u32) {

@@ -16,8 +16,8 @@ pub(crate) enum Readings {
     Range,
     // 0, 1, 2, ..
     Counts,
-    // some below 0, most of a table's counts and some above
-    Near,
+    // -2^30 to 2^31 - 1
+    Upward,
 }
 
 const EDGES: [u32; 16] = [
@@ -34,12 +34,12 @@ const EDGES: [u32; 16] = [
     65536,
     4294901760,
     2147483647,
-    2147483648,
     1073741824,
+    2147483648,
     3221225471,
 ];
 
-// The first are edges; four of the sixteen are no readings.
+// The first are edges: twelve readings that can be split, two above these, two below.
 fn edge_or(i: u32, edges: u32, otherwise: u32) -> u32 {
     if i < edges {
         entry(&EDGES, i)
@@ -53,7 +53,7 @@ fn reading_at(readings: Readings, i: u32, drawn: u32) -> u32 {
         Readings::Words => edge_or(i, 16, drawn),
         Readings::Range => edge_or(i, 12, wrapping_sub_u32(drawn / 2, 1073741824)),
         Readings::Counts => i,
-        Readings::Near => edge_or(i, 12, wrapping_sub_u32(drawn % 4500, 200)),
+        Readings::Upward => edge_or(i, 14, wrapping_sub_u32(drawn % 3221225472, 1073741824)),
     }
 }
 

@@ -3,6 +3,7 @@ use crate::draw::changed;
 use crate::draw::list;
 use crate::draw::registers;
 use crate::draw::word;
+use crate::line::Curve;
 use crate::line::close_to_line;
 use crate::line::curve_at;
 use crate::lists::part;
@@ -43,17 +44,20 @@ fn value(c: Trial, r: u32) -> u32 {
     }
 }
 
-// The floor of Y / 4096. The one-bit curve, mode 1, adds a carry under the mask sum of its refresh: each row's kind 9
-// uses 26 words of A and 12 of B before that.
-fn curve_value(c: Trial, sum: u32, rows: u32) -> u32 {
-    let l1 = word(word(c.seed, 4), product(rows, 26));
-    let l2 = word(word(c.seed, 5), product(rows, 12));
-    let carried = carry(sum, wrapping_add_u32(l1, l2), 12);
-    wrapping_add_u32(floor_shift(sum, 12), product(c.fourth, carried))
+// -1 above the last row, else the floor of Y / 4096. The one-bit curve, mode 1, adds a carry under the mask sum of its
+// refresh: each row's kind 9 uses 26 words of A and 12 of B before that.
+fn curve_value(c: Trial, curve: Curve) -> u32 {
+    if curve.above {
+        return 4294967295;
+    }
+    let l1 = word(word(c.seed, 4), product(curve.rows, 26));
+    let l2 = word(word(c.seed, 5), product(curve.rows, 12));
+    let carried = carry(curve.sum, wrapping_add_u32(l1, l2), 12);
+    wrapping_add_u32(floor_shift(curve.sum, 12), product(c.fourth, carried))
 }
 
-// What the target is to open, a curve with the scaled sum Y. Kind 6: the two floors that its steps add.
-fn plain_value(c: Trial, sum: u32, rows: u32) -> u32 {
+// What the target is to open. Kind 6: the two floors that its steps add.
+fn plain_value(c: Trial, curve: Curve) -> u32 {
     let y = value(c, c.fourth);
     let l = mask_sum(c.seed, c.source);
     let m = wrapping_add_u32(c.x, l);
@@ -70,7 +74,7 @@ fn plain_value(c: Trial, sum: u32, rows: u32) -> u32 {
         7 => one_bit(c.x, l, k),
         8 => floor_shift(c.x, k),
         9 => positive(c.x),
-        _ => curve_value(c, sum, rows),
+        _ => curve_value(c, curve),
     }
 }
 
@@ -78,7 +82,7 @@ fn plain_value(c: Trial, sum: u32, rows: u32) -> u32 {
 struct Cost(u32, u32);
 
 // Document 01's table of costs. Here 10 is what the exact curve has after its rows, a kind 8, and 11 what the one-bit
-// curve has, the kinds 5 and 7.
+// curve has, the kinds 5 and 7; then each has a sign made a number and a product, which cost what kind 9 does.
 fn due_cost(kind: u32) -> Cost {
     match kind {
         4 => Cost(1, 2),
@@ -87,8 +91,8 @@ fn due_cost(kind: u32) -> Cost {
         7 => Cost(3, 2),
         8 => Cost(16, 24),
         9 => Cost(14, 24),
-        10 => Cost(16, 24),
-        11 => Cost(3, 4),
+        10 => Cost(30, 48),
+        11 => Cost(17, 28),
         _ => Cost(0, 0),
     }
 }
@@ -156,16 +160,18 @@ pub(crate) fn run_trial(c: Trial, table: &[u32]) -> Trio {
     run(&job, table, c.seed, 512, Shared { m, l1, l2 })
 }
 
-// A trial run and compared.
+// A trial run and compared. The line C holds a curve up to the last row.
 pub(crate) fn compared(c: Trial, table: &[u32]) -> Sums {
     let s = run_trial(c, table);
     let found = opened(s, c.target);
     let curve = curve_at(positive(c.x), table);
     let close = close_to_line(words::word_of(found), curve);
+    let on_line = (c.kind == 10) & !curve.above;
     Sums {
         cases: 1,
-        value: (found != number(plain_value(c, curve.sum, curve.rows))) as u32,
-        line: ((c.kind == 10) & !close) as u32,
+        value: (found != number(plain_value(c, curve))) as u32,
+        on_line: on_line as u32,
+        line: (on_line & !close) as u32,
         kept: others_changed(s, c),
         counts: miscounted(s, c, curve.rows),
         first: c.x,

@@ -22,21 +22,21 @@ pub taken-apart : (d a b : ℕ) → a < 1048576 → b < 1048576 → tallied (tal
 unfolding tallied
 taken-apart d a b ha hb = cost-path (omega arith) (omega arith) (omega arith) (omega arith)
 
--- ---- a curve's: a row's for each row, and its end's
+-- ---- a curve's: a row's for each row, its truncation's, and those of R-1's steps
 
 module _ (n : ℕ) (few : n ≤ 16) where
-  pub exact-tally : tallied (n * tally 14 26 12 + tally 16 28 12) ≡ curve-cost 0 n
+  pub exact-tally : tallied (n * tally 14 26 12 + tally 16 28 12 + tally 14 26 12) ≡ curve-cost 0 n
   unfolding curve-cost
   exact-tally =
-      let e : n * tally 14 26 12 + tally 16 28 12 ≡ tally (14 * n + 16) (26 * n + 28) (12 * n + 12) = omega arith in
-      ap tallied e ∙ taken-apart (14 * n + 16) (26 * n + 28) (12 * n + 12) (omega arith) (omega arith)
+      let e : n * tally 14 26 12 + tally 16 28 12 + tally 14 26 12 ≡ tally (14 * n + 30) (26 * n + 54) (12 * n + 24) = omega arith in
+      ap tallied e ∙ taken-apart (14 * n + 30) (26 * n + 54) (12 * n + 24) (omega arith) (omega arith)
       ∙ cost-path refl (omega arith) refl refl
 
-  pub one-bit-tally : tallied (n * tally 14 26 12 + tally 3 5 2) ≡ curve-cost 1 n
+  pub one-bit-tally : tallied (n * tally 14 26 12 + tally 3 5 2 + tally 14 26 12) ≡ curve-cost 1 n
   unfolding curve-cost
   one-bit-tally =
-      let e : n * tally 14 26 12 + tally 3 5 2 ≡ tally (14 * n + 3) (26 * n + 5) (12 * n + 2) = omega arith in
-      ap tallied e ∙ taken-apart (14 * n + 3) (26 * n + 5) (12 * n + 2) (omega arith) (omega arith)
+      let e : n * tally 14 26 12 + tally 3 5 2 + tally 14 26 12 ≡ tally (14 * n + 17) (26 * n + 31) (12 * n + 14) = omega arith in
+      ap tallied e ∙ taken-apart (14 * n + 17) (26 * n + 31) (12 * n + 14) (omega arith) (omega arith)
       ∙ cost-path refl (omega arith) refl refl
 
 -- ---- sums

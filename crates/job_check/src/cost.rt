@@ -38,6 +38,11 @@ const ROW: u64 = programs::ROW_DEALS as u64 * ONE_DEAL
     + programs::ROW_WORDS_A as u64 * ONE_OF_A
     + programs::ROW_EXCHANGES as u64;
 
+// R-1's last steps of a curve.
+const SATURATION: u64 = programs::SATURATION_DEALS as u64 * ONE_DEAL
+    + programs::SATURATION_WORDS_A as u64 * ONE_OF_A
+    + programs::SATURATION_EXCHANGES as u64;
+
 // The rows of a table that keeps its rules; without one no curve is counted.
 pub(crate) fn rows_of(table: &[u32], ruled: bool) -> u64
     requires { ⌜ ruled ≡ keeps-rules (now table) ⌝ }
@@ -52,14 +57,14 @@ pub(crate) struct CurveTallies {
     one_bit: u64,
 }
 
-// A curve: one kind 9 for each row, then a kind 8, or a kind 5 and a kind 7.
+// A curve: one kind 9 for each row, then a kind 8, or a kind 5 and a kind 7, and then R-1's last steps.
 pub(crate) fn curve_tallies(rows: u64) -> CurveTallies
     requires { ⌜ rows ≤ 16 ⌝ }
     ensures { λ r. ⌜ CurveTallied r rows ⌝ }
 {
     CurveTallies {
-        exact: rows * ROW + EXACT,
-        one_bit: rows * ROW + REFRESHED,
+        exact: rows * ROW + EXACT + SATURATION,
+        one_bit: rows * ROW + REFRESHED + SATURATION,
     }
 }
 

@@ -14,8 +14,8 @@ use Rattle.gates.proofs.Needs.{cost-path}
 use Rattle.programs.specs.declared.Order.{Order}
 use Rattle.programs.specs.Orders.{program}
 use Rattle.programs.specs.Costs.{program-cost}
-use Rattle.programs.specs.Sizes.{Size, size-of, plus-size, times-cost, times-size, end-size, curve-size, kind-sizes}
-use Rattle.programs.proofs.Sizes.{order-sized, slack-number, one-bit-number, exact-32, relu-32, row-32, order-cost}
+use Rattle.programs.specs.Sizes.{Size, size-of, plus-size, times-cost, times-size, truncation-size, curve-size, kind-sizes}
+use Rattle.programs.proofs.Sizes.{order-sized, slack-number, one-bit-number, exact-32, relu-32, row-32, saturation-32, order-cost}
 use Rattle.jobs.specs.Job.{orders, job-gates, steps-of, job-cost, order-fault}
 use Rattle.jobs.specs.CostTable.{table-counts, curve-cost, kind-costs, kind-cost}
 use Rattle.jobs.proofs.Accepted.{good, curve-ruled}
@@ -41,9 +41,9 @@ by-kind P a b c d e f g h i j k l (suc (suc (suc (suc (suc (suc (suc (suc (suc (
 
 -- document 01's table of costs is that of the programs' sizes at 32
 curve-tied : (c n : ℕ) → curve-size 32 c n .cost ≡ curve-cost c n
-unfolding curve-size end-size plus-size times-size times-cost curve-cost program-cost order-steps meaning cost step-cost plus
-curve-tied zero n = rw (row-32, exact-32) (cost-path (omega arith) (omega arith) (omega arith) (omega arith))
-curve-tied (suc c) n = rw (row-32, one-bit-number 32) (cost-path (omega arith) (omega arith) (omega arith) (omega arith))
+unfolding curve-size truncation-size plus-size times-size times-cost curve-cost program-cost order-steps meaning cost step-cost plus
+curve-tied zero n = rw (row-32, exact-32, saturation-32) (cost-path (omega arith) (omega arith) (omega arith) (omega arith))
+curve-tied (suc c) n = rw (row-32, one-bit-number 32, saturation-32) (cost-path (omega arith) (omega arith) (omega arith) (omega arith))
 
 pub tied : (c n : ℕ) → map (λ (z : Size). z .cost) (kind-sizes 32 c n) ≡ kind-costs c n
 unfolding kind-sizes kind-costs program-cost order-steps meaning cost step-cost plus

@@ -10,8 +10,8 @@ use Rattle.programs.specs.declared.Order.{Order}
 use Rattle.programs.specs.Programs.{y-slot, acc-slot, res-slot}
 use Rattle.programs.specs.Orders.{program}
 use Rattle.programs.specs.Sizes.{row-gates}
-use Rattle.programs.proofs.Sizes.{one-bit-number, exact-32, relu-32, row-32}
-use Rattle.program_fetch.specs.Pieces.{order-with, part, last-part, row-piece, end-piece, curve-piece, piece-at}
+use Rattle.programs.proofs.Sizes.{one-bit-number, exact-32, relu-32, row-32, saturation-32}
+use Rattle.program_fetch.specs.Pieces.{order-with, part, last-part, row-piece, last-piece, end-piece, curve-piece, piece-at}
 
 less-one : (i : ℕ) → suc i - 1 ≡ i
 less-one i = omega arith
@@ -34,25 +34,40 @@ module _ (x j : ℕ) where
   row-ends zero h l = absurd (omega arith)
   row-ends (suc i) h l = rw (less-one i, relu-32, le-ltb i 39 (omega arith))
 
--- ---- of a curve's truncation
+-- ---- of what a curve has behind its rows
 
-module _ (d : ℕ) where
-  pub end-exact : (mode i : ℕ) → mode ≡ 0 → last-part (order-with 8 d acc-slot 12) i 50 ≡ end-piece 32 mode d i
+module _ (x d : ℕ) where
+  pub end-last : (i : ℕ) → last-part (order-with 13 d x 0) i 41 ≡ last-piece 32 x d i
+  end-last i = rw saturation-32
+
+  pub end-exact : (mode i : ℕ) → mode ≡ 0 → i < 50 → part (order-with 8 acc-slot acc-slot 12) 0 i 50 ≡ end-piece 32 mode x d i
   unfolding end-piece
-  end-exact zero i h = rw exact-32
-  end-exact (suc m) i h = absurd (omega arith)
+  end-exact zero i h l = rw (exact-32, lt-ltb i 50 l)
+  end-exact (suc m) i h l = absurd (omega arith)
 
-  pub end-refresh : (mode i : ℕ) → (mode ≡ 0 → ⊥) → i ≡ 0 → part (order-with 5 acc-slot acc-slot 0) 0 0 1 ≡ end-piece 32 mode d i
+  pub after-exact : (mode i : ℕ) → mode ≡ 0 → 50 ≤ i → last-piece 32 x d (i - 50) ≡ end-piece 32 mode x d i
+  unfolding end-piece
+  after-exact zero i h l = rw (exact-32, le-ltb i 50 l)
+  after-exact (suc m) i h l = absurd (omega arith)
+
+  pub end-refresh : (mode i : ℕ) → (mode ≡ 0 → ⊥) → i ≡ 0 → part (order-with 5 acc-slot acc-slot 0) 0 0 1 ≡ end-piece 32 mode x d i
   unfolding end-piece
   end-refresh zero i n h = absurd (n refl)
   end-refresh (suc m) zero n h = refl
   end-refresh (suc m) (suc i) n h = absurd (omega arith)
 
-  pub end-one-bit : (mode i : ℕ) → (mode ≡ 0 → ⊥) → (i ≡ 0 → ⊥) → last-part (order-with 7 d acc-slot 12) (i - 1) 13 ≡ end-piece 32 mode d i
+  pub end-one-bit : (mode i : ℕ) → (mode ≡ 0 → ⊥) → (i ≡ 0 → ⊥) → i - 1 < 13
+      → part (order-with 7 acc-slot acc-slot 12) 0 (i - 1) 13 ≡ end-piece 32 mode x d i
   unfolding end-piece
-  end-one-bit zero i n h = absurd (n refl)
-  end-one-bit (suc m) zero n h = absurd (h refl)
-  end-one-bit (suc m) (suc i) n h = rw (less-one i, one-bit-number 32)
+  end-one-bit zero i n h l = absurd (n refl)
+  end-one-bit (suc m) zero n h l = absurd (h refl)
+  end-one-bit (suc m) (suc i) n h l = rw (less-one i, one-bit-number 32, lt-ltb i 13 (omega arith))
+
+  pub after-one-bit : (mode i : ℕ) → (mode ≡ 0 → ⊥) → (i ≡ 0 → ⊥) → 13 ≤ i - 1 → last-piece 32 x d (i - 1 - 13) ≡ end-piece 32 mode x d i
+  unfolding end-piece
+  after-one-bit zero i n h l = absurd (n refl)
+  after-one-bit (suc m) zero n h l = absurd (h refl)
+  after-one-bit (suc m) (suc i) n h l = rw (less-one i, one-bit-number 32, le-ltb i 13 (omega arith))
 
 -- ---- of a curve
 
@@ -69,7 +84,7 @@ module _ (n : ℕ) (o : Order) where
   curve-row (suc i) h l = rw (less-one i, row-32, row-gates, lt-ltb (i / 42) n (omega arith))
 
   pub curve-ends : (i : ℕ) → (i ≡ 0 → ⊥) → n ≤ (i - 1) / 42
-      → end-piece 32 (o .fourth) (o .target) (i - 1 - 42 * n) ≡ curve-piece 32 n o i
+      → end-piece 32 (o .fourth) (o .source) (o .target) (i - 1 - 42 * n) ≡ curve-piece 32 n o i
   unfolding curve-piece
   curve-ends zero h l = absurd (h refl)
   curve-ends (suc i) h l = rw (less-one i, row-32, row-gates, le-ltb (i / 42) n (omega arith))
@@ -85,6 +100,6 @@ module _ (ps : List Row) (o : Order) (i : ℕ) where
   unfolding piece-at
   in-curve n h e = rw (← e, le-ltb (o .kind) 10 (omega arith), eq-eqb (o .kind) 10 h)
 
-  pub in-none : 10 ≤ o .kind → (o .kind ≡ 10 → ⊥) → last-part (order-with 13 0 0 0) i 0 ≡ piece-at 32 ps o i
+  pub in-none : 10 ≤ o .kind → (o .kind ≡ 10 → ⊥) → last-part (order-with 14 0 0 0) i 0 ≡ piece-at 32 ps o i
   unfolding piece-at
   in-none h n = rw (le-ltb (o .kind) 10 h, ne-eqb (o .kind) 10 n)

@@ -13,6 +13,7 @@ use Rattle.words.specs.Words.{add, sub, mul}
 use Rattle.words.specs.Signed.{wrap}
 use Rattle.words.proofs.Words.{sub-of}
 use Rattle.tables.specs.Table.{Row, row, rows, row-at, slope, slopes}
+use Rattle.curves.specs.Curve.{last-count}
 use Rattle.curves.proofs.Wrapping.{wrap-minus}
 use Rattle.program_fetch.specs.Pieces.{change}
 use Rattle.programs.proofs.CurveGates.{rows-count}
@@ -71,6 +72,20 @@ module _ (ws : List ℕ) where
         let f : 2 * j + 2 + 1 ≡ 2 * j + 3 = omega arith in
         let q : row-at (rows ws) (suc j) ≡ row (getD ws (2 * j + 2) 0) (getD ws (2 * j + 3) 0) = row-words ws (suc j) l ∙ rw (e, f) in
         sym (slope-inside (rows ws) j l ∙ ap₂ slope (row-words ws j (omega arith)) q)
+
+-- the last row's count is that of the last row
+last-row : (ps : List Row) → row-at ps (length ps - 1) .r ≡ last-count ps
+unfolding last-count
+last-row [] = refl
+last-row (p ∷ []) = refl
+last-row (p ∷ q ∷ ps) =
+    let e : suc (suc (length ps)) - 1 ≡ suc (suc (length ps) - 1) = omega arith in
+    ap (λ (j : ℕ). row-at (p ∷ q ∷ ps) j .r) e ∙ last-row (q ∷ ps)
+
+pub last-counted : (ws : List ℕ) (j : ℕ) {n : ℕ} → length ws / 2 - 1 ≡ j → n ≡ row-at (rows ws) j .r → n ≡ last-count (rows ws)
+last-counted ws j e h =
+    let k : j ≡ length (rows ws) - 1 = omega (arith, rows-count ws) in
+    h ∙ ap (λ (j : ℕ). row-at (rows ws) j .r) k ∙ last-row (rows ws)
 
 pub some-slope-before : (ss : List ℤ) (j : ℕ) → (j ≡ 0 → ⊥) → getD ss (j - 1) (pos 0) ≡ getD (pos 0 ∷ ss) j (pos 0)
 some-slope-before ss zero n = absurd (n refl)

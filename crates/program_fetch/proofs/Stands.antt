@@ -11,17 +11,18 @@ use lib.ListN.{length, getD, take, drop, length-append, getD-replicate, List·ge
 use lib.Seq.{getD-take, drop-append-add}
 use Rattle.gates.specs.Gates.{Gate, Refresh}
 use Rattle.tables.specs.Table.{Row, row-at}
+use Rattle.curves.specs.Curve.{last-count}
 use Rattle.programs.specs.declared.Order.{Order}
 use Rattle.programs.specs.Programs.{acc-slot, res-slot, y-slot, relu-program, slack-program, one-bit-program, exact-program, row-program}
-use Rattle.programs.specs.Programs.{sum-program}
-use Rattle.programs.specs.Orders.{kinds, program}
-use Rattle.programs.specs.Sizes.{Size, one-bit-size, exact-size, relu-size, row-gates, plus-size, times-size}
-use Rattle.programs.proofs.CurveGates.{truncation, refreshed, curve-gates}
+use Rattle.programs.specs.Programs.{sum-program, truncation, saturation}
+use Rattle.programs.specs.Orders.{curve-program, kinds, program}
+use Rattle.programs.specs.Sizes.{Size, one-bit-size, exact-size, relu-size, row-gates, saturation-size, plus-size, times-size}
+use Rattle.programs.proofs.CurveGates.{refreshed}
 use Rattle.programs.proofs.Sizes.{one-bit-sized, exact-sized, relu-sized, sum-sized, any-table, row-number, one-bit-number, exact-32}
-use Rattle.programs.proofs.Sizes.{relu-32}
+use Rattle.programs.proofs.Sizes.{relu-32, saturation-sized, saturation-32}
 use Rattle.program_fetch.specs.declared.Piece.{Piece}
 use Rattle.program_fetch.specs.Pieces.{change, first-gates, row-start, row-end, piece-kinds, piece-gates, order-with, part}
-use Rattle.program_fetch.specs.Pieces.{last-part, row-piece, end-piece, curve-piece, piece-at}
+use Rattle.program_fetch.specs.Pieces.{last-part, row-piece, last-piece, end-piece, curve-piece, piece-at}
 use Rattle.program_fetch.proofs.Cuts.{Cut, at-first, behind, inside, left, row-first, row-relu, row-last, sum-row, sum-start}
 
 -- the piece p holds the gate at index i of an order's program, and all that follow it as far as the piece goes; where
@@ -66,9 +67,16 @@ module _ (w : ℕ) (ps : List Row) (o : Order) (h : o .kind ≡ 10) where
   abbrev sum : List Gate
   sum = sum-program w (o .source) ps
 
-  curve-is : program w ps o ≡ sum ++ truncation w (o .target) (o .fourth)
-  unfolding program kinds
-  curve-is = rw h (sym (curve-gates w (o .source) (o .target) ps (o .fourth)))
+  -- R-1's last steps, and all behind the rows
+  abbrev steps : List Gate
+  steps = saturation w (last-count ps) (o .source) (o .target)
+
+  abbrev rest : List Gate
+  rest = truncation w (o .fourth) ++ steps
+
+  curve-is : program w ps o ≡ sum ++ rest
+  unfolding program kinds curve-program
+  curve-is = rw h
 
   sum-long : length sum ≡ 1 + row-gates w * length ps
   unfolding plus-size times-size
@@ -79,7 +87,7 @@ module _ (w : ℕ) (ps : List Row) (o : Order) (h : o .kind ≡ 10) where
   first-stands =
       part-stands w ps o 0 (order-with 10 0 0 0) 0 0 0 1
       (subst (λ (l : List Gate). Cut l 0 (first-gates w ps)) (sym curve-is)
-      (sum-start w (o .source) ps (truncation w (o .target) (o .fourth))))
+      (sum-start w (o .source) ps rest))
       refl (omega arith) refl (omega arith)
 
   -- a part of a row
@@ -88,9 +96,9 @@ module _ (w : ℕ) (ps : List Row) (o : Order) (h : o .kind ≡ 10) where
         → Cut (program w ps o) (1 + j * row-gates w + m) small
     row-part m small c =
         subst (λ (l : List Gate). Cut l (1 + j * row-gates w + m) small) (sym curve-is)
-        (inside (sum ++ truncation w (o .target) (o .fourth)) (1 + j * row-gates w)
+        (inside (sum ++ rest) (1 + j * row-gates w)
         (row-program w (o .source) (row-at ps j .r) (change w ps j)) m small
-        (sum-row w (o .source) ps (truncation w (o .target) (o .fourth)) j l) c)
+        (sum-row w (o .source) ps rest j l) c)
 
     start-stands : Stands w ps o (1 + j * row-gates w + 0) (part (order-with 11 0 (o .source) 0) j 0 1)
     unfolding piece-gates piece-kinds kinds row-start
@@ -126,54 +134,105 @@ module _ (w : ℕ) (ps : List Row) (o : Order) (h : o .kind ≡ 10) where
         go true e = rw e (relu-stands i (ltb-true i _ e) m)
         go false e = rw e (end-stands i (ltb-false i _ e) f)
 
-  exact-stands : o .fourth ≡ 0 → (i : ℕ) → exact-size w .gates ≤ 50
-      → Stands w ps o (1 + row-gates w * length ps + i) (last-part (order-with 8 (o .target) acc-slot 12) i (exact-size w .gates))
+  -- R-1's last steps, behind a truncation of n gates
+  steps-stand : (gs : List Gate) (n : ℕ) → truncation w (o .fourth) ≡ gs → length gs ≡ n → (i from : ℕ) → i ≡ n + from
+      → saturation-size w .gates ≤ 50
+      → Stands w ps o (1 + row-gates w * length ps + i) (last-piece w (o .source) (o .target) from)
+  unfolding piece-gates piece-kinds kinds
+  steps-stand gs n e c i from f m =
+      last-stands w ps o (sum ++ gs) (order-with 13 (o .target) (o .source) 0) (1 + row-gates w * length ps + i) from
+      (saturation-size w .gates)
+      (curve-is ∙ ap (λ (l : List Gate). sum ++ (l ++ steps)) e ∙ sym (append-assoc sum gs steps))
+      (omega (arith, sum-long, length-append sum gs))
+      (sym (ap (λ (z : Size). z .gates) (saturation-sized w (last-count ps) (o .source) (o .target)))) m
+
+  exact-stands : o .fourth ≡ 0 → (i : ℕ) → i < exact-size w .gates → exact-size w .gates ≤ 50
+      → Stands w ps o (1 + row-gates w * length ps + i) (part (order-with 8 acc-slot acc-slot 12) 0 i (exact-size w .gates))
   unfolding piece-gates piece-kinds kinds truncation
-  exact-stands z i m =
-      last-stands w ps o sum (order-with 8 (o .target) acc-slot 12) (1 + row-gates w * length ps + i) i (exact-size w .gates)
-      (curve-is ∙ ap (λ (k : ℕ). sum ++ truncation w (o .target) k) z)
-      (omega (arith, sum-long)) (sym (ap (λ (z : Size). z .gates) (exact-sized w 12 acc-slot (o .target)))) m
+  exact-stands z i f m =
+      let t : List Gate = exact-program w 12 acc-slot acc-slot in
+      part-stands w ps o (length sum + 0) (order-with 8 acc-slot acc-slot 12) 0 (1 + row-gates w * length ps + i) i (exact-size w .gates)
+      (subst (λ (l : List Gate). Cut l (length sum + 0) t)
+      (sym (curve-is ∙ ap (λ (k : ℕ). sum ++ (truncation w k ++ steps)) z))
+      (behind sum (t ++ steps) 0 t (at-first t steps)))
+      (omega (arith, sum-long)) f (sym (ap (λ (z : Size). z .gates) (exact-sized w 12 acc-slot acc-slot))) m
 
   -- the one-bit truncation, behind its refresh
   module _ (n : o .fourth ≡ 0 → ⊥) where
     abbrev refresh : List Gate
     refresh = Refresh acc-slot acc-slot ∷ []
 
-    one-bit-is : program w ps o ≡ sum ++ (refresh ++ one-bit-program w 12 acc-slot (o .target))
-    one-bit-is = curve-is ∙ ap (λ (l : List Gate). sum ++ l) (sym (refreshed w (o .target) (o .fourth) n))
+    abbrev one-bit : List Gate
+    one-bit = one-bit-program w 12 acc-slot acc-slot
+
+    one-bit-is : program w ps o ≡ sum ++ (refresh ++ (one-bit ++ steps))
+    one-bit-is = curve-is ∙ ap (λ (l : List Gate). sum ++ (l ++ steps)) (sym (refreshed w (o .fourth) n))
 
     refresh-stands : Stands w ps o (1 + row-gates w * length ps + 0) (part (order-with 5 acc-slot acc-slot 0) 0 0 1)
     unfolding piece-gates piece-kinds kinds
     refresh-stands =
-        let t : List Gate = one-bit-program w 12 acc-slot (o .target) in
         part-stands w ps o (length sum + 0) (order-with 5 acc-slot acc-slot 0) 0 (1 + row-gates w * length ps + 0) 0 1
         (subst (λ (l : List Gate). Cut l (length sum + 0) refresh) (sym one-bit-is)
-        (behind sum (refresh ++ t) 0 refresh (at-first refresh t)))
+        (behind sum (refresh ++ (one-bit ++ steps)) 0 refresh (at-first refresh (one-bit ++ steps))))
         (omega (arith, sum-long)) (omega arith) refl (omega arith)
 
-    one-bit-stands : (i : ℕ)
-        → Stands w ps o (1 + row-gates w * length ps + suc i) (last-part (order-with 7 (o .target) acc-slot 12) i (one-bit-size w .gates))
+    one-bit-stands : (i : ℕ) → i < one-bit-size w .gates
+        → Stands w ps o (1 + row-gates w * length ps + suc i) (part (order-with 7 acc-slot acc-slot 12) 0 i (one-bit-size w .gates))
     unfolding piece-gates piece-kinds kinds
-    one-bit-stands i =
-        let t : List Gate = one-bit-program w 12 acc-slot (o .target) in
-        last-stands w ps o (sum ++ refresh) (order-with 7 (o .target) acc-slot 12) (1 + row-gates w * length ps + suc i) i
+    one-bit-stands i f =
+        part-stands w ps o (length sum + (1 + 0)) (order-with 7 acc-slot acc-slot 12) 0 (1 + row-gates w * length ps + suc i) i
         (one-bit-size w .gates)
-        (one-bit-is ∙ sym (append-assoc sum refresh t))
-        (omega (arith, sum-long, length-append sum refresh))
-        (sym (ap (λ (z : Size). z .gates) (one-bit-sized w 12 acc-slot (o .target))))
+        (subst (λ (l : List Gate). Cut l (length sum + (1 + 0)) one-bit) (sym one-bit-is)
+        (behind sum (refresh ++ (one-bit ++ steps)) (1 + 0) one-bit
+        (behind refresh (one-bit ++ steps) 0 one-bit (at-first one-bit steps))))
+        (omega (arith, sum-long)) f
+        (sym (ap (λ (z : Size). z .gates) (one-bit-sized w 12 acc-slot acc-slot)))
         (omega (arith, ap (λ (z : Size). z .gates) (one-bit-number w)))
 
-  truncation-stands : exact-size w .gates ≤ 50 → (mode : ℕ) → o .fourth ≡ mode → (i : ℕ)
-      → Stands w ps o (1 + row-gates w * length ps + i) (end-piece w mode (o .target) i)
-  unfolding end-piece
-  truncation-stands m zero e i = exact-stands e i m
-  truncation-stands m (suc k) e zero = refresh-stands (λ z. omega arith)
-  truncation-stands m (suc k) e (suc i) = one-bit-stands (λ z. omega arith) i
+  -- by the mode
+  module _ (s : saturation-size w .gates ≤ 50) where
+    after-exact : o .fourth ≡ 0 → exact-size w .gates ≤ 50 → (i : ℕ)
+        → Stands w ps o (1 + row-gates w * length ps + i) (end-piece w 0 (o .source) (o .target) i)
+    unfolding end-piece truncation
+    after-exact e m i = go (ltb i n) refl
+      where
+        n : ℕ
+        n = exact-size w .gates
 
-  curve-stands : relu-size w .gates ≤ 50 → exact-size w .gates ≤ 50 → (i : ℕ) → Stands w ps o i (curve-piece w (length ps) o i)
+        go : (b : Bool) → ltb i n ≡ b → Stands w ps o (1 + row-gates w * length ps + i) (end-piece w 0 (o .source) (o .target) i)
+        go true t = rw t (exact-stands e i (ltb-true i n t) m)
+        go false t =
+            rw t (steps-stand (exact-program w 12 acc-slot acc-slot) n (ap (truncation w) e)
+            (ap (λ (z : Size). z .gates) (exact-sized w 12 acc-slot acc-slot)) i (i - n) (omega (arith, ltb-false i n t)) s)
+
+    after-one-bit : (k : ℕ) → o .fourth ≡ suc k → (i : ℕ)
+        → Stands w ps o (1 + row-gates w * length ps + suc i) (end-piece w (suc k) (o .source) (o .target) (suc i))
+    unfolding end-piece truncation
+    after-one-bit k e i = go (ltb i n) refl
+      where
+        n : ℕ
+        n = one-bit-size w .gates
+
+        go : (b : Bool) → ltb i n ≡ b
+            → Stands w ps o (1 + row-gates w * length ps + suc i) (end-piece w (suc k) (o .source) (o .target) (suc i))
+        go true t = rw t (one-bit-stands (λ z. omega arith) i (ltb-true i n t))
+        go false t =
+            rw t (steps-stand (Refresh acc-slot acc-slot ∷ one-bit-program w 12 acc-slot acc-slot) (suc n) (ap (truncation w) e)
+            (ap suc (ap (λ (z : Size). z .gates) (one-bit-sized w 12 acc-slot acc-slot))) (suc i) (i - n)
+            (omega (arith, ltb-false i n t)) s)
+
+    rest-stands : exact-size w .gates ≤ 50 → (mode : ℕ) → o .fourth ≡ mode → (i : ℕ)
+        → Stands w ps o (1 + row-gates w * length ps + i) (end-piece w mode (o .source) (o .target) i)
+    unfolding end-piece
+    rest-stands m zero e i = after-exact e m i
+    rest-stands m (suc k) e zero = refresh-stands (λ z. omega arith)
+    rest-stands m (suc k) e (suc i) = after-one-bit k e i
+
+  curve-stands : relu-size w .gates ≤ 50 → exact-size w .gates ≤ 50 → saturation-size w .gates ≤ 50 → (i : ℕ)
+      → Stands w ps o i (curve-piece w (length ps) o i)
   unfolding curve-piece
-  curve-stands l m zero = first-stands
-  curve-stands l m (suc i) = go (ltb (i / row-gates w) (length ps)) refl
+  curve-stands l m s zero = first-stands
+  curve-stands l m s (suc i) = go (ltb (i / row-gates w) (length ps)) refl
     where
       some : 0 < row-gates w
       some = omega (arith, ap (λ (z : Size). z .gates) (row-number w))
@@ -188,8 +247,8 @@ module _ (w : ℕ) (ps : List Row) (o : Order) (h : o .kind ≡ 10) where
           let n = row-gates w * length ps in
           let past : length ps * row-gates w ≤ i = le-div-iff-mul-le some .0 (ltb-false (i / row-gates w) (length ps) e) in
           let at : 1 + n + (i - n) ≡ suc i = omega (arith, past, mul-comm (length ps) (row-gates w)) in
-          rw e (subst (λ (k : ℕ). Stands w ps o k (end-piece w (o .fourth) (o .target) (i - n))) at
-          (truncation-stands m (o .fourth) refl (i - n)))
+          rw e (subst (λ (k : ℕ). Stands w ps o k (end-piece w (o .fourth) (o .source) (o .target) (i - n))) at
+          (rest-stands s m (o .fourth) refl (i - n)))
 
 -- ---- the other kinds
 module _ (w : ℕ) (ps : List Row) where
@@ -199,21 +258,21 @@ module _ (w : ℕ) (ps : List Row) where
   whole p h =
       let o : Order = p .order in
       let ks : List (List Gate) = kinds w ps (o .target) (o .source) (o .fourth) in
-      List·getD-append (take 10 ks) (first-gates w ps ∷ row-start w ps (p .row) (o .source) ∷ row-end w ps (p .row) ∷ []) [] (o .kind) h
+      List·getD-append (take 10 ks) (drop 10 (piece-kinds w ps o (p .row))) [] (o .kind) h
       ∙ getD-take 10 ks (o .kind) [] h
 
   -- of a kind that does not look at the table
   pub one-gated : (p : Piece) → p .order .kind < 6 → piece-gates w ps p ≡ program w [] (p .order)
   one-gated p h = whole p (omega arith) ∙ any-table w ps [] (p .order) (λ e. omega arith)
 
-  pub nothing : (p : Piece) → 13 ≤ p .order .kind → piece-gates w ps p ≡ []
+  pub nothing : (p : Piece) → 14 ≤ p .order .kind → piece-gates w ps p ≡ []
   unfolding piece-gates piece-kinds kinds
   nothing p h = List·getD-eq-default (piece-kinds w ps (p .order) (p .row)) [] h
 
-  none-stands : (o : Order) (i : ℕ) → 10 < o .kind → Stands w ps o i (last-part (order-with 13 0 0 0) i 0)
+  none-stands : (o : Order) (i : ℕ) → 10 < o .kind → Stands w ps o i (last-part (order-with 14 0 0 0) i 0)
   unfolding piece-gates piece-kinds kinds program
   none-stands o i h =
-      last-stands w ps o [] (order-with 13 0 0 0) i i 0
+      last-stands w ps o [] (order-with 14 0 0 0) i i 0
       (List·getD-eq-default (kinds w ps (o .target) (o .source) (o .fourth)) [] h) (omega arith) refl (omega arith)
 
 -- ---- the numbers of gates of kinds 0 to 9, at 32
@@ -270,7 +329,7 @@ stands ps o i = go (ltb (o .kind) 10) refl (eqb (o .kind) 10) refl
     go true e c d = rw e (whole-stands ps o i (ltb-true (o .kind) 10 e))
     go false e true d =
         rw (e, d) (curve-stands 32 ps o (eqb-true (o .kind) 10 d) (omega (arith, ap (λ (z : Size). z .gates) relu-32))
-        (omega (arith, ap (λ (z : Size). z .gates) exact-32)) i)
+        (omega (arith, ap (λ (z : Size). z .gates) exact-32)) (omega (arith, ap (λ (z : Size). z .gates) saturation-32)) i)
     go false e false d =
         let n : o .kind ≡ 10 → ⊥ = eqb-false (o .kind) 10 d in
         rw (e, d) (none-stands 32 ps o i (omega (arith, ltb-false (o .kind) 10 e)))

@@ -1,7 +1,7 @@
-// The blocks of programs: the adder, by its rounds, and a bit made a number.
+// The blocks of programs: the adder, by its rounds, a bit made a number, and the sign.
 ghost use mathlib.Core.Path.{_≡_};
 ghost use Rattle.gates.specs.Codes.{fetched, read};
-ghost use Rattle.programs.specs.Programs.{adder, rounds, to-number};
+ghost use Rattle.programs.specs.Programs.{adder, rounds, sign-program, to-number};
 ghost use Rattle.truncations.specs.Adder.{distances, updates};
 use crate::codes::on_slots;
 use crate::codes::past;
@@ -26,6 +26,9 @@ use programs::N_SLOT;
 use programs::P_SLOT;
 use programs::ROUND_GATES;
 use programs::S_SLOT;
+use programs::SIGN_BIT;
+use programs::SIGN_NUMBER;
+use programs::SIGN_XOR;
 use programs::T_SLOT;
 use programs::WIDTH;
 
@@ -74,5 +77,19 @@ pub(crate) fn number_gate(i: usize) -> GateCode
         4 => on_slots(ADD, P_SLOT, P_SLOT, S_SLOT),
         5 => on_slots(SUB, T_SLOT, P_SLOT, T_SLOT),
         _ => past(),
+    }
+}
+
+// The sign of slot x made a number: bit 31 of (m xor n), which the adder keeps in n's slot, xor bit 30 of G.
+pub(crate) fn sign_gate(x: u32, i: usize) -> GateCode
+    ensures { λ g. ⌜ read g ≡ fetched (sign-program 32 x) i ⌝ }
+{
+    if i < SIGN_BIT {
+        return adder_gate(x, i);
+    }
+    match i {
+        SIGN_BIT => with_constant(BIT, T_SLOT, G_SLOT, WIDTH - 2),
+        SIGN_XOR => on_slots(XOR, T_SLOT, T_SLOT, N_SLOT),
+        _ => number_gate(i - SIGN_NUMBER),
     }
 }

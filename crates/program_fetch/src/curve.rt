@@ -1,5 +1,5 @@
-// The parts of a curve's program beside the ReLUs and the truncation: its first gate, and what each row has before and
-// after its ReLU.
+// The parts of a curve's program beside the ReLUs and the truncation: its first gate, what each row has before and
+// after its ReLU, and R-1's last steps.
 ghost use mathlib.Core.Path.{_≡_};
 ghost use mathlib.Core.List.{_∷_};
 ghost use Prim.Native.Nat.{_*_, _%_, _^_};
@@ -7,7 +7,10 @@ ghost use lib.IntN.{pos};
 ghost use lib.ListN.{getD};
 ghost use Rattle.gates.specs.Codes.{fetched, read};
 ghost use Rattle.tables.specs.Table.{rows, row-at, slopes};
+ghost use Rattle.curves.specs.Curve.{last-count};
+ghost use Rattle.programs.specs.Programs.{saturation};
 ghost use Rattle.program_fetch.specs.Pieces.{change, first-gates, row-start, row-end};
+use crate::blocks::sign_gate;
 use crate::codes::on_slots;
 use crate::codes::past;
 use crate::codes::with_constant;
@@ -15,10 +18,17 @@ use crate::kinds::minus;
 use gates::ADD;
 use gates::CONST;
 use gates::GateCode;
+use gates::MUL;
 use gates::PLUS;
 use gates::SCALE;
+use gates::SUB;
 use programs::ACC_SLOT;
 use programs::RES_SLOT;
+use programs::SATURATION_HEAD;
+use programs::SATURATION_LAST;
+use programs::SATURATION_PLUS;
+use programs::SATURATION_PRODUCT;
+use programs::T_SLOT;
 use programs::Y_SLOT;
 
 // 4096 times the first row's value, with which the sum starts.
@@ -103,6 +113,33 @@ pub(crate) fn row_end_gate(table: &[u32], row: usize, i: usize) -> GateCode
     match i {
         0 => with_constant(SCALE, RES_SLOT, RES_SLOT, slope_change(table, row)),
         1 => on_slots(ADD, ACC_SLOT, ACC_SLOT, RES_SLOT),
+        _ => past(),
+    }
+}
+
+// The last row's count.
+fn last_count(table: &[u32]) -> u32
+    ensures { λ n. ⌜ n ≡ last-count (rows (now (table .entry))) ⌝ }
+{
+    let count = table.len() / 2;
+    match count {
+        0 => 0,
+        _ => row_count(table, count - 1),
+    }
+}
+
+// R-1: the sign of (last r - x) made a number a, which stays in slot t; the product of a with the value plus 1 is
+// subtracted from the value.
+pub(crate) fn saturation_gate(x: u32, d: u32, table: &[u32], i: usize) -> GateCode
+    ensures { λ g. ⌜ read g ≡ fetched (saturation 32 (last-count (rows (now (table .entry)))) x d) i ⌝ }
+{
+    match i {
+        0 => with_constant(CONST, Y_SLOT, 0, last_count(table)),
+        1 => on_slots(SUB, Y_SLOT, Y_SLOT, x),
+        SATURATION_HEAD..SATURATION_PLUS => sign_gate(Y_SLOT, i - SATURATION_HEAD),
+        SATURATION_PLUS => with_constant(PLUS, RES_SLOT, ACC_SLOT, 1),
+        SATURATION_PRODUCT => on_slots(MUL, RES_SLOT, T_SLOT, RES_SLOT),
+        SATURATION_LAST => on_slots(SUB, d, ACC_SLOT, RES_SLOT),
         _ => past(),
     }
 }

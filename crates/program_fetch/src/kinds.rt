@@ -8,6 +8,7 @@ ghost use Rattle.programs.specs.Programs.{relu-program, slack-program, one-bit-
 ghost use Rattle.programs.specs.Orders.{program};
 use crate::blocks::adder_gate;
 use crate::blocks::number_gate;
+use crate::blocks::sign_gate;
 use crate::codes::on_slots;
 use crate::codes::past;
 use crate::codes::with_constant;
@@ -26,7 +27,6 @@ use gates::PUBLIC_SIGNED;
 use gates::REFRESH;
 use gates::SCALE;
 use gates::SUB;
-use gates::XOR;
 use programs::EXACT_HEAD;
 use programs::EXACT_LAST;
 use programs::EXACT_LOW;
@@ -41,11 +41,8 @@ use programs::N_SLOT;
 use programs::Order;
 use programs::P_SLOT;
 use programs::RELU_LAST;
-use programs::RELU_NUMBER;
 use programs::RELU_ONE;
-use programs::RELU_SIGN;
 use programs::RELU_SUB;
-use programs::RELU_XOR;
 use programs::RES_SLOT;
 use programs::S_SLOT;
 use programs::T_SLOT;
@@ -171,11 +168,10 @@ pub(crate) fn exact_gate(k: u32, x: u32, d: u32, i: usize) -> GateCode
 pub(crate) fn relu_gate(x: u32, d: u32, i: usize) -> GateCode
     ensures { λ g. ⌜ read g ≡ fetched (relu-program 32 x d) i ⌝ }
 {
+    if i < RELU_ONE {
+        return sign_gate(x, i);
+    }
     match i {
-        0..RELU_SIGN => adder_gate(x, i),
-        RELU_SIGN => with_constant(BIT, T_SLOT, G_SLOT, WIDTH - 2),
-        RELU_XOR => on_slots(XOR, T_SLOT, T_SLOT, N_SLOT),
-        RELU_NUMBER..RELU_ONE => number_gate(i - RELU_NUMBER),
         RELU_ONE => with_constant(CONST, S_SLOT, 0, 1),
         RELU_SUB => on_slots(SUB, S_SLOT, S_SLOT, T_SLOT),
         RELU_LAST => on_slots(MUL, d, x, S_SLOT),

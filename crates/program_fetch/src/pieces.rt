@@ -5,14 +5,16 @@ ghost use Prim.Native.Nat.{_<_};
 ghost use lib.ListN.{length};
 ghost use Rattle.gates.specs.Codes.{fetched, read};
 ghost use Rattle.tables.specs.Table.{Row, rows};
+ghost use Rattle.programs.specs.Programs.{acc-slot};
 ghost use Rattle.programs.specs.Orders.{program};
-ghost use Rattle.program_fetch.specs.Pieces.{order-with, part, last-part, row-piece, end-piece, curve-piece};
-ghost use Rattle.program_fetch.specs.Pieces.{piece-at, piece-gates};
+ghost use Rattle.program_fetch.specs.Pieces.{order-with, part, last-part, row-piece, last-piece, end-piece};
+ghost use Rattle.program_fetch.specs.Pieces.{curve-piece, piece-at, piece-gates};
 use crate::Piece;
 use crate::codes::past;
 use crate::curve::first_gate;
 use crate::curve::row_end_gate;
 use crate::curve::row_start_gate;
+use crate::curve::saturation_gate;
 use crate::kinds::exact_gate;
 use crate::kinds::one_bit_gate;
 use crate::kinds::one_gate;
@@ -28,6 +30,7 @@ use programs::RES_SLOT;
 use programs::ROW_GATES;
 use programs::ROW_HEAD;
 use programs::ROW_TAIL;
+use programs::SATURATION_GATES;
 use programs::SLACK_GATES;
 use programs::Y_SLOT;
 
@@ -51,8 +54,10 @@ const ROW_START: u32 = 11;
 
 const ROW_END: u32 = 12;
 
+const SATURATION: u32 = 13;
+
 // A piece without gates.
-const NONE: u32 = 13;
+const NONE: u32 = 14;
 
 // The shift of a curve's truncation.
 const CURVE_SHIFT: u32 = 12;
@@ -107,25 +112,42 @@ fn row_piece(source: u32, row: usize, i: usize) -> Piece
     part(order(ROW_END, 0, 0, 0), row, rest - RELU_GATES, ROW_TAIL)
 }
 
-// The piece in which the gate at index i of a curve's truncation stands: the exact one for mode 0, and else the one-bit
-// one behind a refresh.
-fn end_piece(mode: u32, target: u32, i: usize) -> Piece
-    ensures { λ p. ⌜ p ≡ end-piece 32 mode target i ⌝ }
+// A curve's truncation of this kind, which leaves its value in the sum's own slot.
+fn truncation_part(kind: u32, from: usize, end: usize) -> Piece
+    ensures { λ p. ⌜ p ≡ part (order-with kind acc-slot acc-slot 12) 0 from end ⌝ }
+{
+    part(order(kind, ACC_SLOT, ACC_SLOT, CURVE_SHIFT), 0, from, end)
+}
+
+// R-1's last steps, which go from the source to the target.
+fn last_piece(source: u32, target: u32, i: usize) -> Piece
+    ensures { λ p. ⌜ p ≡ last-piece 32 source target i ⌝ }
+{
+    last_part(order(SATURATION, target, source, 0), i, SATURATION_GATES)
+}
+
+// The piece in which the gate at index i behind a curve's rows stands: the exact truncation for mode 0, and else a
+// refresh and the one-bit one; then R-1's last steps.
+fn end_piece(mode: u32, source: u32, target: u32, i: usize) -> Piece
+    ensures { λ p. ⌜ p ≡ end-piece 32 mode source target i ⌝ }
 {
     if mode == 0 {
-        return last_part(order(EXACT, target, ACC_SLOT, CURVE_SHIFT), i, EXACT_GATES);
+        if i < EXACT_GATES {
+            return truncation_part(EXACT, i, EXACT_GATES);
+        }
+        return last_piece(source, target, i - EXACT_GATES);
     }
     if i == 0 {
         return part(order(REFRESH_KIND, ACC_SLOT, ACC_SLOT, 0), 0, 0, 1);
     }
-    last_part(
-        order(ONE_BIT, target, ACC_SLOT, CURVE_SHIFT),
-        i - 1,
-        ONE_BIT_GATES,
-    )
+    let rest = i - 1;
+    if rest < ONE_BIT_GATES {
+        return truncation_part(ONE_BIT, rest, ONE_BIT_GATES);
+    }
+    last_piece(source, target, rest - ONE_BIT_GATES)
 }
 
-// The piece in which the gate at index i of a curve stands: the first gate, a part of a row, or one of the truncation.
+// The piece in which the gate at index i of a curve stands: the first gate, a part of a row, or one behind the rows.
 // Rows are counted by division, so that no index of any table overflows.
 fn curve_piece(o: Order, count: usize, i: usize) -> Piece
     ensures { λ p. ⌜ p ≡ curve-piece 32 count o i ⌝ }
@@ -137,7 +159,7 @@ fn curve_piece(o: Order, count: usize, i: usize) -> Piece
     if row < count {
         return row_piece(o.source, row, (i - 1) % ROW_GATES);
     }
-    end_piece(o.fourth, o.target, i - 1 - ROW_GATES * count)
+    end_piece(o.fourth, o.source, o.target, i - 1 - ROW_GATES * count)
 }
 
 // The number of gates of kinds 0 to 9.
@@ -184,6 +206,7 @@ pub fn gate_at(p: Piece, table: &[u32], i: usize) -> GateCode
         FIRST => first_gate(table, i),
         ROW_START => row_start_gate(o.source, table, p.row, i),
         ROW_END => row_end_gate(table, p.row, i),
+        SATURATION => saturation_gate(o.source, o.target, table, i),
         _ => past(),
     }
 }

@@ -40,14 +40,16 @@ no-exchange w ps o n h = quiet w ps (o .target) (o .source) (o .fourth) n (o .ki
 
 -- ---- a program of one exchange
 
-abbrev Once : ℕ → Sought → ℕ → Type 0
-Once w s n = ((d x y : ℕ) → s ≡ sought w (Mul d x y ∷ []) n 0 0 0) × ((d x : ℕ) → s ≡ sought w (Refresh d x ∷ []) n 0 0 0)
+abbrev Once : Sought → (w n i a deals : ℕ) → Type 0
+Once s w n i a deals =
+    ((d x y : ℕ) → s ≡ sought w (Mul d x y ∷ []) n i a deals) × ((d x : ℕ) → s ≡ sought w (Refresh d x ∷ []) n i a deals)
 
-pub once : (w n : ℕ) → n ≡ 0 → Once w (Found 0 0 0) n
-unfolding sought sought-at meaning shape
-once w n z = (λ d x y. rw z, λ d x. rw z)
+module _ (w n i a deals : ℕ) where
+  pub once : n ≡ 0 → Once (Found i a deals) w n i a deals
+  unfolding sought sought-at meaning shape
+  once z = (λ d x y. rw z, λ d x. rw z)
 
-pub not-once : (w n : ℕ) → (n ≡ 0 → ⊥) → Once w Nowhere n
+pub not-once : (w n i a deals : ℕ) → (n ≡ 0 → ⊥) → Once Nowhere w n i a deals
 unfolding sought sought-at meaning shape
-not-once w zero f = absurd (f refl)
-not-once w (suc n) f = (λ d x y. refl, λ d x. refl)
+not-once w zero i a deals f = absurd (f refl)
+not-once w (suc n) i a deals f = (λ d x y. refl, λ d x. refl)

@@ -13,15 +13,15 @@ use Rattle.gates.specs.Meaning.{meaning, order-steps}
 use Rattle.gates.specs.Speech.{shape}
 use Rattle.gates.specs.Costs.{Cost, plus, step-cost, cost}
 use Rattle.tables.specs.Table.{Row, rows}
-use Rattle.curves.specs.Curve.{slope-after, coefficient}
+use Rattle.curves.specs.Curve.{last-count, slope-after, coefficient}
 use Rattle.programs.specs.declared.Sought.{Sought}
-use Rattle.programs.specs.Programs.{y-slot, acc-slot, res-slot, relu-program, one-bit-program, exact-program}
-use Rattle.programs.specs.Programs.{row-program, rows-program, sum-program}
+use Rattle.programs.specs.Programs.{y-slot, acc-slot, res-slot, relu-program}
+use Rattle.programs.specs.Programs.{row-program, rows-program, sum-program, truncation, saturation}
 use Rattle.programs.specs.Orders.{curve-program}
 use Rattle.programs.specs.Costs.{program-cost}
 use Rattle.programs.specs.Sizes.{Size, size-of, row-size, row-gates, row-deals, row-words-a, row-exchanges}
 use Rattle.programs.specs.Seek.{sought-at, sought}
-use Rattle.programs.proofs.CurveGates.{rows-count, truncation, refreshed, curve-gates, sum-gates}
+use Rattle.programs.proofs.CurveGates.{rows-count, sum-gates}
 use Rattle.programs.proofs.Sizes.{relu-sized, row-sized, row-number, row-speaks}
 
 -- ---- one program after another
@@ -156,8 +156,9 @@ module _ (w x : ℕ) (hs : List Gate) where
 -- ---- the curve, of a table's words
 
 module _ (w x d : ℕ) (ws : List ℕ) (mode n : ℕ) where
-  to-curve : sought w (sum-program w x (rows ws) ++ truncation w d mode) n 0 0 0 ≡ sought w (curve-program w x d (rows ws) mode) n 0 0 0
-  to-curve = ap (λ (gs : List Gate). sought w gs n 0 0 0) (curve-gates w x d (rows ws) mode)
+  -- what is behind the rows
+  abbrev rest : List Gate
+  rest = truncation w mode ++ saturation w (last-count (rows ws)) x d
 
   -- the row of the exchange
   abbrev at-row : ℕ
@@ -167,38 +168,29 @@ module _ (w x d : ℕ) (ws : List ℕ) (mode n : ℕ) where
       → sought w (relu-program w y-slot res-slot) (n % row-exchanges w) (row-gates w * at-row + 2) (row-words-a w * at-row)
       (row-deals w * at-row)
       ≡ sought w (curve-program w x d (rows ws) mode) n 0 0 0
+  unfolding curve-program
   curve-row-place h =
       let zi : row-gates w * at-row + 2 ≡ suc (at-row * row-gates w + 1) = omega (arith, mul-comm (row-gates w) at-row) in
       let za : row-words-a w * at-row ≡ at-row * row-words-a w + 0 = omega (arith, mul-comm (row-words-a w) at-row) in
       let zd : row-deals w * at-row ≡ at-row * row-deals w + 0 = omega (arith, mul-comm (row-deals w) at-row) in
       rw (zi, za, zd)
-      (rows-at w x (truncation w d mode) (rows ws) (pos 0) at-row (n % row-exchanges w) n 1 0 0 (rw (rows-count ws) h)
+      (rows-at w x rest (rows ws) (pos 0) at-row (n % row-exchanges w) n 1 0 0 (rw (rows-count ws) h)
       (mod-lt n (row-speaks w)) (sym (div-add-mod' n (row-exchanges w)))
-      ∙ sum-next w x (truncation w d mode) (rows ws) n ∙ to-curve)
+      ∙ sum-next w x rest (rows ws) n)
 
   abbrev count : ℕ
   count = length ws / 2
 
-  -- a program's exchange behind the rows
-  abbrev behind-rows : List Gate → Sought
-  behind-rows gs = sought w gs (n - row-exchanges w * count) (row-gates w * count + 1) (row-words-a w * count) (row-deals w * count)
-
-  rest-place : count ≤ at-row → behind-rows (truncation w d mode) ≡ sought w (curve-program w x d (rows ws) mode) n 0 0 0
+  pub rest-place : count ≤ at-row
+      → sought w rest (n - row-exchanges w * count) (row-gates w * count + 1) (row-words-a w * count) (row-deals w * count)
+      ≡ sought w (curve-program w x d (rows ws) mode) n 0 0 0
+  unfolding curve-program
   rest-place h =
       let c : length (rows ws) ≡ count = rows-count ws in
       let zi : row-gates w * count + 1 ≡ count * row-gates w + 1 = omega (arith, mul-comm (row-gates w) count) in
       let za : row-words-a w * count ≡ count * row-words-a w + 0 = omega (arith, mul-comm (row-words-a w) count) in
       let zd : row-deals w * count ≡ count * row-deals w + 0 = omega (arith, mul-comm (row-deals w) count) in
       rw (zi, za, zd, ← c)
-      (rows-end w x (truncation w d mode) (rows ws) (pos 0) (n - row-exchanges w * length (rows ws)) n 1 0 0
+      (rows-end w x rest (rows ws) (pos 0) (n - row-exchanges w * length (rows ws)) n 1 0 0
       (rw c (omega (arith, mul-comm (row-exchanges w) count, le-div-iff-mul-le (row-speaks w) .0 h)))
-      ∙ sum-next w x (truncation w d mode) (rows ws) n ∙ to-curve)
-
-  pub exact-rest-place : count ≤ at-row → mode ≡ 0
-      → behind-rows (exact-program w 12 acc-slot d) ≡ sought w (curve-program w x d (rows ws) mode) n 0 0 0
-  unfolding truncation
-  exact-rest-place h z = ap (λ (m : ℕ). behind-rows (truncation w d m)) (sym z) ∙ rest-place h
-
-  pub refreshed-rest-place : count ≤ at-row → (mode ≡ 0 → ⊥)
-      → behind-rows (Refresh acc-slot acc-slot ∷ one-bit-program w 12 acc-slot d) ≡ sought w (curve-program w x d (rows ws) mode) n 0 0 0
-  refreshed-rest-place h f = ap behind-rows (refreshed w d mode f) ∙ rest-place h
+      ∙ sum-next w x rest (rows ws) n)

@@ -3,20 +3,18 @@ use mathlib.Core.Path.{_≡_, _∙_}
 use mathlib.Core.List.{List, [], _∷_, _++_, append-assoc}
 use Prim.Native.Nat.{ℕ, _-_, _%_, _^_}
 use Rattle.words.specs.Words.{neg}
-use Rattle.gates.specs.Gates.{Field, OfNegated, Gate, Add, Sub, Xor, Mul, Scale, Plus, Bit, Const, Public, Deal}
-use Rattle.programs.specs.Programs.{n-slot, g-slot, s-slot, t-slot, y-slot, res-slot, adder, to-number, relu-program, exact-program}
+use Rattle.gates.specs.Gates.{Field, OfNegated, Gate, Add, Sub, Xor, Scale, Plus, Bit, Public, Deal}
+use Rattle.programs.specs.Programs.{n-slot, g-slot, t-slot, y-slot, res-slot, adder, to-number, sign-program, exact-program}
 
 module _ (w : ℕ) where
-  -- ---- the ReLU
+  -- ---- the sign, with what is behind it
 
-  unfoldable pub relu-rest : (x d : ℕ) → List Gate
-  relu-rest x d =
-      (Bit t-slot g-slot (w - 2) ∷ Xor t-slot t-slot n-slot ∷ to-number w)
-      ++ (Const s-slot 1 ∷ Sub s-slot s-slot t-slot ∷ Mul d x s-slot ∷ [])
+  unfoldable pub sign-rest : List Gate
+  sign-rest = Bit t-slot g-slot (w - 2) ∷ Xor t-slot t-slot n-slot ∷ to-number w
 
-  pub relu-parts : (x d : ℕ) → relu-program w x d ≡ adder w x ++ relu-rest x d
-  unfolding relu-program relu-rest
-  relu-parts x d = append-assoc (adder w x) (Bit t-slot g-slot (w - 2) ∷ Xor t-slot t-slot n-slot ∷ to-number w) _
+  pub sign-parts : (x : ℕ) (gs : List Gate) → sign-program w x ++ gs ≡ adder w x ++ (sign-rest ++ gs)
+  unfolding sign-program sign-rest
+  sign-parts x gs = append-assoc (adder w x) sign-rest gs
 
   -- ---- the exact truncation
 

@@ -1,7 +1,7 @@
 -- Blocks of gates, by rewriting gate by gate: a bit made a number, the adder, the sign and the ReLU. Assumes nothing.
 use mathlib.Core.Path.{_≡_, refl, sym, ap, ap₂, _∙_}
 use mathlib.Core.Bool.{true, false}
-use mathlib.Core.List.{List, [], _∷_, _++_}
+use mathlib.Core.List.{List, [], _∷_}
 use Prim.Native.Nat.{ℕ, _-_, _%_, _^_, _≤_, _<_}
 use native.Mathlib.Nat.{mod-eq-of-lt, div-one}
 use lib.Dec.{eqb, ltb}
@@ -19,7 +19,7 @@ use Rattle.gates.specs.Gates.{Field, Gate, Sub, Xor, Mul, And, Bit, Const, Publ
 use Rattle.gates.specs.Steps.{at}
 use Rattle.gates.specs.Meaning.{part, dealt-of, meaning}
 use Rattle.gates.specs.Hosts.{share, act}
-use Rattle.programs.specs.Programs.{update-gates, rounds, adder, to-number, relu-program}
+use Rattle.programs.specs.Programs.{update-gates, rounds, adder, to-number, sign-program, relu-program}
 use Rattle.programs.proofs.Gates.{Fits}
 use Rattle.programs.proofs.Points.{target, Point, after, afters, afters-append, num, bin, m-of, l1-of, l2-of, keep-m, keep-share}
 use Rattle.programs.proofs.Points.{keep-num, keep-bin}
@@ -152,12 +152,16 @@ module _ (w : ℕ) (A B : List ℕ) (hA : Fits w A) (hB : Fits w B) where
   sign-gates = Bit 20 18 (w - 2) ∷ Xor 20 20 16 ∷ to-number w
 
   module _ (x : ℕ) (G : Pt) (x16 : eqb x 16 ≡ false) (low : 2 ≤ w) where
-    pub sign-opens : num w A B hA hB (afters w A B hA hB sign-gates (afters w A B hA hB (adder w x) G)) 20
-        ≡ bit (num w A B hA hB G x) (w - 1)
+    sign-parts : afters w A B hA hB (sign-program w x) G ≡ afters w A B hA hB sign-gates (afters w A B hA hB (adder w x) G)
+    unfolding sign-program
+    sign-parts = afters-append w A B hA hB (adder w x) sign-gates G
+
+    pub sign-opens : num w A B hA hB (afters w A B hA hB (sign-program w x) G) 20 ≡ bit (num w A B hA hB G x) (w - 1)
     unfolding afters target sign
     sign-opens =
         let H : Pt = afters w A B hA hB (adder w x) G in
-        number-opens _ low (digit-xor _ 20 20 16 refl (digit-bit H 20 18 (w - 2) refl)
+        ap (λ (H : Pt). num w A B hA hB H 20) sign-parts
+        ∙ number-opens _ low (digit-xor _ 20 20 16 refl (digit-bit H 20 18 (w - 2) refl)
         (digit-kept H _ 16 (keep-16 H) (adder-digit x G x16)))
         ∙ bits-xor H
         ∙ xor-comm (bit (bin w A B hA hB H 18) (w - 2)) (bin w A B hA hB H 16)
@@ -173,9 +177,11 @@ module _ (w : ℕ) (A B : List ℕ) (hA : Fits w A) (hB : Fits w B) where
 
     -- x itself is kept
     pub sign-keeps : (i : ℕ) → eqb i 16 ≡ false → eqb i 17 ≡ false → eqb i 18 ≡ false → eqb i 19 ≡ false → eqb i 20 ≡ false
-        → share (afters w A B hA hB sign-gates (afters w A B hA hB (adder w x) G) .j) i ≡ share (G .j) i
+        → share (afters w A B hA hB (sign-program w x) G .j) i ≡ share (G .j) i
     unfolding afters target
-    sign-keeps i i16 i17 i18 i19 i20 = number-keeps _ i i17 i19 i20 ∙ (simp keep-share) ∙ adder-keeps x G i i16 i17 i18 i19 i20
+    sign-keeps i i16 i17 i18 i19 i20 =
+        ap (λ (H : Pt). share (H .j) i) sign-parts
+        ∙ number-keeps _ i i17 i19 i20 ∙ (simp keep-share) ∙ adder-keeps x G i i16 i17 i18 i19 i20
 
   -- ---- ReLU of slot x into slot d
 
@@ -183,13 +189,11 @@ module _ (w : ℕ) (A B : List ℕ) (hA : Fits w A) (hB : Fits w B) where
       (x20 : eqb x 20 ≡ false)
       (hd : ltb d 24 ≡ true) (low : 2 ≤ w) where
     abbrev signed-at : Pt
-    signed-at = afters w A B hA hB sign-gates (afters w A B hA hB (adder w x) G)
+    signed-at = afters w A B hA hB (sign-program w x) G
 
     relu-parts : afters w A B hA hB (relu-program w x d) G ≡ afters w A B hA hB (Const 19 1 ∷ Sub 19 19 20 ∷ Mul d x 19 ∷ []) signed-at
     unfolding relu-program
-    relu-parts =
-        afters-append w A B hA hB (adder w x ++ sign-gates) _ G
-        ∙ ap (afters w A B hA hB (Const 19 1 ∷ Sub 19 19 20 ∷ Mul d x 19 ∷ [])) (afters-append w A B hA hB (adder w x) sign-gates G)
+    relu-parts = afters-append w A B hA hB (sign-program w x) (Const 19 1 ∷ Sub 19 19 20 ∷ Mul d x 19 ∷ []) G
 
     relu-end : num w A B hA hB (afters w A B hA hB (Const 19 1 ∷ Sub 19 19 20 ∷ Mul d x 19 ∷ []) signed-at) d
         ≡ mul w (num w A B hA hB signed-at x) (sub w (1 % 2 ^ w) (num w A B hA hB signed-at 20))

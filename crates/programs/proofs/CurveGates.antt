@@ -1,15 +1,14 @@
--- The parts of a curve's program: its first gate, the gates of its rows, and the truncation of its mode. Assumes nothing.
+-- The parts of a curve's program: its first gate and the gates of its rows, and the truncation of its mode. Assumes nothing.
 use mathlib.Core.Path.{_≡_, refl, sym, ap}
-use mathlib.Core.List.{List, [], _∷_, _++_}
+use mathlib.Core.List.{List, [], _∷_}
 use Prim.Native.Nat.{ℕ, zero, suc, _*_, _/_, _%_, _^_}
 use native.Mathlib.Nat.{zero-mod}
 use native.Mathlib.Omega.{arith}
 use lib.IntN.{pos}
 use lib.ListN.{length}
-use Rattle.gates.specs.Gates.{Gate, Refresh, Const}
+use Rattle.gates.specs.Gates.{Refresh, Const}
 use Rattle.tables.specs.Table.{Row, rows, row-at}
-use Rattle.programs.specs.Programs.{acc-slot, one-bit-program, exact-program, rows-program, sum-program, curve-exact, curve-one-bit}
-use Rattle.programs.specs.Orders.{curve-program}
+use Rattle.programs.specs.Programs.{acc-slot, one-bit-program, rows-program, sum-program, truncation}
 
 -- a table's words are two to a row
 pub rows-count : (ws : List ℕ) → length (rows ws) ≡ length ws / 2
@@ -26,18 +25,8 @@ module _ (w : ℕ) where
   sum-gates x [] = ap (λ (n : ℕ). Const acc-slot n ∷ []) (sym (zero-mod (2 ^ w)))
   sum-gates x (p ∷ ps) = refl
 
-  -- ---- the curve's truncation, by its mode
-
-  unfoldable pub truncation : (d mode : ℕ) → List Gate
-  truncation d zero = exact-program w 12 acc-slot d
-  truncation d (suc m) = Refresh acc-slot acc-slot ∷ one-bit-program w 12 acc-slot d
-
-  pub curve-gates : (x d : ℕ) (ps : List Row) (mode : ℕ) → sum-program w x ps ++ truncation d mode ≡ curve-program w x d ps mode
-  unfolding truncation curve-program curve-exact curve-one-bit
-  curve-gates x d ps zero = refl
-  curve-gates x d ps (suc m) = refl
-
-  pub refreshed : (d mode : ℕ) → (mode ≡ 0 → ⊥) → Refresh acc-slot acc-slot ∷ one-bit-program w 12 acc-slot d ≡ truncation d mode
+  -- the truncation of every mode but 0
+  pub refreshed : (mode : ℕ) → (mode ≡ 0 → ⊥) → Refresh acc-slot acc-slot ∷ one-bit-program w 12 acc-slot acc-slot ≡ truncation w mode
   unfolding truncation
-  refreshed d zero f = absurd (f refl)
-  refreshed d (suc m) f = refl
+  refreshed zero f = absurd (f refl)
+  refreshed (suc m) f = refl

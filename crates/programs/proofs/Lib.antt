@@ -4,6 +4,7 @@ pub mod Targets
 pub mod Blocks
 pub mod Truncations
 pub mod Curve
+pub mod Saturation
 pub mod Opens
 pub mod Readings
 pub mod Calibration

@@ -2,10 +2,10 @@
 -- Assumes nothing.
 use mathlib.Core.Path.{_≡_, refl, ap, ap₂, _∙_}
 use mathlib.Core.Bool.{true, false}
-use mathlib.Core.List.{List, [], _∷_}
+use mathlib.Core.List.{List, [], _∷_, _++_}
 use Prim.Native.Nat.{ℕ, zero, suc, _≤_, _<_}
 use native.Mathlib.Omega.{arith}
-use borrow.Author.Tests.{lt-ltb}
+use borrow.Author.Tests.{lt-ltb, ne-eqb}
 use lib.Dec.{eqb, ltb, lit≤}
 use lib.ListN.{getD, length}
 use lib.Seq.{getD-set-same}
@@ -16,16 +16,17 @@ use Rattle.words.proofs.Solver.{exprs}
 use Rattle.words.proofs.Below.{number-carrier, solve-below}
 use Rattle.words.proofs.Words.{add-lt, sub-lt}
 use Rattle.truncations.proofs.Truncation.{exact-floor}
+use Rattle.shares.specs.Gates.{value}
 use Rattle.gates.specs.Gates.{Gate, Add, Sub, Mul, Refresh, Scale, Plus}
 use Rattle.gates.specs.Steps.{at, new-at}
 use Rattle.gates.specs.Meaning.{meaning}
 use Rattle.gates.specs.Hosts.{share, act}
 use Rattle.tables.specs.Table.{Row}
-use Rattle.curves.specs.Curve.{relu-word, word-curve}
-use Rattle.programs.specs.Programs.{relu-program, slack-program, one-bit-program, exact-program, sum-program, curve-exact}
-use Rattle.programs.specs.Programs.{curve-one-bit}
+use Rattle.curves.specs.Curve.{last-count, relu-word, word-curve, above-last, saturated}
+use Rattle.programs.specs.Programs.{relu-program, slack-program, one-bit-program, exact-program, sum-program, truncation}
+use Rattle.programs.specs.Programs.{saturation}
 use Rattle.programs.specs.Orders.{curve-program, kinds}
-use Rattle.programs.specs.Opens.{curve-value, values}
+use Rattle.programs.specs.Opens.{truncated, curve-value, values}
 use Rattle.programs.proofs.Gates.{Fits}
 use Rattle.programs.proofs.Points.{not-temporary, Other, other, target, Point, after, afters, afters-append, num, m-of, l1-of}
 use Rattle.programs.proofs.Points.{l2-of, keep-share}
@@ -33,6 +34,7 @@ use Rattle.programs.proofs.Targets.{at-add, at-sub, at-mul, at-scale, a
 use Rattle.programs.proofs.Blocks.{relu-opens, relu-keeps}
 use Rattle.programs.proofs.Truncations.{mask-of, slack-opens, slack-keeps, one-bit-opens, one-bit-keeps, exact-opens, exact-keeps}
 use Rattle.programs.proofs.Curve.{relu-formula, sum-opens, sum-keeps}
+use Rattle.programs.proofs.Saturation.{saturation-opens, saturation-leaves, saturation-keeps}
 
 -- what holds of the kinds 0 to 10
 by-kind : (P : ℕ → Type 0) → P 0 → P 1 → P 2 → P 3 → P 4 → P 5 → P 6 → P 7 → P 8 → P 9 → P 10 → (k : ℕ) → k ≤ 10 → P k
@@ -85,26 +87,74 @@ module _ (w : ℕ) (A B : List ℕ) (hA : Fits w A) (hB : Fits w B) (low : 2 ≤
 
   -- ---- the curve
 
-  module _ (x d : ℕ) (hx : x < 16) (hd : ltb d 24 ≡ true) (p : Row) (ps : List Row) (G : Pt) where
+  -- the truncation of slot 22, in its mode
+  truncation-opens : 12 < w → (mode : ℕ) (H : Pt) (v : ℕ) → num w A B hA hB H 22 ≡ v
+      → num w A B hA hB (run (truncation w mode) H) 22 ≡ truncated w mode v (new-mask H)
+  unfolding truncation truncated afters
+  truncation-opens h zero H v e = exact-of 12 22 22 H refl (lit≤ tt) h ∙ ap (shr-signed w 12) e
+  truncation-opens h (suc m) H v e =
+      one-bit-of 12 22 22 (after w A B hA hB (Refresh 22 22) H) refl
+      ∙ ap₂ (λ (v L : ℕ). one-bit w 12 (add w v L) L) (at-refresh w A B hA hB H 22 refl 22 ∙ e) (refresh-mask H 22 22 refl)
+
+  truncation-keeps : (mode : ℕ) (H : Pt) (i : ℕ) → i < 16 → share (run (truncation w mode) H .j) i ≡ share (H .j) i
+  unfolding truncation afters target
+  truncation-keeps mode H i hi = go mode (other 22 i hi (not-temporary i 22 hi (lit≤ tt)))
+    where
+      go : (mode : ℕ) → Other 22 i → share (run (truncation w mode) H .j) i ≡ share (H .j) i
+      go zero o = exact-keeps w A B hA hB 12 22 22 H refl low i o
+      go (suc m) o =
+          one-bit-keeps w A B hA hB 12 22 22 (after w A B hA hB (Refresh 22 22) H) refl i o
+          ∙ keep-share w A B hA hB (Refresh 22 22) H i (o .i22)
+
+  module _ (x d mode : ℕ) (ps : List Row) (G : Pt) where
+    -- its sum, and the sum truncated
     abbrev summed : Pt
-    summed = run (sum-program w x (p ∷ ps)) G
+    summed = run (sum-program w x ps) G
 
-    pub exact-curve-opens : 12 < w
-        → num w A B hA hB (run (curve-exact w x d (p ∷ ps)) G) d ≡ shr-signed w 12 (word-curve w (p ∷ ps) (num w A B hA hB G x))
-    unfolding curve-exact
-    exact-curve-opens h =
-        ap (λ (H : Pt). num w A B hA hB H d) (afters-append w A B hA hB (sum-program w x (p ∷ ps)) (exact-program w 12 22 d) G)
-        ∙ exact-of 12 22 d summed hd (lit≤ tt) h ∙ ap (shr-signed w 12) (sum-opens w A B hA hB low x hx p ps G)
+    abbrev truncated-at : Pt
+    truncated-at = run (truncation w mode) summed
 
-    pub one-bit-curve-opens : num w A B hA hB (run (curve-one-bit w x d (p ∷ ps)) G) d
-        ≡ one-bit w 12 (add w (word-curve w (p ∷ ps) (num w A B hA hB G x)) (new-mask summed)) (new-mask summed)
-    unfolding curve-one-bit afters
-    one-bit-curve-opens =
-        ap (λ (H : Pt). num w A B hA hB H d)
-        (afters-append w A B hA hB (sum-program w x (p ∷ ps)) (Refresh 22 22 ∷ one-bit-program w 12 22 d) G)
-        ∙ one-bit-of 12 22 d (after w A B hA hB (Refresh 22 22) summed) hd
-        ∙ ap₂ (λ (v L : ℕ). one-bit w 12 (add w v L) L) (at-refresh w A B hA hB summed 22 refl 22 ∙ sum-opens w A B hA hB low x hx p ps G)
-        (refresh-mask summed 22 22 refl)
+    curve-parts : run (curve-program w x d ps mode) G ≡ run (saturation w (last-count ps) x d) truncated-at
+    unfolding curve-program
+    curve-parts =
+        afters-append w A B hA hB (sum-program w x ps) (truncation w mode ++ saturation w (last-count ps) x d) G
+        ∙ afters-append w A B hA hB (truncation w mode) (saturation w (last-count ps) x d) summed
+
+    module _ (hx : x < 16) where
+      x21 : eqb x 21 ≡ false
+      x21 = not-temporary x 21 hx (lit≤ tt)
+
+      source-kept : num w A B hA hB truncated-at x ≡ num w A B hA hB G x
+      unfolding num
+      source-kept = ap (value (numbers w)) (truncation-keeps mode summed x hx ∙ sum-keeps w A B hA hB low x hx ps G x hx)
+
+      pub curve-opens : ltb d 24 ≡ true → 12 < w → 0 < length ps
+          → num w A B hA hB (run (curve-program w x d ps mode) G) d
+          ≡ curve-value w ps mode (num w A B hA hB G x) (new-mask summed)
+      unfolding curve-value
+      curve-opens hd h l =
+          ap (λ (H : Pt). num w A B hA hB H d) curve-parts
+          ∙ saturation-opens w A B hA hB low (last-count ps) x d truncated-at x21 hd
+          ∙ ap₂ (λ (x v : ℕ). saturated w (above-last w (last-count ps) x) v) source-kept
+          (truncation-opens h mode summed _ (sum-of ps l))
+        where
+          sum-of : (qs : List Row) → 0 < length qs → num w A B hA hB (run (sum-program w x qs) G) 22 ≡ word-curve w qs (num w A B hA hB G x)
+          sum-of [] l = absurd (omega arith)
+          sum-of (p ∷ qs) l = sum-opens w A B hA hB low x hx p qs G
+
+      -- R-1's a, which the order leaves in slot 20
+      pub curve-leaves : d < 16 → num w A B hA hB (run (curve-program w x d ps mode) G) 20 ≡ above-last w (last-count ps) (num w A B hA hB G x)
+      curve-leaves hd =
+          ap (λ (H : Pt). num w A B hA hB H 20) curve-parts
+          ∙ saturation-leaves w A B hA hB low (last-count ps) x d truncated-at x21 (lt-ltb d 24 (omega arith)) (ne-eqb 20 d (λ e. omega arith))
+          ∙ ap (above-last w (last-count ps)) source-kept
+
+      pub curve-keeps : ltb d 24 ≡ true → (i : ℕ) → i < 16 → Other d i
+          → share (run (curve-program w x d ps mode) G .j) i ≡ share (G .j) i
+      curve-keeps hd i hi o =
+          ap (λ (H : Pt). share (H .j) i) curve-parts
+          ∙ saturation-keeps w A B hA hB low (last-count ps) x d truncated-at x21 hd i o
+          ∙ truncation-keeps mode summed i hi ∙ sum-keeps w A B hA hB low x hx ps G i hi
 
   -- ---- every kind
 
@@ -139,14 +189,6 @@ module _ (w : ℕ) (A B : List ℕ) (hA : Fits w A) (hB : Fits w B) (low : 2 ≤
         slack-opens w A B hA hB c a d G d24 (not-temporary a 16 ha (lit≤ tt))
         ∙ ap (λ (m : ℕ). large-slack w c m (mask-of w A B hA hB G a)) (m-is G a)
 
-    curve-of : (qs : List Row) (mode : ℕ) → 12 < w → 0 < length qs
-        → num w A B hA hB (run (curve-program w a d qs mode) G) d
-        ≡ curve-value w qs mode (num w A B hA hB G a) (new-mask (run (sum-program w a qs) G))
-    unfolding curve-program curve-value
-    curve-of [] mode h l = absurd (omega arith)
-    curve-of (p ∷ qs) zero h l = exact-curve-opens a d ha d24 p qs G h
-    curve-of (p ∷ qs) (suc m) h l = one-bit-curve-opens a d ha d24 p qs G
-
     pub kind-opens : (kind : ℕ) → kind ≤ 10 → Opens kind
     unfolding kinds values afters curve-mask
     kind-opens =
@@ -154,7 +196,7 @@ module _ (w : ℕ) (A B : List ℕ) (hA : Fits w A) (hB : Fits w B) (low : 2 ≤
         (λ s. at-scale w A B hA hB G d d24 a c)
         (λ s. at-mul w A B hA hB G d d24 a c) (λ s. at-refresh w A B hA hB G d d24 a) (λ s. slack-of) (λ s. one-bit-of c a d G d24)
         (λ s. exact-of c a d G d24 (s .shift refl .0) (s .shift refl .1)) (λ s. relu-of)
-        (λ s. curve-of ps c (s .curve refl .0) (s .curve refl .1))
+        (λ s. curve-opens a d c ps G ha d24 (s .curve refl .0) (s .curve refl .1))
 
     -- ---- no register but the target
 
@@ -175,16 +217,6 @@ module _ (w : ℕ) (A B : List ℕ) (hA : Fits w A) (hB : Fits w B) (low : 2 ≤
           (not-temporary a 19 ha (lit≤ tt))
           (not-temporary a 20 ha (lit≤ tt)) d24 low i (o .i16) (o .i17) (o .i18) (o .i19) (o .i20) (o .id)
 
-      curve-kept : (mode : ℕ) → share (run (curve-program w a d ps mode) G .j) i ≡ share (G .j) i
-      unfolding curve-program curve-exact curve-one-bit afters target
-      curve-kept zero =
-          ap (λ (H : Pt). share (H .j) i) (afters-append w A B hA hB (sum-program w a ps) (exact-program w 12 22 d) G)
-          ∙ exact-keeps w A B hA hB 12 22 d (run (sum-program w a ps) G) d24 low i o ∙ sum-keeps w A B hA hB low a ha ps G i hi
-      curve-kept (suc m) =
-          ap (λ (H : Pt). share (H .j) i) (afters-append w A B hA hB (sum-program w a ps) (Refresh 22 22 ∷ one-bit-program w 12 22 d) G)
-          ∙ one-bit-keeps w A B hA hB 12 22 d (after w A B hA hB (Refresh 22 22) (run (sum-program w a ps) G)) d24 i o
-          ∙ keep-share w A B hA hB (Refresh 22 22) (run (sum-program w a ps) G) i (o .i22) ∙ sum-keeps w A B hA hB low a ha ps G i hi
-
       pub kind-keeps : (kind : ℕ) → kind ≤ 10 → Keeps kind
       unfolding kinds target
       kind-keeps =
@@ -192,4 +224,4 @@ module _ (w : ℕ) (A B : List ℕ) (hA : Fits w A) (hB : Fits w B) (low : 2 ≤
           (one-gate (Mul d a c) id) (one-gate (Refresh d a) id)
           (slack-keeps w A B hA hB c a d G d24 i (o .i16) (o .i17) (o .id)) (one-bit-keeps w A B hA hB c a d G d24 i o)
           (exact-keeps w A B hA hB c a d G d24 low i o)
-          relu-kept (curve-kept c)
+          relu-kept (curve-keeps a d c ps G ha d24 i hi o)

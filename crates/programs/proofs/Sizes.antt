@@ -17,16 +17,17 @@ use Rattle.gates.specs.Costs.{Cost, cost-of, plus, step-cost, cost}
 use Rattle.gates.proofs.Needs.{cost-path}
 use Rattle.words.specs.Words.{neg}
 use Rattle.tables.specs.Table.{Row, row-at}
-use Rattle.curves.specs.Curve.{slope-after, coefficient}
+use Rattle.curves.specs.Curve.{last-count, slope-after, coefficient}
 use Rattle.programs.specs.declared.Order.{Order}
-use Rattle.programs.specs.Programs.{update-gates, rounds, adder, to-number, relu-program, slack-program, one-bit-program}
-use Rattle.programs.specs.Programs.{exact-program, row-program, rows-program, sum-program, y-slot, acc-slot, res-slot}
+use Rattle.programs.specs.Programs.{update-gates, rounds, adder, to-number, sign-program, relu-program, slack-program}
+use Rattle.programs.specs.Programs.{one-bit-program, exact-program, row-program, rows-program, sum-program, truncation, saturation-head}
+use Rattle.programs.specs.Programs.{saturation-end, saturation, s-slot, t-slot, y-slot, acc-slot, res-slot}
 use Rattle.programs.specs.Orders.{curve-program, kinds, program}
 use Rattle.programs.specs.Costs.{program-cost}
 use Rattle.programs.specs.Sizes.{Size, size, size-of, slack-size, one-bit-size, exact-size, relu-size, row-size}
-use Rattle.programs.specs.Sizes.{row-exchanges, plus-size, times-cost, times-size, end-size, curve-size, kind-sizes}
-use Rattle.programs.proofs.AdderParts.{relu-rest, relu-parts, exact-head, exact-rest, exact-parts}
-use Rattle.programs.proofs.CurveGates.{truncation, curve-gates, sum-gates}
+use Rattle.programs.specs.Sizes.{row-exchanges, plus-size, times-cost, times-size, truncation-size, saturation-size, curve-size, kind-sizes}
+use Rattle.programs.proofs.AdderParts.{sign-rest, exact-head, exact-rest, exact-parts}
+use Rattle.programs.proofs.CurveGates.{sum-gates}
 
 -- ---- one program after another
 
@@ -67,12 +68,17 @@ module _ (w : ℕ) where
   unfolding adder program-cost order-steps meaning cost step-cost
   adder-sized x y = refl
 
+  -- what a ReLU has behind its sign
+  abbrev relu-end : (x d : ℕ) → List Gate
+  relu-end x d = Const s-slot 1 ∷ Sub s-slot s-slot t-slot ∷ Mul d x s-slot ∷ []
+
+  sign-sized : (x y : ℕ) → size-of w (sign-program w x) ≡ size-of w (sign-program w y)
+  unfolding sign-program sign-rest
+  sign-sized x y = both-sized w (adder w x) (adder w y) (sign-rest w) (sign-rest w) (adder-sized x y) refl
+
   pub relu-sized : (x d : ℕ) → size-of w (relu-program w x d) ≡ relu-size w
-  unfolding relu-size relu-rest to-number program-cost order-steps meaning cost step-cost
-  relu-sized x d =
-      ap (size-of w) (relu-parts w x d)
-      ∙ both-sized w (adder w x) (adder w 0) (relu-rest w x d) (relu-rest w 0 0) (adder-sized x 0) refl
-      ∙ sym (ap (size-of w) (relu-parts w 0 0))
+  unfolding relu-size relu-program program-cost order-steps meaning cost step-cost
+  relu-sized x d = both-sized w (sign-program w x) (sign-program w 0) (relu-end x d) (relu-end 0 0) (sign-sized x 0) refl
 
   pub exact-sized : (k x d : ℕ) → size-of w (exact-program w k x d) ≡ exact-size w
   unfolding exact-size exact-head exact-rest to-number program-cost order-steps meaning cost step-cost
@@ -98,6 +104,24 @@ module _ (w : ℕ) where
       ∙ size-path (omega arith) (cost-path (omega arith) (omega arith) (omega arith) (omega arith))
       ∙ ap (λ (z : Size). size (1 + z .gates + 2) (z .cost)) (relu-sized y-slot res-slot)
 
+  pub saturation-sized : (r x d : ℕ) → size-of w (saturation w r x d) ≡ saturation-size w
+  unfolding saturation-size saturation saturation-head saturation-end program-cost order-steps meaning cost step-cost
+  saturation-sized r x d =
+      both-sized w (saturation-head r x) (saturation-head 0 0) (sign-program w y-slot ++ saturation-end d)
+      (sign-program w y-slot ++ saturation-end 0) refl
+      (both-sized w (sign-program w y-slot) (sign-program w y-slot) (saturation-end d) (saturation-end 0) refl refl)
+
+  -- R-1's steps count what a ReLU counts, and have two gates more
+  pub saturation-number : saturation-size w ≡ size (2 + relu-size w .gates) (relu-size w .cost)
+  unfolding saturation-size saturation saturation-head saturation-end relu-program plus-size program-cost order-steps meaning cost step-cost
+      plus
+  saturation-number =
+      size-after w (saturation-head 0 0) (sign-program w y-slot ++ saturation-end 0)
+      ∙ ap (plus-size (size-of w (saturation-head 0 0))) (size-after w (sign-program w y-slot) (saturation-end 0))
+      ∙ size-path (omega arith) (cost-path (omega arith) (omega arith) (omega arith) (omega arith))
+      ∙ ap (λ (z : Size). size (2 + z .gates) (z .cost))
+      (sym (size-after w (sign-program w y-slot) (relu-end y-slot 0)) ∙ relu-sized y-slot 0)
+
   -- a program that starts with a refresh uses a word of A
   pub refresh-uses : (d a : ℕ) (gs : List Gate) → 0 < program-cost w (Refresh d a ∷ gs) .a
   unfolding program-cost order-steps meaning cost step-cost plus
@@ -106,7 +130,7 @@ module _ (w : ℕ) where
   -- a row has gates, and exchanges
 
   pub row-speaks : 0 < row-exchanges w
-  unfolding row-size row-program relu-program adder program-cost order-steps meaning cost step-cost plus
+  unfolding row-size row-program relu-program sign-program adder program-cost order-steps meaning cost step-cost plus
   row-speaks = omega arith
 
   -- ---- a curve
@@ -139,18 +163,20 @@ module _ (w : ℕ) where
       ∙ size-after w (Const acc-slot (4096 * row-at ps 0 .c % 2 ^ w) ∷ []) (rows-program w x (pos 0) ps)
       ∙ ap (plus-size (size 1 (cost-of 0 0 0 0))) (rows-sized x (pos 0) ps)
 
-  pub end-sized : (d mode : ℕ) → size-of w (truncation w d mode) ≡ end-size w mode
-  unfolding truncation end-size program-cost order-steps meaning cost step-cost
-  end-sized d zero = exact-sized 12 acc-slot d
-  end-sized d (suc m) =
-      size-after w (Refresh acc-slot acc-slot ∷ []) (one-bit-program w 12 acc-slot d)
-      ∙ ap (plus-size (size-of w (Refresh 0 0 ∷ []))) (one-bit-sized 12 acc-slot d)
+  pub truncation-sized : (mode : ℕ) → size-of w (truncation w mode) ≡ truncation-size w mode
+  unfolding truncation truncation-size program-cost order-steps meaning cost step-cost
+  truncation-sized zero = exact-sized 12 acc-slot acc-slot
+  truncation-sized (suc m) =
+      size-after w (Refresh acc-slot acc-slot ∷ []) (one-bit-program w 12 acc-slot acc-slot)
+      ∙ ap (plus-size (size-of w (Refresh 0 0 ∷ []))) (one-bit-sized 12 acc-slot acc-slot)
 
   pub curve-sized : (x d : ℕ) (ps : List Row) (mode : ℕ) → size-of w (curve-program w x d ps mode) ≡ curve-size w mode (length ps)
-  unfolding curve-size
+  unfolding curve-size curve-program
   curve-sized x d ps mode =
-      ap (size-of w) (sym (curve-gates w x d ps mode)) ∙ size-after w (sum-program w x ps) (truncation w d mode)
-      ∙ ap₂ plus-size (sum-sized x ps) (end-sized d mode)
+      size-after w (sum-program w x ps) (truncation w mode ++ saturation w (last-count ps) x d)
+      ∙ ap₂ plus-size (sum-sized x ps)
+      (size-after w (truncation w mode) (saturation w (last-count ps) x d)
+      ∙ ap₂ plus-size (truncation-sized mode) (saturation-sized (last-count ps) x d))
 
 -- ---- kinds of orders
 
@@ -227,10 +253,15 @@ module _ (w : ℕ) (h : 0 < length (distances w)) where
       → size-of w (adder w x ++ gs) ≡ plus-size (size (5 + 5 * R - 2) (counts-of 1 (2 * R))) (size-of w gs)
   with-adder x gs = size-after w (adder w x) gs ∙ ap (λ (z : Size). plus-size z (size-of w gs)) (adder-number x)
 
+  pub sign-number : (x : ℕ) → size-of w (sign-program w x) ≡ size (11 + 5 * R) (counts-of 2 (1 + 2 * R))
+  unfolding sign-program sign-rest to-number plus-size program-cost order-steps meaning cost step-cost plus
+  sign-number x =
+      with-adder x (sign-rest w) ∙ size-path (omega arith) (cost-path (omega arith) (omega arith) (omega arith) (omega arith))
+
   pub relu-number : relu-size w ≡ size (14 + 5 * R) (counts-of 2 (2 + 2 * R))
-  unfolding relu-size relu-rest to-number plus-size program-cost order-steps meaning cost step-cost plus
+  unfolding relu-size relu-program plus-size program-cost order-steps meaning cost step-cost plus
   relu-number =
-      ap (size-of w) (relu-parts w 0 0) ∙ with-adder 0 (relu-rest w 0 0)
+      size-after w (sign-program w 0) (relu-end w 0 0) ∙ ap (λ (z : Size). plus-size z (size-of w (relu-end w 0 0))) (sign-number 0)
       ∙ size-path (omega arith) (cost-path (omega arith) (omega arith) (omega arith) (omega arith))
 
   pub exact-number : exact-size w ≡ size (25 + 5 * R) (counts-of 4 (2 + 2 * R))
@@ -243,6 +274,10 @@ module _ (w : ℕ) (h : 0 < length (distances w)) where
 pub adder-32 : (x : ℕ) → size-of 32 (adder 32 x) ≡ size 28 (cost-of 11 20 21 10)
 unfolding distances doubled
 adder-32 = adder-number 32 (omega arith)
+
+pub sign-32 : (x : ℕ) → size-of 32 (sign-program 32 x) ≡ size 36 (cost-of 13 22 24 11)
+unfolding distances doubled
+sign-32 = sign-number 32 (omega arith)
 
 pub exact-32 : exact-size 32 ≡ size 50 (cost-of 16 24 28 12)
 unfolding distances doubled
@@ -258,6 +293,9 @@ relu-32 = relu-number 32 (omega arith)
 
 pub row-32 : row-size 32 ≡ size 42 relu-counts-32
 row-32 = row-number 32 ∙ ap (λ (z : Size). size (1 + z .gates + 2) (z .cost)) relu-32
+
+pub saturation-32 : saturation-size 32 ≡ size 41 relu-counts-32
+saturation-32 = saturation-number 32 ∙ ap (λ (z : Size). size (2 + z .gates) (z .cost)) relu-32
 
 -- ---- an order has few gates
 
@@ -277,9 +315,9 @@ record Few (n : ℕ) (z : Size) : Type 0 where
   ruled : n ≤ 16 → z .gates ≤ 1000
 
 curve-few : (c n : ℕ) → Few n (curve-size 32 c n)
-unfolding curve-size end-size plus-size times-size times-cost plus program-cost order-steps meaning cost step-cost
-curve-few zero n = rw (row-32, exact-32) (record { beside = omega arith; ruled = λ h. omega arith })
-curve-few (suc c) n = rw (row-32, one-bit-number 32) (record { beside = omega arith; ruled = λ h. omega arith })
+unfolding curve-size truncation-size plus-size times-size times-cost plus program-cost order-steps meaning cost step-cost
+curve-few zero n = rw (row-32, exact-32, saturation-32) (record { beside = omega arith; ruled = λ h. omega arith })
+curve-few (suc c) n = rw (row-32, one-bit-number 32, saturation-32) (record { beside = omega arith; ruled = λ h. omega arith })
 
 kinds-few : (c n : ℕ) → All (Few n) (kind-sizes 32 c n)
 unfolding kind-sizes program-cost order-steps meaning cost step-cost plus

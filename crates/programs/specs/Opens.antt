@@ -7,13 +7,19 @@ use Rattle.words.specs.Words.{add, sub, mul}
 use Rattle.words.specs.Signed.{shr-signed}
 use Rattle.truncations.specs.Truncation.{large-slack, one-bit}
 use Rattle.tables.specs.Table.{Row}
-use Rattle.curves.specs.Curve.{relu-word, word-curve}
+use Rattle.curves.specs.Curve.{last-count, relu-word, word-curve, above-last, saturated}
 use Rattle.programs.specs.declared.Order.{Order}
 
--- the curve of x: the sum of words, truncated exactly, or by one bit with the refresh's mask R
+-- "then kind 8 with k = 12, or kind 5 and kind 7 with k = 12": the sum v, truncated exactly, or by one bit with the
+-- refresh's mask R
+unfoldable pub truncated : (w mode v R : ℕ) → ℕ
+truncated w zero v R = shr-signed w 12 v
+truncated w (suc m) v R = one-bit w 12 (add w v R) R
+
+-- the curve of x: the sum of words, truncated, and R-1's last steps
 unfoldable pub curve-value : (w : ℕ) → List Row → (mode x R : ℕ) → ℕ
-curve-value w ps zero x R = shr-signed w 12 (word-curve w ps x)
-curve-value w ps (suc m) x R = one-bit w 12 (add w (word-curve w ps x) R) R
+curve-value w ps mode x R =
+    saturated w (above-last w (last-count ps) x) (truncated w mode (word-curve w ps x) R)
 
 -- each kind's, in the kinds' order, with fourth word c: x and y are what the first and the second source opened, L is
 -- the mask of the first (m = x + L)

@@ -1,18 +1,18 @@
 -- Document 01, "Orders": the gates of an order, "four words: kind, target, first source, fourth word".
 -- Assumes nothing.
-use mathlib.Core.List.{List, [], _∷_}
-use Prim.Native.Nat.{ℕ, zero, suc}
+use mathlib.Core.List.{List, [], _∷_, _++_}
+use Prim.Native.Nat.{ℕ}
 use lib.ListN.{getD}
 use Rattle.gates.specs.Gates.{Gate, Add, Sub, Mul, Refresh, Scale, Plus}
 use Rattle.tables.specs.Table.{Row}
+use Rattle.curves.specs.Curve.{last-count}
 use Rattle.programs.specs.declared.Order.{Order}
-use Rattle.programs.specs.Programs.{relu-program, slack-program, one-bit-program, exact-program, curve-exact}
-use Rattle.programs.specs.Programs.{curve-one-bit}
+use Rattle.programs.specs.Programs.{relu-program, slack-program, one-bit-program, exact-program, sum-program}
+use Rattle.programs.specs.Programs.{truncation, saturation}
 
--- "10 curve, mode 0 exact, 1 one-bit"
+-- "10 curve, mode 0 exact, 1 one-bit": the sum of its rows, the truncation, and R-1's last steps
 unfoldable pub curve-program : (w x d : ℕ) → List Row → (mode : ℕ) → List Gate
-curve-program w x d ps zero = curve-exact w x d ps
-curve-program w x d ps (suc m) = curve-one-bit w x d ps
+curve-program w x d ps mode = sum-program w x ps ++ (truncation w mode ++ saturation w (last-count ps) x d)
 
 -- the gates of each kind, in the kinds' order, for target d, source a and fourth word c:
 -- "0 add. 1 subtract. 2 add constant (to m). 3 times constant. 4 product. 5 refresh. 6 large slack. 7 one-bit.

@@ -1,7 +1,7 @@
--- Document 01, "Adder, bits and sign", "Orders" and "The curve": the gates of each kind, in order. Slot x is the
--- source, d the target. Assumes nothing.
+-- Document 01, "Adder, bits and sign", "Orders" and "The curve", and R-1: the gates of each kind, in order. Slot x is
+-- the source, d the target. Assumes nothing.
 use mathlib.Core.List.{List, [], _∷_, _++_}
-use Prim.Native.Nat.{ℕ, _+_, _-_, _*_, _%_, _^_}
+use Prim.Native.Nat.{ℕ, zero, suc, _+_, _-_, _*_, _%_, _^_}
 use lib.IntN.{ℤ, pos}
 use Rattle.words.specs.Words.{neg}
 use Rattle.truncations.specs.Adder.{Update, generate, propagate, distances, updates}
@@ -60,11 +60,13 @@ to-number w =
     ∷ Scale t-slot t-slot 2
     ∷ Add p-slot p-slot s-slot ∷ Sub t-slot p-slot t-slot ∷ []
 
--- kind 9: "sign to number, then product of x with 1 - s"; "Sign s: bit 31 of (m xor n), xor bit 30 of G"
+-- "Sign s: bit 31 of (m xor n), xor bit 30 of G", made a number in slot t
+unfoldable pub sign-program : (w x : ℕ) → List Gate
+sign-program w x = adder w x ++ (Bit t-slot g-slot (w - 2) ∷ Xor t-slot t-slot n-slot ∷ to-number w)
+
+-- kind 9: "sign to number, then product of x with 1 - s"
 unfoldable pub relu-program : (w x d : ℕ) → List Gate
-relu-program w x d =
-    adder w x ++ (Bit t-slot g-slot (w - 2) ∷ Xor t-slot t-slot n-slot ∷ to-number w)
-    ++ (Const s-slot 1 ∷ Sub s-slot s-slot t-slot ∷ Mul d x s-slot ∷ [])
+relu-program w x d = sign-program w x ++ (Const s-slot 1 ∷ Sub s-slot s-slot t-slot ∷ Mul d x s-slot ∷ [])
 
 -- kind 6
 unfoldable pub slack-program : (k x d : ℕ) → List Gate
@@ -107,9 +109,19 @@ unfoldable pub sum-program : (w x : ℕ) → List Row → List Gate
 sum-program w x [] = Const acc-slot 0 ∷ []
 sum-program w x (p ∷ ps) = Const acc-slot (4096 * p .c % 2 ^ w) ∷ rows-program w x (pos 0) (p ∷ ps)
 
--- kind 10: "then kind 8 with k = 12, or kind 5 and kind 7 with k = 12"
-unfoldable pub curve-exact : (w x d : ℕ) → List Row → List Gate
-curve-exact w x d ps = sum-program w x ps ++ exact-program w 12 acc-slot d
+-- the sum truncated, in its own slot: "then kind 8 with k = 12, or kind 5 and kind 7 with k = 12"
+unfoldable pub truncation : (w mode : ℕ) → List Gate
+truncation w zero = exact-program w 12 acc-slot acc-slot
+truncation w (suc m) = Refresh acc-slot acc-slot ∷ one-bit-program w 12 acc-slot acc-slot
 
-unfoldable pub curve-one-bit : (w x d : ℕ) → List Row → List Gate
-curve-one-bit w x d ps = sum-program w x ps ++ (Refresh acc-slot acc-slot ∷ one-bit-program w 12 acc-slot d)
+-- R-1: "(last r - x)", in slot y
+unfoldable pub saturation-head : (last-r x : ℕ) → List Gate
+saturation-head r x = Const y-slot r ∷ Sub y-slot y-slot x ∷ []
+
+-- "subtracts the product of a with the value plus 1": a stays in slot t, and the last gate alone writes the target
+unfoldable pub saturation-end : (d : ℕ) → List Gate
+saturation-end d = Plus res-slot acc-slot 1 ∷ Mul res-slot t-slot res-slot ∷ Sub d acc-slot res-slot ∷ []
+
+-- "After the truncation it takes the sign of (last r - x), makes it a number a, and subtracts .."
+unfoldable pub saturation : (w last-r x d : ℕ) → List Gate
+saturation w r x d = saturation-head r x ++ (sign-program w y-slot ++ saturation-end d)

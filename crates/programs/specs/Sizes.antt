@@ -6,6 +6,7 @@ use lib.ListN.{length}
 use Rattle.gates.specs.Gates.{Gate, Add, Mul, Refresh}
 use Rattle.gates.specs.Costs.{Cost, cost-of, plus}
 use Rattle.programs.specs.Programs.{relu-program, slack-program, one-bit-program, exact-program, row-program}
+use Rattle.programs.specs.Programs.{saturation}
 use Rattle.programs.specs.Costs.{program-cost}
 
 pub record Size : Type 0 where
@@ -62,13 +63,19 @@ times-size n x = size (x .gates * n) (times-cost n (x .cost))
 -- ---- kinds of orders
 
 -- kind 10 after its sum: "kind 8 .., or kind 5 and kind 7"
-unfoldable pub end-size : (w mode : ℕ) → Size
-end-size w zero = exact-size w
-end-size w (suc m) = plus-size (size-of w (Refresh 0 0 ∷ [])) (one-bit-size w)
+unfoldable pub truncation-size : (w mode : ℕ) → Size
+truncation-size w zero = exact-size w
+truncation-size w (suc m) = plus-size (size-of w (Refresh 0 0 ∷ [])) (one-bit-size w)
 
--- the first term, n rows and the truncation
+-- .. and then R-1's steps
+unfoldable pub saturation-size : ℕ → Size
+saturation-size w = size-of w (saturation w 0 0 0)
+
+-- the first term, n rows, the truncation and R-1's steps
 unfoldable pub curve-size : (w mode n : ℕ) → Size
-curve-size w mode n = plus-size (plus-size (size 1 (cost-of 0 0 0 0)) (times-size n (row-size w))) (end-size w mode)
+curve-size w mode n =
+    plus-size (plus-size (size 1 (cost-of 0 0 0 0)) (times-size n (row-size w)))
+    (plus-size (truncation-size w mode) (saturation-size w))
 
 -- in the kinds' order, for a fourth word c and a table of n rows
 unfoldable pub kind-sizes : (w c n : ℕ) → List Size

@@ -17,7 +17,8 @@ pub enum Sought {
 }
 
 // The temporaries by the letters of document 01: n, P and G of the adder, a shifted word s and a product t, the source
-// y of a block, the sum of a curve, and a result.
+// y of a block, the sum of a curve, and a result. Where a curve ends, t holds R-1's a and the sum's slot the truncated
+// value.
 pub const N_SLOT: u32 = 16;
 
 pub const P_SLOT: u32 = 17;
@@ -64,15 +65,23 @@ pub const NUMBER_DEALS: usize = 2;
 
 pub const NUMBER_WORDS_A: usize = 3;
 
-// The ReLU, by where its gates stand: the adder, two for the sign bit, which becomes a number, and three at the end,
-// with a product.
-pub const RELU_SIGN: usize = ADDER_GATES;
+// The sign of a slot, by where its gates stand: the adder, and two for the sign bit, which becomes a number.
+pub const SIGN_BIT: usize = ADDER_GATES;
 
-pub const RELU_XOR: usize = RELU_SIGN + 1;
+pub const SIGN_XOR: usize = SIGN_BIT + 1;
 
-pub const RELU_NUMBER: usize = RELU_XOR + 1;
+pub const SIGN_NUMBER: usize = SIGN_XOR + 1;
 
-pub const RELU_ONE: usize = RELU_NUMBER + NUMBER_GATES;
+pub const SIGN_GATES: usize = SIGN_NUMBER + NUMBER_GATES;
+
+pub const SIGN_EXCHANGES: usize = ADDER_EXCHANGES + 1;
+
+pub const SIGN_DEALS: usize = ADDER_DEALS + NUMBER_DEALS;
+
+pub const SIGN_WORDS_A: usize = ADDER_WORDS_A + NUMBER_WORDS_A;
+
+// The ReLU: the sign, and three gates behind it, with a product.
+pub const RELU_ONE: usize = SIGN_GATES;
 
 pub const RELU_SUB: usize = RELU_ONE + 1;
 
@@ -87,11 +96,11 @@ pub const ROW_TAIL: usize = 2;
 
 pub const ROW_GATES: usize = ROW_HEAD + RELU_GATES + ROW_TAIL;
 
-pub const ROW_EXCHANGES: usize = ADDER_EXCHANGES + 2;
+pub const ROW_EXCHANGES: usize = SIGN_EXCHANGES + 1;
 
-pub const ROW_DEALS: usize = ADDER_DEALS + NUMBER_DEALS + 1;
+pub const ROW_DEALS: usize = SIGN_DEALS + 1;
 
-pub const ROW_WORDS_A: usize = ADDER_WORDS_A + NUMBER_WORDS_A + 2;
+pub const ROW_WORDS_A: usize = SIGN_WORDS_A + 2;
 
 // The exact truncation, by where its gates stand: four with a deal, the adder, the low bit of G, which becomes a number
 // and is added to the sum, the top bit of G, which becomes a number, is scaled and subtracted, and the last one.
@@ -130,5 +139,30 @@ pub const ONE_BIT_WORDS_A: usize = 4;
 
 pub const ONE_BIT_DEALS: usize = 3;
 
+// The same behind a refresh, which uses a word of A.
+pub const REFRESHED_GATES: usize = 1 + ONE_BIT_GATES;
+
+pub const REFRESHED_EXCHANGES: usize = 1 + ONE_BIT_EXCHANGES;
+
+pub const REFRESHED_WORDS_A: usize = 1 + ONE_BIT_WORDS_A;
+
 // Large slack.
 pub const SLACK_GATES: usize = 3;
+
+// R-1's last steps of a curve, by where their gates stand: two for the last row's count less x, the sign of that, and
+// three behind it, with a product. They count what a row counts.
+pub const SATURATION_HEAD: usize = 2;
+
+pub const SATURATION_PLUS: usize = SATURATION_HEAD + SIGN_GATES;
+
+pub const SATURATION_PRODUCT: usize = SATURATION_PLUS + 1;
+
+pub const SATURATION_LAST: usize = SATURATION_PRODUCT + 1;
+
+pub const SATURATION_GATES: usize = SATURATION_LAST + 1;
+
+pub const SATURATION_EXCHANGES: usize = ROW_EXCHANGES;
+
+pub const SATURATION_DEALS: usize = ROW_DEALS;
+
+pub const SATURATION_WORDS_A: usize = ROW_WORDS_A;

@@ -9,13 +9,14 @@ use lib.Dec.{T, lit≤, lit<}
 use lib.IntN.{ℤ, pos, _+ℤ_}
 use lib.ListN.{length, replicate}
 use lib.Pow.{pow-pos}
+use lib.Signed.{_≤ℤ_, ltZ, ltZ-yes, ltZ-no}
 use Rattle.words.specs.Words.{add, numbers}
 use Rattle.words.specs.Signed.{floor, signed, wrap, in-range}
 use Rattle.truncations.specs.Truncation.{slip}
 use Rattle.words.proofs.Words.{add-lt, sub-lt}
 use Rattle.shares.specs.Gates.{value, mask}
 use Rattle.tables.specs.Table.{rows, keeps-rules, house}
-use Rattle.curves.specs.Curve.{scaled}
+use Rattle.curves.specs.Curve.{scaled, last-count}
 use Rattle.tables.proofs.HouseTable.{house-keeps-rules}
 use Rattle.gates.specs.Steps.{at}
 use Rattle.gates.specs.Costs.{Cost, cost-of, plus}
@@ -25,7 +26,7 @@ use Rattle.programs.specs.Opens.{curve-value, values, order-value}
 use Rattle.programs.specs.Costs.{program-cost}
 use Rattle.programs.specs.Sizes.{Size, plus-size, times-cost, times-size}
 use Rattle.programs.proofs.Sizes.{sum-sized, row-32}
-use Rattle.programs.proofs.Calibration.{ranged, exact-curve, one-bit-curve}
+use Rattle.programs.proofs.Calibration.{above-curve, exact-curve, one-bit-curve}
 use Rattle.jobs.specs.Job.{orders, ill-sized, unknown-kind, unknown-register, two-sources, ill-fourths, ill-fourth, order-fault}
 use Rattle.jobs.specs.CostTable.{table-counts, curve-cost, kind-costs, kind-cost}
 use Rattle.jobs.proofs.CostTable.{cost-table}
@@ -53,13 +54,16 @@ opens-first s = opened-slot 32 (s .masks) (s .one .state .m, s .one .state .mask
 
 -- ---- the job and its counts
 
+abbrev last-r : ℕ
+last-r = last-count (rows house)
+
 eight : length (rows house) ≡ 8
 unfolding rows house
 eight = refl
 
 counts : ℕ → Cost
-counts zero = cost-of 128 216 236 108
-counts (suc m) = cost-of 115 196 213 98
+counts zero = cost-of 142 240 262 120
+counts (suc m) = cost-of 129 220 239 110
 
 deals-counted : (mode : ℕ) → counts mode .deals ≡ Spec.deals mode
 unfolding counts
@@ -110,15 +114,15 @@ fits-first x h zero = h
 fits-first x h (suc i) = fits-zeros 15 i
 
 abbrev buffer : List ℕ
-buffer = replicate 128 0
+buffer = replicate 142 0
 
 lists-long : (mode : ℕ) → 0 ≡ dealer-lists-fault (counts mode) trial-a trial-b buffer
 unfolding counts
 lists-long zero =
-    long-enough 128 216 236 108 _ _ _ (omega (arith, multiples-length first-a 2 236)) (omega (arith, multiples-length first-b 2 108))
+    long-enough 142 240 262 120 _ _ _ (omega (arith, multiples-length first-a 2 262)) (omega (arith, multiples-length first-b 2 120))
     (lit≤ tt)
 lists-long (suc n) =
-    long-enough 115 196 213 98 _ _ _ (omega (arith, multiples-length first-a 2 236)) (omega (arith, multiples-length first-b 2 108))
+    long-enough 129 220 239 110 _ _ _ (omega (arith, multiples-length first-a 2 262)) (omega (arith, multiples-length first-b 2 120))
     (lit≤ tt)
 
 module _ (mode m l1 l2 : ℕ) where
@@ -162,8 +166,8 @@ module _ (mode m l1 l2 : ℕ) where
     fitting : Words 32 (staged 32 S)
     fitting =
         record {
-          A = multiples-fit first-a 2 236;
-          B = multiples-fit first-b 2 108;
+          A = multiples-fit first-a 2 262;
+          B = multiples-fit first-b 2 120;
           rm = fits-first m hm;
           r1 = fits-first l1 h1;
           r2 = fits-first l2 h2;
@@ -188,8 +192,8 @@ module _ (mode m l1 l2 : ℕ) where
     mask-is : refresh-mask 32 S 0 ≡ refresh-L
     unfolding refresh-mask refresh-L
     mask-is =
-        ap₂ (add 32) (ap (at trial-a) place-a ∙ multiples-at first-a 2 236 208 (lit< tt))
-        (ap (at trial-b) place-b ∙ multiples-at first-b 2 108 96 (lit< tt))
+        ap₂ (add 32) (ap (at trial-a) place-a ∙ multiples-at first-a 2 262 208 (lit< tt))
+        (ap (at trial-b) place-b ∙ multiples-at first-b 2 120 96 (lit< tt))
 
     left-is : left-of (staged 32 S) ≡ after-order (staged 32 S) 0
     unfolding steps-of job-gates orders
@@ -209,17 +213,28 @@ module _ (mode m l1 l2 : ℕ) where
         register-opens (staged 32 S) buffer accepted 32 0 (lit< tt)
         ∙ ap {B = ℕ × ℤ} (λ (v : ℕ). (0, signed 32 v)) (ap (λ (j : Triple). value (numbers 32) (share j 0)) left-is ∙ leaves)
 
-    curve-is : (n : ℕ) (z : ℤ) → signed 32 x ≡ z → T (in-range 32 z)
-        → signed 32 (curve-value 32 (rows house) (mode-word n) x refresh-L) ≡ Spec.value n z
-    unfolding Spec.value Spec.Y
-    curve-is zero z e r =
-        exact-curve 32 (lit≤ tt) house house-keeps-rules x (sub-lt 32 _ _) (ranged (rw e r)) refresh-L
+    -- up to the last row's count
+    covered-is : (n : ℕ) (z : ℤ) → signed 32 x ≡ z → T (in-range 32 z) → z ≤ℤ pos last-r
+        → signed 32 (curve-value 32 (rows house) (mode-word n) x refresh-L) ≡ Spec.covered n z
+    unfolding Spec.covered Spec.Y
+    covered-is zero z e r l =
+        exact-curve 32 (lit≤ tt) house house-keeps-rules x (sub-lt 32 _ _) (rw e r) (rw e l) refresh-L
         ∙ ap (λ (y : ℤ). floor (scaled (rows house) y) 4096) e
-    curve-is (suc n) z e r =
-        one-bit-curve 32 (lit≤ tt) house house-keeps-rules x (sub-lt 32 _ _) (ranged (rw e r)) refresh-L 0 mask-lt
+    covered-is (suc n) z e r l =
+        one-bit-curve 32 (lit≤ tt) house house-keeps-rules x (sub-lt 32 _ _) (rw e r) (rw e l) refresh-L 0 mask-lt
         ∙ ap (λ (y : ℤ). floor (scaled (rows house) y) 4096 +ℤ pos (slip 12 (wrap 12 (scaled (rows house) y)) refresh-L)) e
 
-    -- "exactly floor(Y / 4096) in exact mode"; in one-bit mode that, or one more
+    curve-is : (n : ℕ) (z : ℤ) → signed 32 x ≡ z → T (in-range 32 z)
+        → signed 32 (curve-value 32 (rows house) (mode-word n) x refresh-L) ≡ Spec.value n z
+    unfolding Spec.value
+    curve-is n z e r = go (ltZ (pos last-r) z) refl
+      where
+        go : (b : Bool) → ltZ (pos last-r) z ≡ b → signed 32 (curve-value 32 (rows house) (mode-word n) x refresh-L) ≡ Spec.value n z
+        go true t =
+            rw t (above-curve 32 (lit≤ tt) house house-keeps-rules x (sub-lt 32 _ _) (mode-word n) refresh-L (rw e (ltZ-yes (rw t tt))))
+        go false t = rw t (covered-is n z e r (ltZ-no (rw t tt)))
+
+    -- "exactly floor(Y / 4096) in exact mode"; in one-bit mode that, or one more; above the last row -1
     pub value-is : (z : ℤ) → signed 32 x ≡ z → T (in-range 32 z)
         → opens-first (trial mode m l1 l2) ≡ (0, Spec.value mode z)
     value-is z e r = opens-curve ∙ ap {B = ℕ × ℤ} (λ (v : ℤ). (0, v)) (curve-is mode z e r)

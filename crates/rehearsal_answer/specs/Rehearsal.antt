@@ -1,13 +1,14 @@
--- Document 01, "House table by hand": what rehearsal prints for a line, in plain arithmetic. Assumes nothing.
+-- Document 01, "House table by hand", and R-1: what rehearsal prints for a line, in plain arithmetic. Assumes nothing.
 use mathlib.Core.Bool.{cond}
 use mathlib.Core.List.{List}
 use Prim.Native.Nat.{ℕ, zero, suc, _*_, _%_, _^_}
-use lib.IntN.{ℤ, pos, _+ℤ_}
+use lib.IntN.{ℤ, pos, negℤ, _+ℤ_}
+use lib.Signed.{ltZ}
 use Rattle.words.specs.Words.{add}
 use Rattle.words.specs.Signed.{floor, wrap, in-range}
 use Rattle.truncations.specs.Truncation.{slip}
 use Rattle.tables.specs.Table.{rows, house}
-use Rattle.curves.specs.Curve.{scaled}
+use Rattle.curves.specs.Curve.{scaled, last-count}
 use Rattle.text_lines.specs.Lines.{Parsed, refusing, asking, parsed}
 use Rattle.text_prints.specs.Printed.{answered, refused}
 
@@ -27,20 +28,24 @@ Y x = scaled (rows house) x
 unfoldable pub refresh-L : ℕ
 refresh-L = add 32 (first-a * 210 % 2 ^ 32) (first-b * 98 % 2 ^ 32)
 
--- demand 3: "exactly floor(Y / 4096) in exact mode"; in one-bit mode "one more exactly when (Y mod 4096) + (L mod 4096)
--- is at least 4096"
-unfoldable pub value : (mode : ℕ) → ℤ → ℤ
-value zero x = floor (Y x) 4096
-value (suc m) x = floor (Y x) 4096 +ℤ pos (slip 12 (wrap 12 (Y x)) refresh-L)
+-- demand 3, up to the last r: "exactly floor(Y / 4096) in exact mode"; in one-bit mode "one more exactly when (Y mod
+-- 4096) + (L mod 4096) is at least 4096"
+unfoldable pub covered : (mode : ℕ) → ℤ → ℤ
+covered zero x = floor (Y x) 4096
+covered (suc m) x = floor (Y x) 4096 +ℤ pos (slip 12 (wrap 12 (Y x)) refresh-L)
 
--- document 01's table, "10 exact" and "10 one-bit"
+-- R-1: "The curve therefore opens -1 for x above the last r; at the last r itself nothing changes."
+unfoldable pub value : (mode : ℕ) → ℤ → ℤ
+value mode x = cond (ltZ (pos (last-count (rows house))) x) (negℤ (pos 1)) (covered mode x)
+
+-- R-1: "The house curve then costs 142 deals and 240 spoken words exact, 129 and 220 one-bit."
 abbrev pub deals : (mode : ℕ) → ℕ
-deals zero = 128
-deals (suc m) = 115
+deals zero = 142
+deals (suc m) = 129
 
 abbrev pub words : (mode : ℕ) → ℕ
-words zero = 216
-words (suc m) = 196
+words zero = 240
+words (suc m) = 220
 
 -- "Other lines, or over 64 bytes, print "refused 0"; a number out of range prints "refused 11"."
 unfoldable pub answer-of : Parsed → List ℕ

@@ -12,6 +12,9 @@ use programs::EXACT_WORDS_A;
 use programs::ROW_DEALS;
 use programs::ROW_EXCHANGES;
 use programs::ROW_WORDS_A;
+use programs::SATURATION_DEALS;
+use programs::SATURATION_EXCHANGES;
+use programs::SATURATION_WORDS_A;
 use sample_masks::fill;
 use shares::Opening;
 use shares::Shares;
@@ -50,11 +53,11 @@ fn in_first(word: u32) -> [u32; 16]
 }
 
 // What an exact curve on the house table's eight rows needs; one-bit mode needs less.
-const LIST_A: usize = 8 * ROW_WORDS_A + EXACT_WORDS_A;
+const LIST_A: usize = 8 * ROW_WORDS_A + EXACT_WORDS_A + SATURATION_WORDS_A;
 
-const LIST_B: usize = 8 * ROW_EXCHANGES + EXACT_EXCHANGES;
+const LIST_B: usize = 8 * ROW_EXCHANGES + EXACT_EXCHANGES + SATURATION_EXCHANGES;
 
-const DEALS: usize = 8 * ROW_DEALS + EXACT_DEALS;
+const DEALS: usize = 8 * ROW_DEALS + EXACT_DEALS + SATURATION_DEALS;
 
 // The curve order on a share in register 0.
 fn curve(mode: u32, m: u32, l1: u32, l2: u32) -> Trio

@@ -1,5 +1,5 @@
 -- A stage whose steps are those of lists of gates: its trail is what they leave, one after another, and where one of them is an order's
--- program, its target opens the value that document 01 defines. Assumes nothing.
+-- program, its target opens the value that document 01 defines, and a curve leaves R-1's a. Assumes nothing.
 use mathlib.Core.Path.{_≡_, refl, sym, ap, ap₂, _∙_}
 use mathlib.Core.Bool.{Bool, true}
 use mathlib.Core.List.{List, [], _∷_, _++_, map}
@@ -11,6 +11,7 @@ use lib.ListN.{getD, length, replicate, List·getD-map}
 use Rattle.words.specs.Words.{add, numbers}
 use Rattle.shares.specs.Gates.{mask, value}
 use Rattle.tables.specs.Table.{Row}
+use Rattle.curves.specs.Curve.{last-count, above-last}
 use Rattle.gates.specs.Gates.{Gate}
 use Rattle.gates.specs.Steps.{Lane, at, Step, end, origin, past}
 use Rattle.gates.specs.Meaning.{meaning, order-steps, job-steps}
@@ -19,13 +20,13 @@ use Rattle.gates.specs.Hosts.{Triple, share, act}
 use Rattle.gates.specs.Costs.{plus, step-cost, cost}
 use Rattle.gates.proofs.Needs.{Further, past-used}
 use Rattle.programs.specs.declared.Order.{Order}
-use Rattle.programs.specs.Programs.{sum-program}
-use Rattle.programs.specs.Orders.{program}
+use Rattle.programs.specs.Programs.{t-slot, sum-program}
+use Rattle.programs.specs.Orders.{curve-program, kinds, program}
 use Rattle.programs.specs.Opens.{order-value}
 use Rattle.programs.specs.Costs.{program-cost}
 use Rattle.programs.proofs.Gates.{Fits}
 use Rattle.programs.proofs.Points.{Point, after, afters, num, l1-of, l2-of}
-use Rattle.programs.proofs.Opens.{new-mask, curve-mask, Sound, kind-opens}
+use Rattle.programs.proofs.Opens.{new-mask, curve-leaves, curve-mask, Sound, kind-opens}
 use Rattle.jobs.proofs.Accepted.{Good, exact-shift, curve-ruled}
 use Rattle.calls.specs.Scripts.{Orderly}
 use Rattle.calls.specs.Calls.{fresh}
@@ -161,3 +162,14 @@ module _ (w : ℕ) (S : Stage) (tidy : Orderly (S .script)) (words : Words w S) 
           ∙ ap₂ (λ (t : Triple) (R : ℕ). order-value w ps o (value (numbers w) (share t (o .source)))
           (value (numbers w) (share t (o .fourth))) (mask (numbers w) (share t (o .source))) R)
           (sym (before-is q hq)) mask-is
+
+      -- R-1's a, which a curve leaves in slot t
+      pub curve-leaves-a : o .kind ≡ 10
+          → value-after w S q t-slot ≡ above-last w (last-count ps) (value-before w S q (o .source))
+      unfolding program kinds num
+      curve-leaves-a k =
+          let curve : program w ps o ≡ curve-program w (o .source) (o .target) ps (o .fourth) = rw k in
+          ap (λ (t : Triple). value (numbers w) (share t t-slot)) (left-is ∙ ap (λ (gs : List Gate). run gs (before q) .j) curve)
+          ∙ curve-leaves w (S .A) (S .B) (words .A) (words .B) low (o .source) (o .target) (o .fourth) ps (before q) (good .source)
+          (good .target)
+          ∙ ap (λ (t : Triple). above-last w (last-count ps) (value (numbers w) (share t (o .source)))) (sym (before-is q hq))

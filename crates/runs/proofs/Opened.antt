@@ -12,6 +12,8 @@ use Rattle.tables.proofs.Rows.{for-table}
 use Rattle.gates.specs.Gates.{Gate}
 use Rattle.gates.specs.Steps.{Step}
 use Rattle.gates.specs.Meaning.{job-steps}
+use Rattle.curves.specs.Curve.{last-count, above-last}
+use Rattle.programs.specs.Programs.{t-slot}
 use Rattle.programs.specs.Orders.{program}
 use Rattle.programs.specs.Opens.{order-value}
 use Rattle.jobs.specs.Job.{orders, job-fault, job-gates}
@@ -19,14 +21,14 @@ use Rattle.jobs.proofs.Accepted.{Good, accepted-orders}
 use Rattle.calls.proofs.Scripts.{job-made}
 use Rattle.runs.proofs.Lists.{getD-map}
 use Rattle.runs.specs.Runs.{Setting, staged}
-use Rattle.runs.specs.Orders.{Words, share-before, share-after, value-after, Unwritten, order-of, Untargeted, used-before}
+use Rattle.runs.specs.Orders.{Words, share-before, share-after, value-after, Unwritten, WrittenLast, order-of, Untargeted, used-before}
 use Rattle.runs.specs.Orders.{refresh-mask, source-value, source-mask, second-value}
 use Rattle.jobs.proofs.Indices.{gates-length}
 use Rattle.runs.proofs.Chain.{job-orders, job-orderly}
-use Rattle.runs.proofs.Gated.{program-leaves}
+use Rattle.runs.proofs.Gated.{program-leaves, curve-leaves-a}
 use Rattle.runs.proofs.Spared.{slot-kept}
-use Rattle.runs.proofs.Written.{spares-program}
-use Rattle.runs.proofs.Unwritten.{unwritten-gates}
+use Rattle.runs.proofs.Written.{spares-program, front-program}
+use Rattle.runs.proofs.Unwritten.{unwritten-gates, last-gates}
 
 module _ (w : ℕ) (S : Setting) where
   abbrev pub gates : List (List Gate)
@@ -53,6 +55,13 @@ module _ (w : ℕ) (S : Setting) where
       (λ h. let k : q < length (orders (S .job)) = rw (gates-length w (S .job) (S .table)) at h in
       rw (gates-is q k) (spares-program w (rows (S .table)) (order-of S q) i hi (f k))))
 
+  -- no step of order q but its last writes a register
+  pub target-last : (q i : ℕ) → i < 16 → WrittenLast i q (staged w S .script .steps)
+  target-last q i hi =
+      subst (λ (ss : List Step). WrittenLast i q ss) (sym made)
+      (last-gates w i q gates
+      (λ h. rw (gates-is q (rw (gates-length w (S .job) (S .table)) at h)) (front-program w (rows (S .table)) (order-of S q) i hi)))
+
   pub order-keeps : (q : ℕ) → q < length (orders (S .job)) → (i : ℕ) → i < 16 → eqb i (order-of S q .target) ≡ false
       → share-after (staged w S) q i ≡ share-before (staged w S) q i
   order-keeps q hq i hi e = slot-kept (staged w S) q i (rw (job-orders w (S .job) (S .table)) hq) (untargeted q i hi (λ h. e))
@@ -77,3 +86,12 @@ module _ (w : ℕ) (S : Setting) where
       program-leaves w (staged w S) (job-orderly w (S .job) (S .table)) words gates made wide q (in-gates q hq) (rows (S .table))
       (order-of S q)
       (gates-is q hq) (keeps-rules (S .table)) (order-good accepted q hq) some-row
+
+  -- R-1's a, which a curve leaves in slot t
+  pub a-left : Words w (staged w S) → 12 < w → job-fault w (S .job) (S .table) .0 ≡ 0 → (q : ℕ) → q < length (orders (S .job))
+      → order-of S q .kind ≡ 10
+      → value-after w (staged w S) q t-slot ≡ above-last w (last-count (rows (S .table))) (source-value w S q)
+  a-left words wide accepted q hq k =
+      curve-leaves-a w (staged w S) (job-orderly w (S .job) (S .table)) words gates made wide q (in-gates q hq) (rows (S .table))
+      (order-of S q)
+      (gates-is q hq) (keeps-rules (S .table)) (order-good accepted q hq) some-row k

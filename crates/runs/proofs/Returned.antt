@@ -83,7 +83,7 @@ module _ (w : ℕ) (S : Stage) (i : ℕ) (hi : i < S .script .slots) where
           ap (λ (r : Pair). at (r .1) i) a ∙ ap (λ (x : Share ℕ). x .l1) e,
         )
     host1-has (go1 X) h =
-        let e = stands-since S p i (X .n) u (rw (X .is) at h) in (
+        let e = stands-since S p i (X .n) (X .halts) u (rw (X .is) at h) in (
           front _ ∙ ap (λ (s : State). at (s .m) i) (X .is) ∙ ap (λ (x : Share ℕ). x .m) e,
           front _ ∙ ap (λ (s : State). at (s .mask) i) (X .is) ∙ ap (λ (x : Share ℕ). x .l1) e,
         )
@@ -97,7 +97,7 @@ module _ (w : ℕ) (S : Stage) (i : ℕ) (hi : i < S .script .slots) where
           ap (λ (r : Pair). at (r .1) i) a ∙ ap (λ (x : Share ℕ). x .l2) e,
         )
     host2-has (go2 Y) h =
-        let e = stands-since S p i (Y .n) u (rw (Y .is) at h) in (
+        let e = stands-since S p i (Y .n) (Y .halts) u (rw (Y .is) at h) in (
           front _ ∙ ap (λ (s : State). at (s .m) i) (Y .is) ∙ ap (λ (x : Share ℕ). x .m) e,
           front _ ∙ ap (λ (s : State). at (s .mask) i) (Y .is) ∙ ap (λ (x : Share ℕ). x .l2) e,
         )

@@ -1,4 +1,4 @@
--- Steps and gates that do not write a slot, from an order on. Assumes nothing.
+-- Steps and gates that do not write a slot, from an order on, or write it as the last of an order alone. Assumes nothing.
 use mathlib.Core.Path.{_≡_, refl}
 use mathlib.Core.Bool.{false}
 use mathlib.Core.List.{List, [], _∷_}
@@ -13,9 +13,10 @@ use Rattle.gates.specs.Hosts.{Triple, share, act}
 use Rattle.programs.proofs.Points.{target}
 use Rattle.gates.proofs.GateSteps.{OfGate, of-gate}
 use Rattle.calls.specs.Scripts.{ends, Closed}
-use Rattle.runs.specs.Orders.{Unwritten}
+use Rattle.runs.specs.Orders.{Unwritten, GoingOn, WrittenLast}
 use Rattle.runs.proofs.Spared.{other-slot}
-use Rattle.runs.proofs.Written.{Spares, none, also}
+use Rattle.runs.proofs.Places.{Halted}
+use Rattle.runs.proofs.Written.{Spares, none, also, SparesFront, none-in-front, alone, in-front}
 
 -- ---- steps that do not write slot i
 
@@ -45,24 +46,74 @@ closed-from i (exchange d e ∷ ss) c (suc p) h = closed-from i ss (c .1) (suc p
 closed-from i (end ∷ ss) c zero h = tt
 closed-from i (end ∷ ss) c (suc p) h = closed-from i ss (c .1) p (omega arith)
 
+-- ---- steps of which only an order's last may write slot i
+
+-- not at the end of an order
+abbrev pub Unended : List Step → Type 0
+Unended [] = Unit
+Unended (local d m l ∷ ss) = Unit
+Unended (deal d f ∷ ss) = Unit
+Unended (exchange d e ∷ ss) = Unit
+Unended (end ∷ ss) = ⊥
+
+pub unended : {P : Type 0} (ss : List Step) → Unended ss → GoingOn ss P → P
+unended [] n p = p
+unended (local d m l ∷ ss) n p = p
+unended (deal d f ∷ ss) n p = p
+unended (exchange d e ∷ ss) n p = p
+unended (end ∷ ss) n p = absurd n
+
+pub halted-unended : (ss : List Step) → Halted ss → Unended ss
+halted-unended [] h = tt
+halted-unended (local d m l ∷ ss) h = absurd h
+halted-unended (deal d f ∷ ss) h = absurd h
+halted-unended (exchange d e ∷ ss) h = tt
+halted-unended (end ∷ ss) h = absurd h
+
+going-on : {P : Type 0} (ss : List Step) → P → GoingOn ss P
+going-on [] p = p
+going-on (local d m l ∷ ss) p = p
+going-on (deal d f ∷ ss) p = p
+going-on (exchange d e ∷ ss) p = p
+going-on (end ∷ ss) p = tt
+
+-- a slot that is never written
+pub never-last : (i q : ℕ) (ss : List Step) → Unwritten i q ss → WrittenLast i q ss
+never-last i q [] u = tt
+never-last i zero (local d m l ∷ ss) u = (going-on ss (u .0), never-last i zero ss (u .1))
+never-last i zero (deal d f ∷ ss) u = (going-on ss (u .0), never-last i zero ss (u .1))
+never-last i zero (exchange d e ∷ ss) u = (going-on ss (u .0), never-last i zero ss (u .1))
+never-last i zero (end ∷ ss) u = tt
+never-last i (suc q) (local d m l ∷ ss) u = never-last i (suc q) ss u
+never-last i (suc q) (deal d f ∷ ss) u = never-last i (suc q) ss u
+never-last i (suc q) (exchange d e ∷ ss) u = never-last i (suc q) ss u
+never-last i (suc q) (end ∷ ss) u = never-last i q ss u
+
 -- ---- lists of gates
 
-unwritten-gate : (w i : ℕ) (g : Gate) (ss : List Step) → eqb i (target g) ≡ false → Unwritten i 0 ss → Unwritten i 0 (meaning w g ∷ ss)
+-- a gate's step writes the gate's target
+gate-misses : (w i : ℕ) (g : Gate) → eqb i (target g) ≡ false → Misses i (meaning w g)
 unfolding meaning target
-unwritten-gate w i (Add d a b) ss h u = (h, u)
-unwritten-gate w i (Sub d a b) ss h u = (h, u)
-unwritten-gate w i (Xor d a b) ss h u = (h, u)
-unwritten-gate w i (Mul d a b) ss h u = (h, u)
-unwritten-gate w i (And d a b) ss h u = (h, u)
-unwritten-gate w i (Refresh d a) ss h u = (h, u)
-unwritten-gate w i (Scale d a n) ss h u = (h, u)
-unwritten-gate w i (Plus d a n) ss h u = (h, u)
-unwritten-gate w i (Up d a n) ss h u = (h, u)
-unwritten-gate w i (Bit d a n) ss h u = (h, u)
-unwritten-gate w i (Const d n) ss h u = (h, u)
-unwritten-gate w i (Public d a f) ss h u = (h, u)
-unwritten-gate w i (Deal d a f) ss h u = (h, u)
-unwritten-gate w i (DealBits d a) ss h u = (h, u)
+gate-misses w i (Add d a b) h = h
+gate-misses w i (Sub d a b) h = h
+gate-misses w i (Xor d a b) h = h
+gate-misses w i (Mul d a b) h = h
+gate-misses w i (And d a b) h = h
+gate-misses w i (Refresh d a) h = h
+gate-misses w i (Scale d a n) h = h
+gate-misses w i (Plus d a n) h = h
+gate-misses w i (Up d a n) h = h
+gate-misses w i (Bit d a n) h = h
+gate-misses w i (Const d n) h = h
+gate-misses w i (Public d a f) h = h
+gate-misses w i (Deal d a f) h = h
+gate-misses w i (DealBits d a) h = h
+
+unwritten-step : (i : ℕ) (x : Step) (ss : List Step) → OfGate x → Misses i x → Unwritten i 0 ss → Unwritten i 0 (x ∷ ss)
+unwritten-step i (local d m l) ss o h u = (h, u)
+unwritten-step i (deal d f) ss o h u = (h, u)
+unwritten-step i (exchange d e) ss o h u = (h, u)
+unwritten-step i end ss o h u = absurd o
 
 skip-gate : (w i k : ℕ) (g : Gate) (ss : List Step) → Unwritten i (suc k) ss → Unwritten i (suc k) (meaning w g ∷ ss)
 skip-gate w i k g ss h = go (meaning w g) (of-gate w g)
@@ -76,7 +127,8 @@ skip-gate w i k g ss h = go (meaning w g) (of-gate w g)
 unwritten-order : (w i : ℕ) (gs : List Gate) (ss : List Step) → Spares i gs → Unwritten i 0 (order-steps w gs ss)
 unfolding order-steps
 unwritten-order w i [] ss none = tt
-unwritten-order w i (g ∷ gs) ss (also e p) = unwritten-gate w i g (order-steps w gs ss) e (unwritten-order w i gs ss p)
+unwritten-order w i (g ∷ gs) ss (also e p) =
+    unwritten-step i (meaning w g) (order-steps w gs ss) (of-gate w g) (gate-misses w i g e) (unwritten-order w i gs ss p)
 
 skip-order : (w i k : ℕ) (gs : List Gate) (ss : List Step) → Unwritten i k ss → Unwritten i (suc k) (order-steps w gs ss)
 unfolding order-steps
@@ -88,3 +140,40 @@ unfolding job-steps
 unwritten-gates w i p [] f = tt
 unwritten-gates w i zero (o ∷ os) f = unwritten-order w i o (job-steps w os) (f (omega arith))
 unwritten-gates w i (suc p) (o ∷ os) f = skip-order w i p o (job-steps w os) (unwritten-gates w i p os (λ h. f (omega arith)))
+
+-- ---- gates of which only an order's last may write slot i
+
+last-step : (i : ℕ) (x : Step) (ss : List Step) → OfGate x → GoingOn ss (Misses i x) → WrittenLast i 0 ss → WrittenLast i 0 (x ∷ ss)
+last-step i (local d m l) ss o h u = (h, u)
+last-step i (deal d f) ss o h u = (h, u)
+last-step i (exchange d e) ss o h u = (h, u)
+last-step i end ss o h u = absurd o
+
+skip-last : (w i k : ℕ) (g : Gate) (ss : List Step) → WrittenLast i (suc k) ss → WrittenLast i (suc k) (meaning w g ∷ ss)
+skip-last w i k g ss h = go (meaning w g) (of-gate w g)
+  where
+    go : (y : Step) → OfGate y → WrittenLast i (suc k) (y ∷ ss)
+    go (local d m l) o = h
+    go (deal d f) o = h
+    go (exchange d e) o = h
+    go end o = absurd o
+
+last-order : (w i : ℕ) (gs : List Gate) (ss : List Step) → SparesFront i gs → WrittenLast i 0 (order-steps w gs ss)
+unfolding order-steps
+last-order w i [] ss none-in-front = tt
+last-order w i (g ∷ []) ss alone = last-step i (meaning w g) (end ∷ ss) (of-gate w g) tt tt
+last-order w i (g ∷ []) ss (in-front e p) = last-step i (meaning w g) (end ∷ ss) (of-gate w g) tt tt
+last-order w i (g ∷ h ∷ gs) ss (in-front e p) =
+    let rest : List Step = order-steps w (h ∷ gs) ss in
+    last-step i (meaning w g) rest (of-gate w g) (going-on rest (gate-misses w i g e)) (last-order w i (h ∷ gs) ss p)
+
+skip-order-last : (w i k : ℕ) (gs : List Gate) (ss : List Step) → WrittenLast i k ss → WrittenLast i (suc k) (order-steps w gs ss)
+unfolding order-steps
+skip-order-last w i k [] ss h = h
+skip-order-last w i k (g ∷ gs) ss h = skip-last w i k g (order-steps w gs ss) (skip-order-last w i k gs ss h)
+
+pub last-gates : (w i p : ℕ) (os : List (List Gate)) → (p < length os → SparesFront i (getD os p [])) → WrittenLast i p (job-steps w os)
+unfolding job-steps
+last-gates w i p [] f = tt
+last-gates w i zero (o ∷ os) f = last-order w i o (job-steps w os) (f (omega arith))
+last-gates w i (suc p) (o ∷ os) f = skip-order-last w i p o (job-steps w os) (last-gates w i p os (λ h. f (omega arith)))

@@ -77,6 +77,26 @@ Unwritten i (suc q) (deal d f ∷ ss) = Unwritten i (suc q) ss
 Unwritten i (suc q) (exchange d e ∷ ss) = Unwritten i (suc q) ss
 Unwritten i (suc q) (end ∷ ss) = Unwritten i q ss
 
+-- P, where the order does not end here
+abbrev pub GoingOn : List Step → Type 0 → Type 0
+GoingOn [] P = P
+GoingOn (local d m l ∷ ss) P = P
+GoingOn (deal d f ∷ ss) P = P
+GoingOn (exchange d e ∷ ss) P = P
+GoingOn (end ∷ ss) P = Unit
+
+-- no step of order q but its last has slot i as its target
+abbrev pub WrittenLast : (i q : ℕ) → List Step → Type 0
+WrittenLast i q [] = Unit
+WrittenLast i zero (local d m l ∷ ss) = GoingOn ss (eqb i d ≡ false) × WrittenLast i zero ss
+WrittenLast i zero (deal d f ∷ ss) = GoingOn ss (eqb i d ≡ false) × WrittenLast i zero ss
+WrittenLast i zero (exchange d e ∷ ss) = GoingOn ss (eqb i d ≡ false) × WrittenLast i zero ss
+WrittenLast i zero (end ∷ ss) = Unit
+WrittenLast i (suc q) (local d m l ∷ ss) = WrittenLast i (suc q) ss
+WrittenLast i (suc q) (deal d f ∷ ss) = WrittenLast i (suc q) ss
+WrittenLast i (suc q) (exchange d e ∷ ss) = WrittenLast i (suc q) ss
+WrittenLast i (suc q) (end ∷ ss) = WrittenLast i q ss
+
 -- the sum of the two mask words that stand behind the counts k and all that the gates gs use
 abbrev pub mask-behind : (w : ℕ) (A B : List ℕ) → Cost → List Gate → ℕ
 mask-behind w A B k gs = add w (at A (k .a + program-cost w gs .a)) (at B (k .b + program-cost w gs .b))

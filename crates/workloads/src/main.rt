@@ -110,8 +110,8 @@ fn probing(a: &[u32], deals: &[u32], x: u32) -> u32 {
         order: x / 4 % 10,
         turn: x / 40 % 260,
     };
-    let short = front(a, (x / 10400 % 300) as usize);
-    let fewer = front(deals, (x / 20800 % 200) as usize);
+    let short = front(a, (x / 1000 % 330) as usize);
+    let fewer = front(deals, (x / 1300 % 200) as usize);
     let r = s.hear(x % 4, &PROBED, &HOUSE, short, fewer, 5);
     let fault = wrapping_mul(add(r.number, wrapping_mul(r.index, 1000)), 65537);
     let place = add(wrapping_mul(r.state.order, 31), r.state.turn);
@@ -161,11 +161,11 @@ fn orders(kind: u32, target: u32, source: u32, fourth: u32) -> [u32; 256] {
 
 // The sum over n turns, on lists as long as any job needs.
 fn summed(w: u8, n: u32) -> u32 {
-    let mut a = [0u32; 28416];
+    let mut a = [0u32; 30080];
     fill(&mut a, 2654435769, 1);
-    let mut b = [0u32; 13056];
+    let mut b = [0u32; 13824];
     fill(&mut b, 2246822519, 1);
-    let mut deals = [0u32; 15360];
+    let mut deals = [0u32; 16256];
     let one = [10, 0, 0, 0];
     let adds = orders(0, 0, 0, 1);
     let curves = orders(10, 1, 0, 0);

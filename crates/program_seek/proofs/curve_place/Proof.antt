@@ -1,8 +1,10 @@
 use mathlib.Core.Path.{_∙_}
-use borrow.Author.Needs.{needs}
+use Rattle.tables.specs.Table.{rows}
+use Rattle.curves.specs.Curve.{last-count}
 use Rattle.programs.specs.Sizes.{row-gates, row-deals, row-words-a, row-exchanges}
 use Rattle.programs.proofs.Sizes.{row-32}
-use Rattle.program_seek.proofs.Places.{curve-row-place, exact-rest-place, refreshed-rest-place}
+use Rattle.program_seek.proofs.Places.{curve-row-place, rest-place}
+use borrow.Author.Needs.{needs}
 use Rattle.program_seek.proofs.curve_place.Statement.{statement}
 use Rattle.program_seek.proofs.curve_place.Tie as tie
 
@@ -28,46 +30,33 @@ returns c =
     c .relu-place .ensures 21 23 ∙ rw (row-32, row-gates, row-exchanges, row-words-a, row-deals) at
     (curve-row-place 32 x d (s .args .table .now) (s .args .mode) (s .args .n) (rw (row-32, row-exchanges) (c .before .if1 .taken)))
 
-mul-rest : tie.Need-mul-rest
-mul-rest c = search needs
+mul-end-place : tie.Need-mul-end-place
+mul-end-place c = search needs
 
-sub-rest : tie.Need-sub-rest
-sub-rest c = search needs
+sub-end-place : tie.Need-sub-end-place
+sub-end-place c = search needs
 
-mul-gate : tie.Need-mul-gate
-mul-gate c = search needs
+mul-end-place-2 : tie.Need-mul-end-place-2
+mul-end-place-2 c = search needs
 
-add-gate : tie.Need-add-gate
-add-gate c = search needs
+add-end-place : tie.Need-add-end-place
+add-end-place c = search needs
 
-mul-a : tie.Need-mul-a
-mul-a c = search needs
+mul-end-place-3 : tie.Need-mul-end-place-3
+mul-end-place-3 c = search needs
 
-mul-deals : tie.Need-mul-deals
-mul-deals c = search needs
+mul-end-place-4 : tie.Need-mul-end-place-4
+mul-end-place-4 c = search needs
 
-exact-place-requires : tie.Need-exact-place-requires
-exact-place-requires c κs = search needs
-
-refreshed-place-requires : tie.Need-refreshed-place-requires
-refreshed-place-requires c κs = search needs
+end-place-requires : tie.Need-end-place-requires
+end-place-requires c κs = search needs
 
 returns-2 : tie.Need-returns-2
 returns-2 c =
     λ x d.
-    let s = c .before .before .before .before in
-    c .exact-place .ensures 12 22 d ∙ rw (row-32, row-gates, row-exchanges, row-words-a, row-deals) at
-    (exact-rest-place 32 x d (s .args .table .now) (s .args .mode) (s .args .n) (rw (row-32, row-exchanges) (c .before .before .if1 .left))
-    (c .before .if2 .taken))
-
-returns-3 : tie.Need-returns-3
-returns-3 c =
-    λ x d.
-    let s = c .before .before .before .before in
-    c .refreshed-place .ensures d ∙ rw (row-32, row-gates, row-exchanges, row-words-a, row-deals) at
-    (refreshed-rest-place 32 x d (s .args .table .now) (s .args .mode) (s .args .n)
-    (rw (row-32, row-exchanges) (c .before .before .if1 .left))
-    (c .before .if2 .left))
+    let s = c .before .before .before in
+    c .end-place .ensures (last-count (rows (s .args .table .now))) x d ∙ rw (row-32, row-gates, row-exchanges, row-words-a, row-deals) at
+    (rest-place 32 x d (s .args .table .now) (s .args .mode) (s .args .n) (rw (row-32, row-exchanges) (c .before .if1 .left)))
 
 pub curve-place-spec : {M : Type 1} → statement M
 curve-place-spec =
@@ -79,13 +68,11 @@ curve-place-spec =
     mul-relu-place-3
     relu-place-requires
     returns
-    mul-rest
-    sub-rest
-    mul-gate
-    add-gate
-    mul-a
-    mul-deals
-    exact-place-requires
-    refreshed-place-requires
-    returns-2
-    returns-3)
+    mul-end-place
+    sub-end-place
+    mul-end-place-2
+    add-end-place
+    mul-end-place-3
+    mul-end-place-4
+    end-place-requires
+    returns-2)

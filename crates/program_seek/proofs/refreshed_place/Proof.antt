@@ -9,7 +9,7 @@ use Rattle.program_seek.proofs.refreshed_place.Tie as tie
 
 returns : tie.Need-returns
 unfolding sought sought-at meaning shape
-returns c = λ d. simp (c .if1 .taken)
+returns c = simp (c .if1 .taken)
 
 sub-one-bit-place : tie.Need-sub-one-bit-place
 sub-one-bit-place c = search needs
@@ -24,7 +24,7 @@ one-bit-place-requires : tie.Need-one-bit-place-requires
 one-bit-place-requires c κs = search needs
 
 returns-2 : tie.Need-returns-2
-returns-2 c = λ d. c .one-bit-place .ensures 12 22 d ∙ refresh-next 32 _ _ _ _ _ (c .before .if1 .left)
+returns-2 c = c .one-bit-place .ensures 12 22 22 ∙ refresh-next 32 _ _ _ _ _ (c .before .if1 .left)
 
 pub refreshed-place-spec : {M : Type 1} → statement M
 refreshed-place-spec =

@@ -7,7 +7,7 @@ use Rattle.workloads.proofs.summed.Statement.{statement}
 use Rattle.workloads.proofs.summed.Tie as tie
 
 abbrev Inv-loop : tie.InvT-loop
-Inv-loop w n a b deals₀ one adds curves sum₀ i₀ deals sum i = length deals ≡ 15360
+Inv-loop w n a b deals₀ one adds curves sum₀ i₀ deals sum i = length deals ≡ 16256
 
 abbrev μ-loop : tie.MeasureT-loop
 μ-loop w n a b deals₀ one adds curves sum₀ i₀ deals sum i = n - i

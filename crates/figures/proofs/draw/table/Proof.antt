@@ -4,10 +4,10 @@ use Rattle.figures.proofs.draw.table.Statement.{statement}
 use Rattle.figures.proofs.draw.table.Tie as tie
 
 abbrev Inv-loop : tie.InvT-loop
-Inv-loop seed narrow rows₀ r₀ row₀ rows r row = row ≤ 16
+Inv-loop seed most rows₀ r₀ row₀ rows r row = row ≤ 16
 
 abbrev μ-loop : tie.MeasureT-loop
-μ-loop seed narrow rows₀ r₀ row₀ rows r row = 16 - row
+μ-loop seed most rows₀ r₀ row₀ rows r row = 16 - row
 
 word-requires : tie.Need-word-requires Inv-loop μ-loop
 word-requires c κs = search needs
@@ -45,11 +45,8 @@ add-word c = search needs
 word-requires-3 : tie.Need-word-requires-3 Inv-loop μ-loop
 word-requires-3 c κs = search needs
 
-add-rise : tie.Need-add-rise Inv-loop μ-loop
-add-rise c = search needs
-
-add-rise-2 : tie.Need-add-rise-2 Inv-loop μ-loop
-add-rise-2 c = search needs
+up-to-requires : tie.Need-up-to-requires Inv-loop μ-loop
+up-to-requires c κs = search needs
 
 wrapping-add-u32-requires : tie.Need-wrapping-add-u32-requires Inv-loop μ-loop
 wrapping-add-u32-requires c κs = search needs
@@ -84,8 +81,7 @@ table-spec =
     array-write-rows-2
     add-word
     word-requires-3
-    add-rise
-    add-rise-2
+    up-to-requires
     wrapping-add-u32-requires
     add-row
     loop-less

@@ -54,6 +54,9 @@ loop-less c = search needs
 loop-again : tie.Need-loop-again Inv-loop μ-loop
 loop-again c = search needs
 
+last-count-requires : tie.Need-last-count-requires Inv-loop μ-loop
+last-count-requires c κs = search needs
+
 returns : tie.Need-returns Inv-loop μ-loop
 returns c = search needs
 
@@ -78,4 +81,5 @@ curve-at-spec =
     add-row
     loop-less
     loop-again
+    last-count-requires
     returns)

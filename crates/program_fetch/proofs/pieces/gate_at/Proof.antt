@@ -32,6 +32,9 @@ row-start-gate-requires c κs = search needs
 row-end-gate-requires : tie.Need-row-end-gate-requires
 row-end-gate-requires c κs = search needs
 
+saturation-gate-requires : tie.Need-saturation-gate-requires
+saturation-gate-requires c κs = search needs
+
 one-gate-requires : tie.Need-one-gate-requires
 one-gate-requires c κs = search needs
 
@@ -67,20 +70,24 @@ unfolding piece-gates piece-kinds kinds
 returns-7 c = simp (c .before .match .keys7) (c .row-end-gate .ensures)
 
 returns-8 : tie.Need-returns-8
-returns-8 c =
+unfolding piece-gates piece-kinds kinds
+returns-8 c = simp (c .before .match .keys8) (c .saturation-gate .ensures)
+
+returns-9 : tie.Need-returns-9
+returns-9 c =
     let s = c .before .before .before .before .before in
     let ps = rows (s .args .table .now) in
     let k = c .before .if1 .taken in
     c .one-gate .ensures
     ∙ ap (λ (gs : List Gate). fetched gs (s .args .i)) (sym (one-gated 32 ps (s .args .p) k))
 
-returns-9 : tie.Need-returns-9
+returns-10 : tie.Need-returns-10
 unfolding fetched
-returns-9 c =
+returns-10 c =
     let s = c .before .before .before .before .before in
     c .past .ensures
     ∙ ap (λ (gs : List Gate). fetched gs (s .args .i)) (sym (nothing 32 (rows (s .args .table .now)) (s .args .p)
-    (none-from 6 7 _ (c .before .if1 .left) (c .before .before .match .rest))))
+    (none-from 6 8 _ (c .before .if1 .left) (c .before .before .match .rest))))
 
 pub gate-at-spec : {M : Type 1} → statement M
 gate-at-spec =
@@ -93,6 +100,7 @@ gate-at-spec =
     first-gate-requires
     row-start-gate-requires
     row-end-gate-requires
+    saturation-gate-requires
     one-gate-requires
     past-requires
     returns
@@ -103,4 +111,5 @@ gate-at-spec =
     returns-6
     returns-7
     returns-8
-    returns-9)
+    returns-9
+    returns-10)

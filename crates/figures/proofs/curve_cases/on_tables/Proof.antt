@@ -1,13 +1,13 @@
 use Prim.Native.Nat.{_-_, _≤_}
 use borrow.Author.Needs.{needs}
-use Rattle.figures.proofs.curve_cases.others.Statement.{statement}
-use Rattle.figures.proofs.curve_cases.others.Tie as tie
+use Rattle.figures.proofs.curve_cases.on_tables.Statement.{statement}
+use Rattle.figures.proofs.curve_cases.on_tables.Tie as tie
 
 abbrev Inv-loop : tie.InvT-loop
-Inv-loop mode sum₀ i₀ sum i = i ≤ 21
+Inv-loop mode readings n sum₀ i₀ sum i = i ≤ 21
 
 abbrev μ-loop : tie.MeasureT-loop
-μ-loop mode sum₀ i₀ sum i = 21 - i
+μ-loop mode readings n sum₀ i₀ sum i = 21 - i
 
 loop-holds : tie.Need-loop-holds Inv-loop μ-loop
 loop-holds c = search needs
@@ -27,20 +27,11 @@ loop-less c = search needs
 loop-again : tie.Need-loop-again Inv-loop μ-loop
 loop-again c = search needs
 
-wrapping-add-u32-requires : tie.Need-wrapping-add-u32-requires Inv-loop μ-loop
-wrapping-add-u32-requires c κs = search needs
-
-print-values-requires : tie.Need-print-values-requires Inv-loop μ-loop
-print-values-requires c κs = search needs
-
-print-rest-requires : tie.Need-print-rest-requires Inv-loop μ-loop
-print-rest-requires c κs = search needs
-
 returns : tie.Need-returns Inv-loop μ-loop
 returns c = search needs
 
-pub others-spec : {M : Type 1} → statement M
-others-spec =
+pub on-tables-spec : {M : Type 1} → statement M
+on-tables-spec =
     tie.close
     (tie.spec
     Inv-loop
@@ -51,7 +42,4 @@ others-spec =
     add-i
     loop-less
     loop-again
-    wrapping-add-u32-requires
-    print-values-requires
-    print-rest-requires
     returns)
