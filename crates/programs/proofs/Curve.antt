@@ -108,10 +108,9 @@ module _ (w : ℕ) (A B : List ℕ) (hA : Fits w A) (hB : Fits w B) (low : 2 ≤
     unfolding rows-program afters
     rows-keep [] s G i hi = refl
     rows-keep (p ∷ ps) s G i hi =
-        ap (λ (H : Pt). share (H .j) i)
-        (afters-append w A B hA hB (row-program w x (p .r) (coefficient w s p ps)) (rows-program w x (slope-after p ps) ps) G)
+        ap (λ (H : Pt). share (H .j) i) (afters-append w A B hA hB (row-program w x _ (coefficient w s p ps)) _ G)
         ∙ rows-keep ps (slope-after p ps) _ i hi
-        ∙ row-keeps x (p .r) (coefficient w s p ps) G (not-temporary x 21 hx (lit≤ tt)) i (not-temporary i 16 hi (lit≤ tt))
+        ∙ row-keeps x _ (coefficient w s p ps) G (not-temporary x 21 hx (lit≤ tt)) i (not-temporary i 16 hi (lit≤ tt))
         (not-temporary i 17 hi (lit≤ tt)) (not-temporary i 18 hi (lit≤ tt))
         (not-temporary i 19 hi (lit≤ tt)) (not-temporary i 20 hi (lit≤ tt)) (not-temporary i 21 hi (lit≤ tt))
         (not-temporary i 22 hi (lit≤ tt)) (not-temporary i 23 hi (lit≤ tt))

@@ -59,7 +59,7 @@ module _ (w : ℕ) (S : Setting) where
   pub target-last : (q i : ℕ) → i < 16 → WrittenLast i q (staged w S .script .steps)
   target-last q i hi =
       subst (λ (ss : List Step). WrittenLast i q ss) (sym made)
-      (last-gates w i q gates
+      (last-gates w i q (order-of S q .target) gates
       (λ h. rw (gates-is q (rw (gates-length w (S .job) (S .table)) at h)) (front-program w (rows (S .table)) (order-of S q) i hi)))
 
   pub order-keeps : (q : ℕ) → q < length (orders (S .job)) → (i : ℕ) → i < 16 → eqb i (order-of S q .target) ≡ false

@@ -158,22 +158,22 @@ skip-last w i k g ss h = go (meaning w g) (of-gate w g)
     go (exchange d e) o = h
     go end o = absurd o
 
-last-order : (w i : ℕ) (gs : List Gate) (ss : List Step) → SparesFront i gs → WrittenLast i 0 (order-steps w gs ss)
+last-order : (w i : ℕ) (gs : List Gate) (ss : List Step) (d : ℕ) → SparesFront i d gs → WrittenLast i 0 (order-steps w gs ss)
 unfolding order-steps
-last-order w i [] ss none-in-front = tt
-last-order w i (g ∷ []) ss alone = last-step i (meaning w g) (end ∷ ss) (of-gate w g) tt tt
-last-order w i (g ∷ []) ss (in-front e p) = last-step i (meaning w g) (end ∷ ss) (of-gate w g) tt tt
-last-order w i (g ∷ h ∷ gs) ss (in-front e p) =
+last-order w i [] ss d none-in-front = tt
+last-order w i (g ∷ []) ss d (alone t) = last-step i (meaning w g) (end ∷ ss) (of-gate w g) tt tt
+last-order w i (g ∷ []) ss d (in-front e p) = last-step i (meaning w g) (end ∷ ss) (of-gate w g) tt tt
+last-order w i (g ∷ h ∷ gs) ss d (in-front e p) =
     let rest : List Step = order-steps w (h ∷ gs) ss in
-    last-step i (meaning w g) rest (of-gate w g) (going-on rest (gate-misses w i g e)) (last-order w i (h ∷ gs) ss p)
+    last-step i (meaning w g) rest (of-gate w g) (going-on rest (gate-misses w i g e)) (last-order w i (h ∷ gs) ss d p)
 
 skip-order-last : (w i k : ℕ) (gs : List Gate) (ss : List Step) → WrittenLast i k ss → WrittenLast i (suc k) (order-steps w gs ss)
 unfolding order-steps
 skip-order-last w i k [] ss h = h
 skip-order-last w i k (g ∷ gs) ss h = skip-last w i k g (order-steps w gs ss) (skip-order-last w i k gs ss h)
 
-pub last-gates : (w i p : ℕ) (os : List (List Gate)) → (p < length os → SparesFront i (getD os p [])) → WrittenLast i p (job-steps w os)
+pub last-gates : (w i p d : ℕ) (os : List (List Gate)) → (p < length os → SparesFront i d (getD os p [])) → WrittenLast i p (job-steps w os)
 unfolding job-steps
-last-gates w i p [] f = tt
-last-gates w i zero (o ∷ os) f = last-order w i o (job-steps w os) (f (omega arith))
-last-gates w i (suc p) (o ∷ os) f = skip-order-last w i p o (job-steps w os) (last-gates w i p os (λ h. f (omega arith)))
+last-gates w i p d [] f = tt
+last-gates w i zero d (o ∷ os) f = last-order w i o (job-steps w os) d (f (omega arith))
+last-gates w i (suc p) d (o ∷ os) f = skip-order-last w i p o (job-steps w os) (last-gates w i p d os (λ h. f (omega arith)))
