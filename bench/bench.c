@@ -1,5 +1,5 @@
-/* Workloads over the engine in C. bench [-p] W N: workload W, N times, and a sum over what came out, which the
- * crate workloads prints too. bench [-p] rehearsal: the rehearsal program, lines of standard input.
+/* Workloads over the engine in C. bench [-p] W S N: workload W on a job of S orders, N times, and a sum over what came
+ * out, which the crate workloads prints too. bench [-p] rehearsal: the rehearsal program, lines of standard input.
  * -p: hears in place. */
 #include "engine.h"
 #include <stdio.h>
@@ -7,7 +7,7 @@
 #include <string.h>
 #include <unistd.h>
 
-static uint32_t A[MOST_A], B[MOST_B], D[MOST_DEALS], adds[256], curves[256];
+static uint32_t A[MOST_A], B[MOST_B], D[MOST_DEALS], curves[256], sums[256];
 static const struct list table = {house, 16};
 static int in_place;
 
@@ -75,19 +75,19 @@ static uint32_t probing(uint32_t i)
     return (r.number + r.index * 1000) * 65537 + r.spoken * 257 + r.state.order * 31 + r.state.turn;
 }
 
-static uint32_t once(int w, uint32_t x)
+/* of curves 1 preparation, 2 and 3 starting hosts 1 and 2, 4 a run; of sums 5, 6, 7 likewise; 8 probing */
+static uint32_t once(int w, size_t orders, uint32_t x)
 {
-    static const uint32_t job[4] = {10, 0, 0, 0};
-    struct list one = {job, 4}, add64 = {adds, 256}, curve64 = {curves, 256};
+    struct list curve = {curves, 4 * orders}, sum = {sums, 4 * orders};
     switch (w) {
-    case 1: return preparing(one, x);
-    case 2: return starting(1, one, x);
-    case 3: return starting(2, one, x);
-    case 4: return running(one, x);
-    case 5: return preparing(add64, x) + starting(1, add64, x) + starting(2, add64, x);
-    case 6: return running(curve64, x);
-    case 7: return probing(x);
-    case 8: return preparing(curve64, x);
+    case 1: return preparing(curve, x);
+    case 2: return starting(1, curve, x);
+    case 3: return starting(2, curve, x);
+    case 4: return running(curve, x);
+    case 5: return preparing(sum, x);
+    case 6: return starting(1, sum, x);
+    case 7: return starting(2, sum, x);
+    case 8: return probing(x);
     }
     return 0;
 }
@@ -212,20 +212,20 @@ int main(int argc, char **argv)
         A[j] = FACTOR_A * (j + 2);
     for (uint32_t j = 0; j < MOST_B; j++)
         B[j] = FACTOR_B * (j + 2);
-    for (int i = 0; i < 256; i += 4) {
-        static const uint32_t add[4] = {0, 0, 0, 1}, curve[4] = {10, 1, 0, 0};
-        memcpy(adds + i, add, 16);
-        memcpy(curves + i, curve, 16);
+    for (uint32_t i = 0; i < 64; i++) {
+        memcpy(curves + 4 * i, (const uint32_t[4]){10}, 16);
+        memcpy(sums + 4 * i, (const uint32_t[4]){i % 2, (i + i / 8) % 16, i % 16, (14 * i + 2) % 16}, 16);
     }
     if (argc == 2 && !strcmp(argv[1], "rehearsal")) {
         rehearsal();
         return 0;
     }
-    if (argc != 3)
+    if (argc != 4)
         return 2;
     uint32_t sum = 0;
     int w = atoi(argv[1]);
-    for (long i = 0, n = atol(argv[2]); i < n; i++)
-        sum = w == 7 ? sum * 31 + once(w, (uint32_t)i) : sum + once(w, sum + (uint32_t)i);
+    size_t orders = (size_t)atol(argv[2]);
+    for (long i = 0, n = atol(argv[3]); i < n; i++)
+        sum = w == 8 ? sum * 31 + once(w, orders, (uint32_t)i) : sum + once(w, orders, sum + (uint32_t)i);
     printf("%u\n", sum);
 }

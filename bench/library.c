@@ -1,5 +1,5 @@
-/* Workloads of bench.c over include/lamphiek.h: what the border to C costs. library W N: workload W, N times, and the
- * sum that bench.c and the crate workloads print. */
+/* Workloads of bench.c over include/lamphiek.h: what the border to C costs. library W S N: workload W on a job of S
+ * orders, N times, and the sum that bench.c and the crate workloads print. */
 #include "lamphiek.h"
 #include "engine.h"
 #include <stdio.h>
@@ -8,7 +8,7 @@
 
 struct job { const uint32_t *words; size_t n; };
 
-static uint32_t A[MOST_A], B[MOST_B], D[MOST_DEALS], curves[256], table[LAMPHIEK_HOUSE_WORDS];
+static uint32_t A[MOST_A], B[MOST_B], D[MOST_DEALS], curves[256], sums[256], table[LAMPHIEK_HOUSE_WORDS];
 
 #define JOB(job) (job).words, (job).n, table, LAMPHIEK_HOUSE_WORDS
 #define LENT_1(job) 1, JOB(job), A, MOST_A, D, MOST_DEALS
@@ -47,17 +47,17 @@ static uint32_t running(struct job job, uint32_t v)
     return s.m[0] + two.count + k.l1[0] + p.count;
 }
 
-static uint32_t once(int w, uint32_t x)
+static uint32_t once(int w, size_t orders, uint32_t x)
 {
-    static const uint32_t words[4] = {LAMPHIEK_CURVE, 0, 0, LAMPHIEK_MODE_EXACT};
-    struct job one = {words, 4}, curve64 = {curves, 256};
+    struct job curve = {curves, LAMPHIEK_ORDER_WORDS * orders}, sum = {sums, LAMPHIEK_ORDER_WORDS * orders};
     switch (w) {
-    case 1: return preparing(one, x);
-    case 2: return starting(1, one, x);
-    case 3: return starting(2, one, x);
-    case 4: return running(one, x);
-    case 6: return running(curve64, x);
-    case 8: return preparing(curve64, x);
+    case 1: return preparing(curve, x);
+    case 2: return starting(1, curve, x);
+    case 3: return starting(2, curve, x);
+    case 4: return running(curve, x);
+    case 5: return preparing(sum, x);
+    case 6: return starting(1, sum, x);
+    case 7: return starting(2, sum, x);
     }
     return 0;
 }
@@ -69,12 +69,17 @@ int main(int argc, char **argv)
         A[j] = FACTOR_A * (j + 2);
     for (uint32_t j = 0; j < MOST_B; j++)
         B[j] = FACTOR_B * (j + 2);
-    for (int i = 0; i < 256; i += 4)
-        memcpy(curves + i, (const uint32_t[4]){LAMPHIEK_CURVE, 1, 0, LAMPHIEK_MODE_EXACT}, 16);
-    if (argc != 3)
+    for (uint32_t i = 0; i < 64; i++) {
+        memcpy(curves + 4 * i, (const uint32_t[4]){LAMPHIEK_CURVE, 0, 0, LAMPHIEK_MODE_EXACT}, 16);
+        memcpy(sums + 4 * i, (const uint32_t[4]){i % 2 ? LAMPHIEK_SUBTRACT : LAMPHIEK_ADD, (i + i / 8) % 16, i % 16,
+                                                 (14 * i + 2) % 16}, 16);
+    }
+    if (argc != 4)
         return 2;
     uint32_t sum = 0;
-    for (long i = 0, n = atol(argv[2]); i < n; i++)
-        sum += once(atoi(argv[1]), sum + (uint32_t)i);
+    int w = atoi(argv[1]);
+    size_t orders = (size_t)atol(argv[2]);
+    for (long i = 0, n = atol(argv[3]); i < n; i++)
+        sum += once(w, orders, sum + (uint32_t)i);
     printf("%u\n", sum);
 }

@@ -113,6 +113,10 @@ pub enough-lent : (σ : Script) (A B D : List ℕ) → dealer-fault σ A B D .0 
 unfolding dealer-fault
 enough-lent σ A B D e = enough (script-cost σ) A B D (neither (σ .fault .0) (σ .fault .1) _ e .1)
 
+pub no-dealer-fault : (σ : Script) (A B D : List ℕ) → dealer-fault σ A B D .0 ≡ 0 → σ .fault .0 ≡ 0
+unfolding dealer-fault
+no-dealer-fault σ A B D e = neither (σ .fault .0) (σ .fault .1) _ e .0
+
 -- hosts 1 and 2
 module _ (h : ℕ) (σ : Script) (M D : List ℕ) where
   pub no-host : (h ≡ 1 → ⊥) → (h ≡ 2 → ⊥) → (1, 0) ≡ lent-fault (lent h σ M D)

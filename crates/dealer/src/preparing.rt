@@ -16,15 +16,17 @@ ghost use Rattle.dealer.specs.Answers.{answer};
 use crate::Masks;
 use crate::Prepared;
 use call_check::check_dealer;
-use call_check::fresh;
 use dealer_gate::deal_gate;
 use gate_shape::used_by;
 use gates::GateCode;
 use gates::Used;
+use job_add::add_in_place;
+use job_add::adds_here;
 use job_order::order_at;
 use program_fetch::Piece;
 use program_fetch::gate_at;
 use program_fetch::piece_at;
+use word_lists::copy_front;
 
 // The registers of a lane, before the temporaries.
 fn registers(lane: [u32; 24]) -> [u32; 16]
@@ -85,7 +87,7 @@ fn deal_piece(
     at
 }
 
-// The orders of a job, from its first to its last, and each piece by piece.
+// The orders of a job, from its first to its last: an addition or subtraction at once (R-2), the others piece by piece.
 fn deal_job(
     job: &[u32],
     table: &[u32],
@@ -110,7 +112,13 @@ fn deal_job(
     let mut o = 0;
     let mut gate = 0;
     while o < n {
-        let piece = piece_at(order_at(job, o), table, gate);
+        let order = order_at(job, o);
+        if adds_here(order, gate) {
+            add_in_place(order, l1, l2);
+            o += 1;
+            continue;
+        }
+        let piece = piece_at(order, table, gate);
         used = deal_piece(piece, table, a, b, used, l1, l2, deals);
         if piece.last {
             o += 1;
@@ -148,8 +156,10 @@ pub fn prepare(
     }
     let first = masks.l1;
     let second = masks.l2;
-    let mut l1 = fresh(first);
-    let mut l2 = fresh(second);
+    let mut l1 = [0u32; 24];
+    let mut l2 = [0u32; 24];
+    copy_front(&first, &mut l1, 16);
+    copy_front(&second, &mut l2, 16);
     let used = deal_job(job, table, a, b, &mut l1, &mut l2, deals);
     let kept1 = registers(l1);
     let kept2 = registers(l2);

@@ -13,7 +13,7 @@ use Rattle.calls.specs.Scripts.{Script}
 use Rattle.calls.specs.Places.{found, seek}
 use Rattle.calls.specs.Lent.{Lent, dealer-fault, worker-of}
 use Rattle.calls.specs.Calls.{State, Answer, fresh, unless, start-walk, hear-walk, place-fault, found-of, resume, hear}
-use Rattle.calls.specs.Calls.{script-deals, prepare-walk, prepared, prepare}
+use Rattle.calls.specs.Calls.{Prepared, script-deals, prepare-walk, prepared, prepare}
 use Rattle.runs.specs.Runs.{Among}
 use Rattle.demands.specs.Conditions.{Place, places-from}
 use Rattle.demands.specs.Completed.{walks-on, Located, Completed}
@@ -46,20 +46,29 @@ seek-to (end ∷ pre) ss d e c = seek-to pre ss d e (past end c)
 
 -- ---- the three calls
 
-prepared-done : (k : ℕ) (f : Fault) (σ : Script) (A B buf : List ℕ) (r : Pair) → f .0 ≡ k → prepared k f σ A B buf r .number ≡ 0
-    → prepared k f σ A B buf r
-    ≡ record {
+-- what preparation answers where it meets no condition
+abbrev pub all-prepared : Script → (A B buf : List ℕ) → Pair → Prepared
+all-prepared σ A B buf r =
+    record {
       number = 0;
       index = 0;
       deals = length (script-deals σ A B r);
       masks = (take (σ .slots) (prepare-walk σ A B r .state .0), take (σ .slots) (prepare-walk σ A B r .state .1));
       buffer = script-deals σ A B r ++ drop (length (script-deals σ A B r)) buf;
     }
+
+prepared-done : (k : ℕ) (f : Fault) (σ : Script) (A B buf : List ℕ) (r : Pair) → f .0 ≡ k → prepared k f σ A B buf r .number ≡ 0
+    → (k ≡ 0) × (prepared k f σ A B buf r ≡ all-prepared σ A B buf r)
 unfolding prepared
-prepared-done zero f σ A B buf r e h = refl
+prepared-done zero f σ A B buf r e h = (refl, refl)
 prepared-done (suc k) f σ A B buf r e h = absurd (omega arith)
 
-resumed : (loan : Lent) (s : State) (v : ℕ) (ss : List Step) (c : Cursor) (d : ℕ) (e : Exchange)
+pub prepare-none : (σ : Script) (A B buf : List ℕ) (r : Pair) → prepare σ A B buf r .number ≡ 0
+    → (dealer-fault σ A B buf .0 ≡ 0) × (prepare σ A B buf r ≡ all-prepared σ A B buf r)
+unfolding prepare
+prepare-none σ A B buf r h = prepared-done (dealer-fault σ A B buf .0) (dealer-fault σ A B buf) σ A B buf r refl h
+
+pub resumed : (loan : Lent) (s : State) (v : ℕ) (ss : List Step) (c : Cursor) (d : ℕ) (e : Exchange)
     → resume (worker-of loan) s v (found (exchange d e ∷ ss) c)
     ≡ walks-on loan ss (past (exchange d e) c) (worker-of loan .hear d e c (s .m, s .mask) v)
 unfolding resume place-fault unless hear-walk
@@ -111,10 +120,10 @@ located (exchange d e ∷ ss) c o x (inr h) = past-one (exchange d e) ss c o x (
 located (end ∷ ss) c o x h = past-one end ss c o x (located ss (past end c) o x h)
 
 pub completed : Completed
-unfolding prepare script-deals prepare-walk fresh start-walk
+unfolding script-deals prepare-walk fresh start-walk
 completed =
     record {
-      preparing = λ σ A B buf r h. prepared-done (dealer-fault σ A B buf .0) (dealer-fault σ A B buf) σ A B buf r refl h;
+      preparing = λ σ A B buf r h. prepare-none σ A B buf r h .1;
       starting = λ loan r h. start-none loan r h .1;
       hearing = λ loan s v pre ss d e is o x h. heard loan s v pre ss d e is o x h;
       located = λ ss o x h. located ss origin o x h;

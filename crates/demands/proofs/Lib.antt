@@ -11,3 +11,6 @@ pub mod ReturnedCurves
 pub mod ByKind
 pub mod ByHand
 pub mod Fronts
+pub mod Adding
+pub mod Between
+pub mod Additions

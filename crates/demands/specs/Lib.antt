@@ -9,3 +9,4 @@ pub mod ReturnedCurves
 pub mod ByKind
 pub mod ByHand
 pub mod Fronts
+pub mod Additions

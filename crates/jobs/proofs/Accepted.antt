@@ -59,15 +59,20 @@ all-good w ruled [] i e q h d = absurd (omega arith)
 all-good w ruled (o ∷ os) i e zero h d = good w ruled o (fault-none (order-fault w ruled o) i _ e .0)
 all-good w ruled (o ∷ os) i e (suc q) h d = all-good w ruled os (suc i) (fault-none (order-fault w ruled o) i _ e .1) q (omega arith) d
 
+-- an accepted job has a size that is allowed, and no order with a fault
+pub faultless-parts : (w : ℕ) (job table : List ℕ) → job-fault w job table .0 ≡ 0
+    → (ill-sized job ≡ false) × (orders-fault w (keeps-rules table) (orders job) 0 .0 ≡ 0)
+unfolding job-fault
+faultless-parts w job table e = go (ill-sized job) e
+  where
+    go : (b : Bool) → cond b (2, 0) (orders-fault w (keeps-rules table) (orders job) 0) .0 ≡ 0
+        → (b ≡ false) × (orders-fault w (keeps-rules table) (orders job) 0 .0 ≡ 0)
+    go true f = absurd (omega arith)
+    go false f = (refl, f)
+
 pub accepted-orders : (w : ℕ) (job table : List ℕ) → job-fault w job table .0 ≡ 0 → (q : ℕ) → q < length (orders job) → (d : Order)
     → Good w (keeps-rules table) (getD (orders job) q d)
-unfolding job-fault
-accepted-orders w job table e q h d = go (ill-sized job) refl e
-  where
-    go : (b : Bool) → ill-sized job ≡ b → cond b (2, 0) (orders-fault w (keeps-rules table) (orders job) 0) .0 ≡ 0
-        → Good w (keeps-rules table) (getD (orders job) q d)
-    go true t f = absurd (omega arith)
-    go false t f = all-good w (keeps-rules table) (orders job) 0 f q h d
+accepted-orders w job table e q h d = all-good w (keeps-rules table) (orders job) 0 (faultless-parts w job table e .1) q h d
 
 -- ---- its fourth word, by kind
 

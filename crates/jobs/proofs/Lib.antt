@@ -9,3 +9,4 @@ pub mod Marks
 pub mod Unused
 pub mod Plainly
 pub mod FirstFault
+pub mod Additions

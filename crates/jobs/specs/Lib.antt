@@ -3,3 +3,4 @@ pub mod Counts
 pub mod CostTable
 pub mod Answers
 pub mod FirstFault
+pub mod Additions

@@ -17,7 +17,7 @@ use Rattle.runs.specs.Runs.{Dealer, idle, ready, Side, waiting, going, d
 use Rattle.runs.specs.Runs.{Turned, at-start, at-hearing}
 
 -- an answer that is no refusal
-unless-none : (n : ℕ) (f : Fault) (s : State) (a : Answer) → f .0 ≡ n → unless n f s a .number ≡ 0 → (n ≡ 0) × (unless n f s a ≡ a)
+pub unless-none : (n : ℕ) (f : Fault) (s : State) (a : Answer) → f .0 ≡ n → unless n f s a .number ≡ 0 → (n ≡ 0) × (unless n f s a ≡ a)
 unfolding unless
 unless-none zero f s a e h = (refl, refl)
 unless-none (suc n) f s a e h = absurd (omega arith)

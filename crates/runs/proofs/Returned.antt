@@ -2,12 +2,12 @@
 use mathlib.Core.Path.{_≡_, refl, sym, ap, _∙_}
 use mathlib.Core.Bool.{Bool, true, false, true≢false}
 use mathlib.Core.List.{List, [], _∷_}
-use Prim.Native.Nat.{ℕ, zero, suc, _-_, _≤_, _<_}
+use Prim.Native.Nat.{ℕ, zero, suc, _≤_, _<_}
 use native.Mathlib.Omega.{arith}
 use native.Mathlib.Decide.{decLe}
 use borrow.Author.Tests.{eqb-true}
 use lib.Dec.{eqb}
-use lib.ListN.{length, take, replicate, List·getD-append}
+use lib.ListN.{length, take}
 use lib.Seq.{getD-take}
 use lib.IntN.{ℤ}
 use Rattle.words.specs.Words.{numbers}
@@ -18,7 +18,8 @@ use Rattle.gates.specs.Steps.{Lane, at, Step, local, deal, exchange, end}
 use Rattle.gates.specs.Hosts.{Pair, share}
 use Rattle.jobs.specs.Job.{orders}
 use Rattle.calls.specs.Scripts.{orders-in, Closed}
-use Rattle.calls.specs.Calls.{State, fresh}
+use Rattle.calls.specs.Calls.{State}
+use Rattle.calls.proofs.Lists.{fresh-at}
 use Rattle.runs.specs.Runs.{Stage, Setting, staged, Dealer, Side, waiting, going, dealer-holds, World, Call, Run, side-order, order1}
 use Rattle.runs.specs.Runs.{order2, Finished, opened-slot, opened-after}
 use Rattle.runs.specs.Orders.{Words, before-order, share-before, value-before, Unwritten, order-of, Finishes}
@@ -42,16 +43,12 @@ module _ (w : ℕ) (S : Stage) (i : ℕ) (hi : i < S .script .slots) where
   front : (l : Lane) → at (take (S .script .slots) l) i ≡ at l i
   front l = getD-take (S .script .slots) l i 0 hi
 
-  given-at : (l : Lane) → length l ≡ S .script .slots → at (fresh l) i ≡ at l i
-  unfolding fresh
-  given-at l n = List·getD-append l (replicate 8 0) 0 i (omega arith)
-
   -- what was given, as a share
   abbrev pub given-share : Share ℕ
   given-share = record { m = at (S .rm) i; l1 = at (S .r1) i; l2 = at (S .r2) i }
 
   pub given-share-is : share (j₀ S) i ≡ given-share
-  given-share-is = rw (given-at (S .rm) (S .rm-full), given-at (S .r1) (S .r1-full), given-at (S .r2) (S .r2-full))
+  given-share-is = rw (fresh-at (S .rm) i, fresh-at (S .r1) i, fresh-at (S .r2) i)
 
   -- ---- where no order from order p on writes slot i, and the hosts are past all orders before it
 

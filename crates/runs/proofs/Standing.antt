@@ -18,7 +18,7 @@ use Rattle.runs.specs.Orders.{trail, after-order, before-order, share-be
 use Rattle.runs.specs.Returned.{UnwrittenFrom}
 use Rattle.runs.proofs.Places.{Halted, pos, whole-pos, trail-pos, trail-length, ends-pos}
 use Rattle.runs.proofs.Ties.{joint, Tied}
-use Rattle.runs.proofs.Kept.{all, j₀, last, position, dealt-all, OneOk, wait1, go1, go2, Ok, ok, kept}
+use Rattle.runs.proofs.Kept.{all, j₀, last, position, dealt-all, OneOk, wait1, go1, TwoOk, wait2, go2, Ok, ok, kept}
 use Rattle.runs.proofs.Unwritten.{act-misses, closed-from, Unended, unended, halted-unended, never-last}
 use Rattle.runs.proofs.Spared.{kept-between}
 
@@ -160,10 +160,14 @@ module _ (S : Stage) where
   stands-since p i n o u h =
       stands-at n i (halted-unended (point n .rest) o) (never-last i (point n .cur .order) (all S) (u (point n .cur .order) h)) ∙ kept-between S p i (point n .cur .order) h (inside n) (λ q a b. u q a)
 
-  -- the orders that host 1 is past are the script's
+  -- the orders that a host is past are the script's
   pub order1-inside : {x : Side} → OneOk S x → side-order x ≤ orders-in (S .script)
   order1-inside (wait1 h) = omega arith
   order1-inside (go1 X) = rw (X .is) (inside (X .n))
+
+  pub order2-inside : {x : Side} → TwoOk S x → side-order x ≤ orders-in (S .script)
+  order2-inside (wait2 h) = omega arith
+  order2-inside (go2 X) = rw (X .is) (inside (X .n))
 
   pub in-script : {cs : List Call} (v : World) → Run S cs v → (q : ℕ) → q < order1 v → q < orders-in (S .script)
   in-script v r q l = go v (kept S r) l

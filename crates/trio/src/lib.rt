@@ -5,9 +5,9 @@ ghost use Rattle.calls.specs.Scripts.{job-script};
 ghost use Rattle.calls.specs.Lent.{lent};
 ghost use Rattle.worker.specs.Answers.{answer-of, lanes-of};
 ghost use Rattle.trio.specs.Together.{trio-of, shared, Full, begun, heard, together};
-use call_check::fresh;
 use dealer::Masks;
 use dealer::prepare;
+use word_lists::copy_front;
 use worker::Answer;
 use worker::Registers;
 use worker::State;
@@ -51,18 +51,20 @@ fn first(
     if number == 0 {
         return start(host, job, table, masks, deals, registers);
     }
-    let m = registers.m;
-    let mask = registers.mask;
-    let fresh_m = fresh(m);
-    let fresh_mask = fresh(mask);
+    let first_m = registers.m;
+    let first_mask = registers.mask;
+    let mut m = [0u32; 24];
+    let mut mask = [0u32; 24];
+    copy_front(&first_m, &mut m, 16);
+    copy_front(&first_mask, &mut mask, 16);
     Answer {
         number,
         index,
         spoken: 0,
         word: 0,
         state: State {
-            m: fresh_m,
-            mask: fresh_mask,
+            m,
+            mask,
             order: 0,
             turn: 0,
         },

@@ -2,6 +2,7 @@ pub mod Gates
 pub mod Halts
 pub mod Workers
 pub mod Within
+pub mod Alike
 pub mod Programs
 pub mod Seeking
 pub mod Before
@@ -10,3 +11,4 @@ pub mod Answers
 pub mod Dealers
 pub mod Preparing
 pub mod Prepared
+pub mod Resuming

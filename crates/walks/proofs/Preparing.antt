@@ -2,12 +2,12 @@
 -- holds at the head, a turn, and the end. Assumes nothing.
 use mathlib.Core.Path.{_≡_, refl, sym, ap, _∙_}
 use mathlib.Core.List.{List, [], _∷_, _++_}
-use Prim.Native.Nat.{ℕ, _+_}
+use Prim.Native.Nat.{ℕ}
 use native.Mathlib.Numerals.{towards-suc}
 use native.Mathlib.Omega.{arith}
 use lib.ListN.{length, length-set}
 use lib.Seq.{sets}
-use Rattle.gates.specs.Steps.{product, refresh, Step, local, deal, exchange, end, new-at, past-deal, emit, Cursor, past}
+use Rattle.gates.specs.Steps.{at, product, refresh, Step, local, deal, exchange, end, new-at, part2, past-deal, emit, Cursor, past}
 use Rattle.gates.specs.Walk.{whole, far}
 use Rattle.gates.specs.Hosts.{Pair, on-mask, act0, dealt, deals}
 use Rattle.gates.specs.Speech.{dealt-word, shape}
@@ -32,6 +32,19 @@ module _ (A B : List ℕ) where
   dealt-whole (exchange d (product O p q) ∷ ss) c s t buf = simp towards-suc (dealt-whole ss (past (exchange d (product O p q)) c) _ _ _)
   dealt-whole (exchange d (refresh O p) ∷ ss) c s t buf = simp towards-suc (dealt-whole ss (past (exchange d (refresh O p)) c) _ _ _)
   dealt-whole (end ∷ ss) c s t buf = dealt-whole ss (past end c) s _ buf
+
+  -- the deals of one list of steps, and then those of another
+  pub deals-append : (ss ts : List Step) (c : Cursor) (s : Pair) (t : List Pair)
+      → deals A B (ss ++ ts) c s
+      ≡ deals A B ss c s ++ deals A B ts (whole (act0 A B) ss c s t .cur) (whole (act0 A B) ss c s t .state)
+  unfolding deals dealt whole emit
+  deals-append [] ts c s t = refl
+  deals-append (local d m l ∷ ss) ts c s t = deals-append ss ts _ _ _
+  deals-append (deal d f ∷ ss) ts c s t = ap (λ (ds : List ℕ). f (at A (c .a)) (s .0) (s .1) ∷ ds) (deals-append ss ts _ _ _)
+  deals-append (exchange d (product O p q) ∷ ss) ts c s t =
+      ap (λ (ds : List ℕ). part2 (product O p q) (at A (c .a)) (s .0) (s .1) ∷ ds) (deals-append ss ts _ _ _)
+  deals-append (exchange d (refresh O p) ∷ ss) ts c s t = deals-append ss ts _ _ _
+  deals-append (end ∷ ss) ts c s t = deals-append ss ts _ _ _
 
   pub deal-append : (ss ts : List Step) (s : Dealer) → deal-all A B (ss ++ ts) s ≡ deal-all A B ts (deal-all A B ss s)
   unfolding deal-all

@@ -4,12 +4,12 @@ use mathlib.Core.Path.{_≡_, sym, ap, _∙_}
 use mathlib.Core.List.{List, [], _∷_, _++_, map}
 use Prim.Native.Nat.{ℕ, suc, _+_}
 use native.Mathlib.Numerals.{add-one}
-use lib.ListN.{drop}
+use lib.ListN.{drop, set}
 use Rattle.gates.specs.Gates.{Gate}
 use Rattle.gates.specs.declared.Used.{Used}
-use Rattle.gates.specs.Steps.{Lane, Step, Cursor, past}
+use Rattle.gates.specs.Steps.{Lane, Step, end, Cursor, past}
 use Rattle.gates.specs.Costs.{used-at}
-use Rattle.gates.specs.Meaning.{meaning, order-steps, job-steps}
+use Rattle.gates.specs.Meaning.{meaning, each, order-steps, job-steps}
 use Rattle.gates.specs.Walk.{Exchanging}
 use Rattle.gates.specs.Hosts.{Pair}
 use Rattle.gates.proofs.Uses.{behind-a, behind-deals}
@@ -20,6 +20,7 @@ use Rattle.walks.specs.Workers.{cursor, heard-at}
 use Rattle.walks.specs.Halts.{going-on, reported, steps-from, Going}
 use Rattle.walks.proofs.Gates.{first-gate}
 use Rattle.walks.proofs.Halts.{passes-end, stops, ends, past-exchange, walk-on}
+use Rattle.walks.proofs.Alike.{written, passes-each}
 use Rattle.walks.proofs.Workers.{acts-end, word-any, heard-any}
 
 module _ (w h : ℕ) (M D : List ℕ) (programs : List (List Gate)) where
@@ -34,6 +35,19 @@ module _ (w h : ℕ) (M D : List ℕ) (programs : List (List Gate)) where
     pub finished : drop o programs ≡ [] → from-here ≡ going-on b 0 (s .0) (s .1) o x
     unfolding steps-from
     finished e = rw e (ends P [] o x a b dealt s)
+
+    -- the program o is one gate that writes slot d on each lane alike, and the walk stands before it
+    pub at-once : (gs : List Gate) → drop o programs ≡ gs ∷ drop (suc o) programs → i ≡ 0 → (d : ℕ) (f : Lane → ℕ)
+        → ((ss : List Step) → order-steps w gs ss ≡ each d f ∷ end ∷ ss)
+        → (m l : Lane) → m ≡ set (s .0) d (f (s .0)) → l ≡ set (s .1) d (f (s .1))
+        → from-here ≡ reported P (steps-from w i (drop (o + 1) programs)) (cursor (o + 1) 0 a b dealt) (m, l)
+    unfolding steps-from past
+    at-once gs e z d f one m l em el =
+        let behind = job-steps w (drop (suc o) programs) in
+        rw (z, e, em, el, add-one o)
+        (ap (λ (ss : List Step). reported P ss (cursor o x a b dealt) s) (one behind)
+        ∙ passes-each h M D d f behind (cursor o x a b dealt) s
+        ∙ ap (λ (ss : List Step). reported P ss (cursor (suc o) 0 a b dealt) (written d f s)) (first-gate w (drop (suc o) programs)))
 
     -- the program o is gs; its gates from i on are those of hs from k on, and then the rest, and the walk has come to gate j of hs
     module _ (gs : List Gate) (e : drop o programs ≡ gs ∷ drop (suc o) programs) (hs rest : List Gate) (k : ℕ)

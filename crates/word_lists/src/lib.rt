@@ -4,6 +4,7 @@ ghost use mathlib.Core.Path.{_≡_};
 ghost use Prim.Native.Nat.{_+_};
 ghost use lib.ListN.{set};
 ghost use Rattle.gates.specs.Steps as Steps;
+ghost use Rattle.word_lists.specs.Copied.{front-copied};
 
 // ---- the accessors go by a slice, whose length is there to test: no contract speaks of bounds
 
@@ -44,4 +45,21 @@ pub fn put(lane: &mut [u32; 24], d: u32, v: u32)
     ensures { λ r. ⌜ now (lane .exit) ≡ set (now (lane .entry)) d v ⌝ }
 {
     put_word(lane, d as usize, v);
+}
+
+// The first n words of a list are written over those of another, where both have so many.
+pub fn copy_front(from: &[u32], to: &mut [u32], n: usize)
+    ensures { λ r. ⌜ now (to .exit) ≡ front-copied (now (from .entry)) (now (to .entry)) n ⌝ }
+{
+    if from.len() < n {
+        return;
+    }
+    if to.len() < n {
+        return;
+    }
+    let mut i = 0;
+    while i < n {
+        to[i] = from[i];
+        i += 1;
+    }
 }

@@ -1,6 +1,5 @@
 -- An accepted job is small: its words, and the gates of its orders. Assumes nothing.
-use mathlib.Core.Path.{_≡_, refl, sym, subst}
-use mathlib.Core.Bool.{Bool, true, false, cond}
+use mathlib.Core.Path.{_≡_, sym, subst}
 use mathlib.Core.List.{List, []}
 use Prim.Native.Nat.{ℕ, _/_, _≤_, _<_}
 use native.Mathlib.Omega.{arith}
@@ -11,8 +10,8 @@ use Rattle.tables.proofs.Rows.{rules}
 use Rattle.programs.specs.declared.Order.{Order}
 use Rattle.programs.specs.Orders.{program}
 use Rattle.jobs.proofs.Indices.{order-count, orders-drop, head-of}
-use Rattle.jobs.specs.Job.{orders, ill-sized, orders-fault, job-fault, order-at}
-use Rattle.jobs.proofs.Accepted.{Good, accepted-orders, curve-ruled}
+use Rattle.jobs.specs.Job.{orders, job-fault, order-at}
+use Rattle.jobs.proofs.Accepted.{Good, faultless-parts, accepted-orders, curve-ruled}
 use Rattle.jobs.proofs.Conditions as Conditions
 use Rattle.worker.specs.Jobs.{Sized}
 use Rattle.programs.proofs.Sizes.{few-gates}
@@ -20,14 +19,6 @@ use Rattle.programs.proofs.Sizes.{few-gates}
 -- ---- an accepted job is small
 
 module _ (w : ℕ) (job table : List ℕ) (e : job-fault w job table .0 ≡ 0) where
-  well-sized : ill-sized job ≡ false
-  unfolding job-fault
-  well-sized = go (ill-sized job) refl e
-    where
-      go : (b : Bool) → ill-sized job ≡ b → cond b (2, 0) (orders-fault w (keeps-rules table) (orders job) 0) .0 ≡ 0 → ill-sized job ≡ false
-      go true p q = absurd (omega arith)
-      go false p q = p
-
   order-good : (o : ℕ) → o < length job / 4 → Good w (keeps-rules table) (order-at job o)
   order-good o h =
       subst (λ (x : Order). Good w (keeps-rules table) x) (head-of (orders job) o (order-at job o) (order-at job o) _ (orders-drop job o h))
@@ -40,7 +31,7 @@ module _ (w : ℕ) (job table : List ℕ) (e : job-fault w job table .0 ≡ 0) w
   -- where the programs of the width are short
   pub sized-by : ((o : Order) → (o .kind ≡ 10 → length (rows table) ≤ 16) → length (program w (rows table) o) ≤ 1000) → Sized w job table
   sized-by short =
-      let p = Conditions.sized job well-sized in
+      let p = Conditions.sized job (faultless-parts w job table e .0) in
       record {
         few-words = p .0;
         whole-orders = omega (arith, p .1);

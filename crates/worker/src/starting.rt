@@ -11,7 +11,7 @@ use crate::answering::answered;
 use crate::answering::refused;
 use crate::walk::advance;
 use call_check::check_lent;
-use call_check::fresh;
+use word_lists::copy_front;
 use worker_gate::Reach;
 
 // Checks 1 to 7 come first, and a refusal gives the registers back.
@@ -31,8 +31,10 @@ pub fn start(
 {
     let first_m = registers.m;
     let first_mask = registers.mask;
-    let mut m = fresh(first_m);
-    let mut mask = fresh(first_mask);
+    let mut m = [0u32; 24];
+    let mut mask = [0u32; 24];
+    copy_front(&first_m, &mut m, 16);
+    copy_front(&first_mask, &mut mask, 16);
     let lent = check_lent(host, job, table, masks, deals, 0);
     if lent.number != 0 {
         let given = State {

@@ -1,5 +1,5 @@
 // A host's walk from gate to gate: within a piece of a program up to the next product or refresh, and over the pieces
-// of the orders of a job.
+// of the orders of a job. Additions and subtractions are done at once (R-2).
 ghost use mathlib.Core.Path.{_≡_};
 ghost use Prim.Native.Nat.{_/_, _+_, _^_, _≤_, _<_};
 ghost use lib.ListN.{length, drop};
@@ -17,6 +17,8 @@ use gates::FIRST_EXCHANGE;
 use gates::GateCode;
 use gates::PAST;
 use gates::Used;
+use job_add::add_in_place;
+use job_add::adds_here;
 use job_order::order_at;
 use program_fetch::Piece;
 use program_fetch::gate_at;
@@ -133,7 +135,14 @@ pub(crate) fn advance(
     let mut turn = turn;
     let mut at = from;
     while order < n {
-        let p = piece_at(order_at(job, order), table, at.gate);
+        let o = order_at(job, order);
+        if adds_here(o, at.gate) {
+            add_in_place(o, m, mask);
+            order += 1;
+            turn = 0;
+            continue;
+        }
+        let p = piece_at(o, table, at.gate);
         let inner = Reach {
             gate: p.from,
             a: at.a,

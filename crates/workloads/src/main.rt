@@ -1,5 +1,6 @@
-// Workloads for `bench/run`: standard input is the workload's digit and how often; printed is a sum over what came out,
-// which bench.c prints too. Its functions promise nothing but that they end and stay within their bounds.
+// Workloads for `bench/run`: standard input is the workload's digit, the orders of its job in two digits, and how often;
+// printed is a sum over what came out, which bench.c prints too. Its functions promise nothing but that they end and
+// stay within their bounds.
 use dealer::Masks;
 use dealer::prepare;
 use sample_masks::fill;
@@ -47,14 +48,6 @@ fn running(job: &[u32], a: &[u32], b: &[u32], deals: &mut [u32], x: u32) -> u32 
     let state = one.state;
     let left = r.masks;
     add(add(state.m[0], r.two.spoken), add(left.l1[0], r.deals))
-}
-
-// Host 0 prepares a job of additions, and hosts 1 and 2 start it, and so end it.
-fn adding(job: &[u32], a: &[u32], b: &[u32], deals: &mut [u32], x: u32) -> u32 {
-    let prepared = preparing(job, a, b, deals, x);
-    let first = starting(1, job, a, deals, x);
-    let second = starting(2, job, b, deals, x);
-    add(add(prepared, first), second)
 }
 
 // The first n words, or all where there are fewer.
@@ -118,14 +111,12 @@ fn probing(a: &[u32], deals: &[u32], x: u32) -> u32 {
     add(fault, add(wrapping_mul(r.spoken, 257), place))
 }
 
-// One turn of a workload, by its digit, which goes by the sum so far: 1 preparation of a curve, 2 and 3 starting hosts
-// 1 and 2, 4 a run of one curve, 5 64 additions on three hosts, 6 a run of 64 curves, 7 probing, and else preparation
-// of 64 curves.
+// One turn of a workload, by its digit, which goes by the sum so far: of curves 1 preparation, 2 and 3 starting hosts 1
+// and 2, 4 a run; of additions and subtractions 5 preparation, 6 and 7 starting hosts 1 and 2; and else probing.
 fn once(
     w: u8,
-    one: &[u32],
-    adds: &[u32],
     curves: &[u32],
+    sums: &[u32],
     a: &[u32],
     b: &[u32],
     deals: &mut [u32],
@@ -134,45 +125,59 @@ fn once(
 ) -> u32 {
     let x = add(sum, i);
     match w {
-        b'1' => add(sum, preparing(one, a, b, deals, x)),
-        b'2' => add(sum, starting(1, one, a, deals, x)),
-        b'3' => add(sum, starting(2, one, b, deals, x)),
-        b'4' => add(sum, running(one, a, b, deals, x)),
-        b'5' => add(sum, adding(adds, a, b, deals, x)),
-        b'6' => add(sum, running(curves, a, b, deals, x)),
-        b'7' => add(wrapping_mul(sum, 31), probing(a, deals, i)),
-        _ => add(sum, preparing(curves, a, b, deals, x)),
+        b'1' => add(sum, preparing(curves, a, b, deals, x)),
+        b'2' => add(sum, starting(1, curves, a, deals, x)),
+        b'3' => add(sum, starting(2, curves, b, deals, x)),
+        b'4' => add(sum, running(curves, a, b, deals, x)),
+        b'5' => add(sum, preparing(sums, a, b, deals, x)),
+        b'6' => add(sum, starting(1, sums, a, deals, x)),
+        b'7' => add(sum, starting(2, sums, b, deals, x)),
+        _ => add(wrapping_mul(sum, 31), probing(a, deals, i)),
     }
 }
 
-// 64 times the same order.
-fn orders(kind: u32, target: u32, source: u32, fourth: u32) -> [u32; 256] {
+// 64 exact curves, of register 0 into itself.
+fn curve_orders() -> [u32; 256] {
     let mut job = [0u32; 256];
     let mut i = 0;
     while i < 64 {
-        job[4 * i] = kind;
-        job[4 * i + 1] = target;
-        job[4 * i + 2] = source;
-        job[4 * i + 3] = fourth;
+        job[4 * i] = 10;
         i += 1;
     }
     job
 }
 
-// The sum over n turns, on lists as long as any job needs.
-fn summed(w: u8, n: u32) -> u32 {
+// 64 additions and subtractions in turn, over all registers; at times the target is a source.
+fn sum_orders() -> [u32; 256] {
+    let mut job = [0u32; 256];
+    let mut i = 0;
+    while i < 64 {
+        let order = i as u32;
+        job[4 * i] = order % 2;
+        job[4 * i + 1] = (order + order / 8) % 16;
+        job[4 * i + 2] = order % 16;
+        job[4 * i + 3] = (14 * order + 2) % 16;
+        i += 1;
+    }
+    job
+}
+
+// The sum over n turns of a workload on the first orders of a job, on lists as long as any job needs.
+fn summed(w: u8, count: u32, n: u32) -> u32 {
     let mut a = [0u32; 30080];
     fill(&mut a, 2654435769, 1);
     let mut b = [0u32; 13824];
     fill(&mut b, 2246822519, 1);
     let mut deals = [0u32; 16256];
-    let one = [10, 0, 0, 0];
-    let adds = orders(0, 0, 0, 1);
-    let curves = orders(10, 1, 0, 0);
+    let words = (count % 65 * 4) as usize;
+    let all_curves = curve_orders();
+    let all_sums = sum_orders();
+    let curves = front(&all_curves, words);
+    let sums = front(&all_sums, words);
     let mut sum = 0;
     let mut i = 0;
     while i < n {
-        sum = once(w, &one, &adds, &curves, &a, &b, &mut deals, sum, i);
+        sum = once(w, curves, sums, &a, &b, &mut deals, sum, i);
         i += 1;
     }
     sum
@@ -199,8 +204,8 @@ fn main() {
     let mut bytes = io::buffer();
     let got = libc::read(0, &mut bytes);
     let n = io::count(got, &bytes);
-    if 0 < n {
-        let sum = summed(bytes[0], number(&bytes[1..n]));
+    if 5 <= n {
+        let sum = summed(bytes[0], number(&bytes[1..4]), number(&bytes[4..n]));
         io::print_decimal(1, sum as u64);
         io::write_all(1, b"\n");
     }

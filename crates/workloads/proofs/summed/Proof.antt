@@ -7,10 +7,10 @@ use Rattle.workloads.proofs.summed.Statement.{statement}
 use Rattle.workloads.proofs.summed.Tie as tie
 
 abbrev Inv-loop : tie.InvT-loop
-Inv-loop w n a b deals₀ one adds curves sum₀ i₀ deals sum i = length deals ≡ 16256
+Inv-loop w count n a b deals₀ words curves sums sum₀ i₀ deals sum i = length deals ≡ 16256
 
 abbrev μ-loop : tie.MeasureT-loop
-μ-loop w n a b deals₀ one adds curves sum₀ i₀ deals sum i = n - i
+μ-loop w count n a b deals₀ words curves sums sum₀ i₀ deals sum i = n - i
 
 slice-aggregate-fill : tie.Need-slice-aggregate-fill Inv-loop μ-loop
 slice-aggregate-fill c = search needs
@@ -24,11 +24,29 @@ slice-aggregate-fill-2 c = search needs
 fill-requires-2 : tie.Need-fill-requires-2 Inv-loop μ-loop
 fill-requires-2 c κs = search needs
 
-orders-requires : tie.Need-orders-requires Inv-loop μ-loop
-orders-requires c κs = search needs
+mul-words : tie.Need-mul-words Inv-loop μ-loop
+mul-words c = search needs
 
-orders-requires-2 : tie.Need-orders-requires-2 Inv-loop μ-loop
-orders-requires-2 c κs = search needs
+cast-words : tie.Need-cast-words Inv-loop μ-loop
+cast-words c = search needs
+
+curve-orders-requires : tie.Need-curve-orders-requires Inv-loop μ-loop
+curve-orders-requires c κs = search needs
+
+sum-orders-requires : tie.Need-sum-orders-requires Inv-loop μ-loop
+sum-orders-requires c κs = search needs
+
+slice-aggregate-front : tie.Need-slice-aggregate-front Inv-loop μ-loop
+slice-aggregate-front c = search needs
+
+front-requires : tie.Need-front-requires Inv-loop μ-loop
+front-requires c κs = search needs
+
+slice-aggregate-front-2 : tie.Need-slice-aggregate-front-2 Inv-loop μ-loop
+slice-aggregate-front-2 c = search needs
+
+front-requires-2 : tie.Need-front-requires-2 Inv-loop μ-loop
+front-requires-2 c κs = search needs
 
 loop-holds : tie.Need-loop-holds Inv-loop μ-loop
 loop-holds c = search needs
@@ -41,15 +59,6 @@ slice-aggregate-once-2 c = search needs
 
 slice-aggregate-once-3 : tie.Need-slice-aggregate-once-3 Inv-loop μ-loop
 slice-aggregate-once-3 c = search needs
-
-slice-aggregate-once-4 : tie.Need-slice-aggregate-once-4 Inv-loop μ-loop
-slice-aggregate-once-4 c = search needs
-
-slice-aggregate-once-5 : tie.Need-slice-aggregate-once-5 Inv-loop μ-loop
-slice-aggregate-once-5 c = search needs
-
-slice-aggregate-once-6 : tie.Need-slice-aggregate-once-6 Inv-loop μ-loop
-slice-aggregate-once-6 c = search needs
 
 once-requires : tie.Need-once-requires Inv-loop μ-loop
 once-requires c κs = search needs
@@ -76,15 +85,18 @@ summed-spec =
     fill-requires
     slice-aggregate-fill-2
     fill-requires-2
-    orders-requires
-    orders-requires-2
+    mul-words
+    cast-words
+    curve-orders-requires
+    sum-orders-requires
+    slice-aggregate-front
+    front-requires
+    slice-aggregate-front-2
+    front-requires-2
     loop-holds
     slice-aggregate-once
     slice-aggregate-once-2
     slice-aggregate-once-3
-    slice-aggregate-once-4
-    slice-aggregate-once-5
-    slice-aggregate-once-6
     once-requires
     add-i
     loop-less

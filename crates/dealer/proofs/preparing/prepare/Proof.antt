@@ -1,9 +1,11 @@
-use mathlib.Core.Path.{sym, ap, _∙_}
+use mathlib.Core.Path.{_≡_, sym, ap, _∙_}
 use native.Mathlib.Omega.{arith}
 use denote.Ref.{now}
+use lib.ListN.{length}
 use Rattle.gates.specs.Costs.{Cost}
 use Rattle.jobs.specs.Job.{Fault, job-cost}
 use Rattle.calls.specs.Scripts.{job-script}
+use Rattle.calls.proofs.Lists.{given-registers}
 use Rattle.calls.proofs.Faults.{no-fault-passed}
 use Rattle.walks.proofs.Prepared.{room-outset, refused, dealt-count, finished}
 use borrow.Author.Needs.{needs}
@@ -22,15 +24,33 @@ returns c =
     refused (job-script 32 (now (s .job)) (now (s .table))) (now (s .a)) (now (s .b)) (now (s .deals)) (s .masks .l1, s .masks .l2) _ _
     (c .before .before .check-dealer .ensures .0) (c .if1 .taken)
 
-fresh-requires : tie.Need-fresh-requires
-fresh-requires c κs = search needs
+-- the masks are of sixteen registers
+long : (c : tie.Start) → (length (c .args .masks .l1) ≡ 16) × (length (c .args .masks .l2) ≡ 16)
+long c = (search needs, search needs)
 
-fresh-requires-2 : tie.Need-fresh-requires-2
-fresh-requires-2 c κs = search needs
+slice-aggregate-copy-front : tie.Need-slice-aggregate-copy-front
+slice-aggregate-copy-front c = search needs
+
+slice-aggregate-copy-front-2 : tie.Need-slice-aggregate-copy-front-2
+slice-aggregate-copy-front-2 c = search needs
+
+copy-front-requires : tie.Need-copy-front-requires
+copy-front-requires c κs = search needs
+
+slice-aggregate-copy-front-3 : tie.Need-slice-aggregate-copy-front-3
+slice-aggregate-copy-front-3 c =
+    let f = c .before .before .before .before .before .before .before in
+    sym (long (f .before .before .before .before .before .before .before .before .before) .1)
+
+slice-aggregate-copy-front-4 : tie.Need-slice-aggregate-copy-front-4
+slice-aggregate-copy-front-4 c = search needs
+
+copy-front-requires-2 : tie.Need-copy-front-requires-2
+copy-front-requires-2 c κs = search needs
 
 deal-job-requires : tie.Need-deal-job-requires
 deal-job-requires c κs =
-    let f = c .before .before .before .before .before .before .before in
+    let f = c .before .before .before .before .before .before .before .before .before .before .before .before .before in
     let s = f .before .before .before .before .before .before .before .before .before .args in
     room-outset (job-script 32 (now (s .job)) (now (s .table))) (now (s .a)) (now (s .b)) (now (s .deals)) _ _
     (sym (ap (λ (f : Fault). f .0) (f .before .before .check-dealer .ensures .0)) ∙ f .if1 .left)
@@ -41,17 +61,21 @@ registers-requires c κs = search needs
 registers-requires-2 : tie.Need-registers-requires-2
 registers-requires-2 c κs = search needs
 
-cast-t23 : tie.Need-cast-t23
+cast-t32 : tie.Need-cast-t32
 unfolding job-cost
-cast-t23 c =
+cast-t32 c =
     let d = c .before .before .before .before .before in
-    let f = d .before .before .before .before .before .before .before .before in
-    let s = f .before .before .before .before .before .before .before .before .before .args in
+    let y = d .before .before .before .before .before in
+    let x = y .before .before .before .before in
+    let f = x .before .before .before .before .before in
+    let e₀ = f .before .before .before .before .before .before .before .before .before in
+    let s = e₀ .args in
     let k = f .before .before .check-dealer in
     let e = sym (ap (λ (f : Fault). f .0) (k .ensures .0)) ∙ f .if1 .left in
     let n =
     dealt-count (job-script 32 (now (s .job)) (now (s .table))) (now (s .a)) (now (s .b)) (now (s .deals)) (s .masks .l1, s .masks .l2)
-    _ _ _ e (d .before .before .before .before .before .fresh .ensures) (d .before .before .before .before .fresh2 .ensures)
+    _ _ _ e (x .copy-front .ensures ∙ given-registers (s .masks .l1) (long e₀ .0))
+    (y .copy-front2 .ensures ∙ given-registers (s .masks .l2) (long e₀ .1))
     (d .deal-job .ensures) in
     omega (arith, n, ap (λ (n : Cost). n .deals) (k .ensures .1 ∙ no-fault-passed _ _ (f .if1 .left)), k .ok)
 
@@ -61,11 +85,15 @@ same-length-2 c = search needs
 returns-2 : tie.Need-returns-2
 returns-2 c =
     let d = c .before .before .before .before .before in
-    let f = d .before .before .before .before .before .before .before .before in
-    let s = f .before .before .before .before .before .before .before .before .before .args in
+    let y = d .before .before .before .before .before in
+    let x = y .before .before .before .before in
+    let f = x .before .before .before .before .before in
+    let e₀ = f .before .before .before .before .before .before .before .before .before in
+    let s = e₀ .args in
     let e = sym (ap (λ (f : Fault). f .0) (f .before .before .check-dealer .ensures .0)) ∙ f .if1 .left in
     finished (job-script 32 (now (s .job)) (now (s .table))) (now (s .a)) (now (s .b)) (now (s .deals)) (s .masks .l1, s .masks .l2)
-    _ _ _ e (d .before .before .before .before .before .fresh .ensures) (d .before .before .before .before .fresh2 .ensures)
+    _ _ _ e (x .copy-front .ensures ∙ given-registers (s .masks .l1) (long e₀ .0))
+    (y .copy-front2 .ensures ∙ given-registers (s .masks .l2) (long e₀ .1))
     (d .deal-job .ensures)
     _ _ (c .before .before .registers .ensures) (c .before .registers2 .ensures)
 
@@ -76,11 +104,15 @@ prepare-spec =
     check-dealer-requires
     same-length
     returns
-    fresh-requires
-    fresh-requires-2
+    slice-aggregate-copy-front
+    slice-aggregate-copy-front-2
+    copy-front-requires
+    slice-aggregate-copy-front-3
+    slice-aggregate-copy-front-4
+    copy-front-requires-2
     deal-job-requires
     registers-requires
     registers-requires-2
-    cast-t23
+    cast-t32
     same-length-2
     returns-2)

@@ -8,9 +8,11 @@ use Rattle.tables.specs.Table.{rows}
 use Rattle.jobs.specs.Job.{job-gates}
 use Rattle.walks.specs.Workers.{cursor}
 use Rattle.walks.specs.Halts.{steps-from, reported}
-use Rattle.walks.proofs.Programs.{finished}
+use Rattle.walks.proofs.Programs.{finished, at-once}
+use Rattle.job_add.proofs.Here.{here}
 use Rattle.program_fetch.proofs.Stands.{piece-stands}
 use Rattle.program_fetch.proofs.PieceSteps.{still-within}
+use Rattle.jobs.proofs.Additions.{additive-steps}
 use Rattle.jobs.proofs.Indices.{order-there, gates-over}
 use Rattle.worker.proofs.Jobs.{short-order}
 use Rattle.worker.proofs.Pieces.{few-used, at-exchange, next-piece, next-order}
@@ -41,18 +43,60 @@ loop-holds c =
 order-at-requires : tie.Need-order-at-requires Inv-loop μ-loop
 order-at-requires c κs = search needs
 
-piece-at-requires : tie.Need-piece-at-requires Inv-loop μ-loop
-piece-at-requires c κs = search needs
-
 -- the order's place in the job
 in-job : (c : tie.In-loop Inv-loop μ-loop)
     → c .before .loop .order < length (now (c .before .before .before .before .before .before .args .job)) / 4
 in-job c = omega (arith, c .loop-test .taken, c .before .loop .inv .0)
 
+-- ---- an addition or subtraction
+
+adds-here-requires : tie.Need-adds-here-requires Inv-loop μ-loop
+adds-here-requires c κs = search needs
+
+add-in-place-requires : tie.Need-add-in-place-requires Inv-loop μ-loop
+add-in-place-requires c κs = search needs
+
+add-order : tie.Need-add-order Inv-loop μ-loop
+add-order c = omega arith
+
+loop-less : tie.Need-loop-less Inv-loop μ-loop
+loop-less c =
+    let k = c .before .before .before .before .before .before in
+    omega (arith, k .loop-test .taken)
+
+loop-again : tie.Need-loop-again Inv-loop μ-loop
+loop-again c =
+    let t = c .before .before .before in
+    let q = t .before .before in
+    let k = q .before in
+    let l = k .before .loop in
+    let s = k .before .before .before .before .before .before in
+    let a = s .args in
+    let J = now (a .job) in
+    let T = now (a .table) in
+    let h = in-job k in
+    let first = here _ _ (sym (t .if1 .taken) ∙ t .before .adds-here .ensures) in
+    let next =
+    at-once 32 (a .host) (now (a .masks)) (now (a .deals)) (job-gates 32 J T) (l .order) (l .turn) (l .at .gate) (l .at .a) (a .b)
+    (l .at .deals) (l .m, l .mask) _ (order-there 32 J T (l .order) h _ (q .order-at .ensures)) (first .0) _ _
+    (additive-steps 32 (rows T) _ (first .1)) _ _ (c .add-in-place .ensures .0) (c .add-in-place .ensures .1) in (
+      l .inv .0,
+      l .inv .1,
+      omega (arith, h, s .pre .0 .few-words),
+      omega (arith, l .inv .3),
+      omega (arith, l .inv .4),
+      sym next ∙ l .inv .5,
+    )
+
+-- ---- a piece of any other
+
+piece-at-requires : tie.Need-piece-at-requires Inv-loop μ-loop
+piece-at-requires c κs = search needs
+
 walk-piece-requires : tie.Need-walk-piece-requires Inv-loop μ-loop
 walk-piece-requires c κs =
     let d = c .before .before in
-    let k = d .before .before in
+    let k = d .before .before .before .before in
     let l = k .before .loop .inv in
     let p = k .before .before .before .before .before .before .pre in
     let S = piece-stands (d .piece-at .ensures) in
@@ -64,17 +108,17 @@ say-requires c κs = search needs
 
 cast-halted : tie.Need-cast-halted Inv-loop μ-loop
 cast-halted c =
-    let l = c .before .before .before .before .before .before .before .before .before .before .before .before .before in
+    let l = c .before .before .before .before .before .before .before .before .before .before .before .before .before .before .before in
     omega (arith, l .before .before .before .before .before .pre .4)
 
 add-halted : tie.Need-add-halted Inv-loop μ-loop
 add-halted c =
-    let l = c .before .before .before .before .before .before .before .before .before .before .before .before .before in
+    let l = c .before .before .before .before .before .before .before .before .before .before .before .before .before .before .before in
     omega (arith, l .before .before .before .before .before .pre .4)
 
 cast-halted-2 : tie.Need-cast-halted-2 Inv-loop μ-loop
 cast-halted-2 c =
-    let l = c .before .before .before .before .before .before .before .before .before .before .before .before .before in
+    let l = c .before .before .before .before .before .before .before .before .before .before .before .before .before .before .before in
     omega (arith, l .loop .inv .2)
 
 halted-requires : tie.Need-halted-requires Inv-loop μ-loop
@@ -86,54 +130,54 @@ returns c =
     let t = y .before .before .before in
     let q = t .before .before .before .before in
     let d = q .before .before .before in
-    let k = d .before .before in
+    let k = d .before .before .before .before in
     let l = k .before .loop in
     let a = k .before .before .before .before .before .before .args in
     let J = now (a .job) in
     let T = now (a .table) in
-    let there = order-there 32 J T (l .order) (in-job k) _ (d .before .order-at .ensures) in
+    let there = order-there 32 J T (l .order) (in-job k) _ (d .before .before .before .order-at .ensures) in
     let r = q .walk-piece .ensures in
     c .halted .ensures _ _
     ∙ sym (at-exchange 32 (rows T) _ (l .at .gate) _ (piece-stands (d .piece-at .ensures)) (a .host) (now (a .masks)) (now (a .deals))
     (job-gates 32 J T) (l .order) (l .turn) (l .at .a) (a .b) (l .at .deals) (l .m, l .mask) there _ _ _ _ _ (r .0) _ (r .1) (r .2)
-    (t .if1 .taken) _ (y .say .ensures))
+    (t .if2 .taken) _ (y .say .ensures))
     ∙ l .inv .5
 
-add-order : tie.Need-add-order Inv-loop μ-loop
-add-order c = omega arith
+add-order-2 : tie.Need-add-order-2 Inv-loop μ-loop
+add-order-2 c = omega arith
 
 sub-gate : tie.Need-sub-gate Inv-loop μ-loop
 sub-gate c =
     let d = c .before .before .before .before .before .before .before .before .before in
-    omega (arith, piece-stands (d .piece-at .ensures) .some (c .before .if2 .left))
+    omega (arith, piece-stands (d .piece-at .ensures) .some (c .before .if3 .left))
 
 -- the gate behind a piece that is not the last, in its order
 more-gates : (c : tie.After-struct-known3 Inv-loop μ-loop)
     → let d = c .before .before .before .before .before .before .before .before .before .before in
     let p = d .piece-at .result in
-    (p .from < p .end) × (d .before .before .before .loop .at .gate + (p .end - p .from) ≤ 1000)
+    (p .from < p .end) × (d .before .before .before .before .before .loop .at .gate + (p .end - p .from) ≤ 1000)
 more-gates c =
     let e = c .before .before in
     let d = e .before .before .before .before .before .before .before .before in
-    let k = d .before .before in
+    let k = d .before .before .before .before in
     let s = k .before .before .before .before .before .before in
     let a = s .args in
     let S = piece-stands (d .piece-at .ensures) in
     let l = k .before .loop in
-    let short = short-order 32 (now (a .job)) (now (a .table)) (s .pre .0) (l .order) (in-job k) _ (d .before .order-at .ensures) in
-    (S .some (e .if2 .left), omega (arith, still-within 32 _ _ (l .at .gate) _ S (e .if2 .left), short))
+    let short = short-order 32 (now (a .job)) (now (a .table)) (s .pre .0) (l .order) (in-job k) _ (d .before .before .before .order-at .ensures) in
+    (S .some (e .if3 .left), omega (arith, still-within 32 _ _ (l .at .gate) _ S (e .if3 .left), short))
 
 add-gate : tie.Need-add-gate Inv-loop μ-loop
 add-gate c = omega (arith, more-gates c .1)
 
-loop-less : tie.Need-loop-less Inv-loop μ-loop
-loop-less c = omega arith
+loop-less-2 : tie.Need-loop-less-2 Inv-loop μ-loop
+loop-less-2 c = omega arith
 
-loop-again : tie.Need-loop-again Inv-loop μ-loop
-loop-again c =
+loop-again-2 : tie.Need-loop-again-2 Inv-loop μ-loop
+loop-again-2 c =
     let q = c .before .before .before .before .before in
     let d = q .before .before .before in
-    let k = d .before .before in
+    let k = d .before .before .before .before in
     let l = k .before .loop in
     let s = k .before .before .before .before .before .before in
     let a = s .args in
@@ -143,12 +187,12 @@ loop-again c =
     let D = now (a .deals) in
     let S = piece-stands (d .piece-at .ensures) in
     let h = in-job k in
-    let there = order-there 32 J T (l .order) h _ (d .before .order-at .ensures) in
+    let there = order-there 32 J T (l .order) h _ (d .before .before .before .order-at .ensures) in
     let r = q .walk-piece .ensures in
     let f = few-used 32 (rows T) _ (l .at .gate) _ S _ _ _ _ _ _ _ _ (r .0) in
     let next =
     next-order 32 (rows T) _ (l .at .gate) _ S (a .host) M D (job-gates 32 J T) (l .order) (l .turn) (l .at .a) (a .b) (l .at .deals)
-    (l .m, l .mask) there _ _ _ _ _ (r .0) _ (r .1) (c .before .if1 .left) (c .if2 .taken) in (
+    (l .m, l .mask) there _ _ _ _ _ (r .0) _ (r .1) (c .before .if2 .left) (c .if3 .taken) in (
       l .inv .0,
       omega arith,
       omega (arith, h, s .pre .0 .few-words),
@@ -157,15 +201,15 @@ loop-again c =
       sym next ∙ l .inv .5,
     )
 
-loop-less-2 : tie.Need-loop-less-2 Inv-loop μ-loop
-loop-less-2 c = omega (arith, more-gates c)
+loop-less-3 : tie.Need-loop-less-3 Inv-loop μ-loop
+loop-less-3 c = omega (arith, more-gates c)
 
-loop-again-2 : tie.Need-loop-again-2 Inv-loop μ-loop
-loop-again-2 c =
+loop-again-3 : tie.Need-loop-again-3 Inv-loop μ-loop
+loop-again-3 c =
     let e = c .before .before in
     let q = e .before .before .before .before .before in
     let d = q .before .before .before in
-    let k = d .before .before in
+    let k = d .before .before .before .before in
     let l = k .before .loop in
     let s = k .before .before .before .before .before .before in
     let a = s .args in
@@ -174,12 +218,12 @@ loop-again-2 c =
     let M = now (a .masks) in
     let D = now (a .deals) in
     let S = piece-stands (d .piece-at .ensures) in
-    let there = order-there 32 J T (l .order) (in-job k) _ (d .before .order-at .ensures) in
+    let there = order-there 32 J T (l .order) (in-job k) _ (d .before .before .before .order-at .ensures) in
     let r = q .walk-piece .ensures in
     let f = few-used 32 (rows T) _ (l .at .gate) _ S _ _ _ _ _ _ _ _ (r .0) in
     let next =
     next-piece 32 (rows T) _ (l .at .gate) _ S (a .host) M D (job-gates 32 J T) (l .order) (l .turn) (l .at .a) (a .b) (l .at .deals)
-    (l .m, l .mask) there _ _ _ _ _ (r .0) _ (r .1) (e .before .if1 .left) (e .if2 .left) in (
+    (l .m, l .mask) there _ _ _ _ _ (r .0) _ (r .1) (e .before .if2 .left) (e .if3 .left) in (
       l .inv .0,
       more-gates c .1,
       l .inv .2,
@@ -218,6 +262,11 @@ advance-spec =
     μ-loop
     loop-holds
     order-at-requires
+    adds-here-requires
+    add-in-place-requires
+    add-order
+    loop-less
+    loop-again
     piece-at-requires
     walk-piece-requires
     say-requires
@@ -226,13 +275,13 @@ advance-spec =
     cast-halted-2
     halted-requires
     returns
-    add-order
+    add-order-2
     sub-gate
     add-gate
-    loop-less
-    loop-again
     loop-less-2
     loop-again-2
+    loop-less-3
+    loop-again-3
     cast-halted-3
     cast-halted-4
     halted-requires-2

@@ -1,0 +1,161 @@
+-- R-2: "Addition and subtraction .. should write only the target and copy no other register. .. A proof says that every
+-- other register keeps its share on each host, also where the target is a source." Of what the calls return, for every
+-- job, list and state. Assumes nothing.
+use mathlib.Core.Path.{_≡_}
+use mathlib.Core.Logic.{_≢_}
+use mathlib.Core.List.{List, [], _∷_, _++_}
+use Prim.Native.Nat.{ℕ, suc, _≤_, _<_}
+use lib.ListN.{length, take}
+use Rattle.gates.specs.Steps.{at}
+use Rattle.gates.specs.Hosts.{Pair}
+use Rattle.programs.specs.declared.Order.{Order}
+use Rattle.jobs.specs.Job.{orders}
+use Rattle.jobs.specs.FirstFault.{order}
+use Rattle.jobs.specs.Additions.{Additive, added-word, added, added2, added-all}
+use Rattle.calls.specs.Scripts.{job-script}
+use Rattle.calls.specs.Lent.{lent}
+use Rattle.calls.specs.Calls.{State, Answer, Prepared, fresh2, prepare, start, hear}
+use Rattle.runs.specs.Runs.{Setting, staged, Spoken, Dealer, Side, going, world, Call, Run}
+use Rattle.runs.specs.Readings.{UntargetedBetween}
+
+-- a job of such orders alone
+abbrev pub AllAdditive : (job : List ℕ) → Type 0
+AllAdditive job = (q : ℕ) → q < length (orders job) → Additive (order (orders job) q)
+
+-- slot i is no order's target
+abbrev pub NoTarget : (job : List ℕ) (i : ℕ) → Type 0
+NoTarget job i = (q : ℕ) → q < length (orders job) → i ≢ order (orders job) q .target
+
+-- slot i holds in t the very words that it held in s, on both lanes of a host
+abbrev pub Keeps : (s t : Pair) (i : ℕ) → Type 0
+Keeps s t i = (at (t .0) i ≡ at (s .0) i) × (at (t .1) i ≡ at (s .1) i)
+
+-- the lanes of a state: sixteen registers, and the kept words behind them
+abbrev pub lanes : State → Pair
+lanes s = (s .m, s .mask)
+
+-- the job with one more order at its end
+abbrev pub with-order : (job : List ℕ) → Order → List ℕ
+with-order job o = job ++ (o .kind ∷ o .target ∷ o .source ∷ o .fourth ∷ [])
+
+-- an answer, and a preparation, with the addition or subtraction o done too
+abbrev pub and-then : (w : ℕ) → Order → Answer → Answer
+and-then w o r =
+    record {
+      number = r .number;
+      index = r .index;
+      spoken = r .spoken;
+      word = r .word;
+      state =
+          record {
+            m = added w o (r .state .m);
+            mask = added w o (r .state .mask);
+            order = suc (r .state .order);
+            turn = 0;
+          };
+    }
+
+abbrev pub and-prepared : (w : ℕ) → Order → Prepared → Prepared
+and-prepared w o p =
+    record {
+      number = p .number;
+      index = p .index;
+      deals = p .deals;
+      masks = added2 w o (p .masks);
+      buffer = p .buffer;
+    }
+
+-- r is the answer on a job of n orders, r′ the answer with o behind them: the same where the call stops before the
+-- end, and at the end with o done too
+pub record Further (w : ℕ) (o : Order) (n : ℕ) (r r′ : Answer) : Type 0 where
+  pub within : r .state .order ≤ n
+  pub before : r .state .order < n → r′ ≡ r
+  pub at-end : r .state .order ≡ n → r′ ≡ and-then w o r
+
+pub record Additions (w : ℕ) : Type 0 where
+  -- ---- one order, behind a job of whatever orders
+
+  -- A call on the job with that order at its end answers what it answers on the job without; where it comes to that
+  -- job's end, with the order done: of all registers and kept words the target's alone is another, the sum or
+  -- difference of what its sources held, also where the target is one of them.
+  pub preparing : (job table A B buf : List ℕ) (r : Pair) (o : Order) → Additive o
+      → prepare (job-script w job table) A B buf r .number ≡ 0
+      → prepare (job-script w (with-order job o) table) A B buf r .number ≡ 0
+      → prepare (job-script w (with-order job o) table) A B buf r
+      ≡ and-prepared w o (prepare (job-script w job table) A B buf r)
+  pub starting : (h : ℕ) (job table M D : List ℕ) (r : Pair) (o : Order) → Additive o
+      → start (lent h (job-script w job table) M D) r .number ≡ 0
+      → start (lent h (job-script w (with-order job o) table) M D) r .number ≡ 0
+      → Further w o (length (orders job)) (start (lent h (job-script w job table) M D) r)
+      (start (lent h (job-script w (with-order job o) table) M D) r)
+  pub hearing : (h : ℕ) (job table M D : List ℕ) (s : State) (v : ℕ) (o : Order) → Additive o
+      → hear (lent h (job-script w job table) M D) s v .number ≡ 0
+      → hear (lent h (job-script w (with-order job o) table) M D) s v .number ≡ 0
+      → Further w o (length (orders job)) (hear (lent h (job-script w job table) M D) s v)
+      (hear (lent h (job-script w (with-order job o) table) M D) s v)
+  -- what that says slot by slot: every slot but the target
+  pub others : (o : Order) (s : Pair) (i : ℕ) → i ≢ o .target → Keeps s (added2 w o s) i
+  -- and the target
+  pub target : (o : Order) (s : Pair) → o .target < length (s .0) → o .target < length (s .1)
+      → (at (added2 w o s .0) (o .target) ≡ added-word w o (s .0))
+      × (at (added2 w o s .1) (o .target) ≡ added-word w o (s .1))
+  -- ---- a job of such orders, against what the host was given
+
+  pub prepared : (job table A B buf : List ℕ) (r : Pair) → AllAdditive job
+      → prepare (job-script w job table) A B buf r .number ≡ 0
+      → prepare (job-script w job table) A B buf r
+      ≡ record {
+        number = 0;
+        index = 0;
+        deals = 0;
+        masks = (take 16 (added-all w (orders job) (fresh2 r) .0), take 16 (added-all w (orders job) (fresh2 r) .1));
+        buffer = buf;
+      }
+  -- it ends at once: no word is spoken
+  pub started : (h : ℕ) (job table M D : List ℕ) (r : Pair) → AllAdditive job
+      → start (lent h (job-script w job table) M D) r .number ≡ 0
+      → start (lent h (job-script w job table) M D) r
+      ≡ record {
+        number = 0;
+        index = 0;
+        spoken = 0;
+        word = 0;
+        state =
+            record {
+              m = added-all w (orders job) (fresh2 r) .0;
+              mask = added-all w (orders job) (fresh2 r) .1;
+              order = length (orders job);
+              turn = 0;
+            };
+      }
+  -- "every other register keeps its share on each host": host 0's two masks, and m and the mask of host 1 or 2
+  pub masks-kept : (job table A B buf : List ℕ) (r : Pair) → AllAdditive job
+      → prepare (job-script w job table) A B buf r .number ≡ 0
+      → (i : ℕ) → i < 16 → NoTarget job i
+      → Keeps r (prepare (job-script w job table) A B buf r .masks) i
+  pub registers-kept : (h : ℕ) (job table M D : List ℕ) (r : Pair) → AllAdditive job
+      → start (lent h (job-script w job table) M D) r .number ≡ 0
+      → (i : ℕ) → i < 16 → NoTarget job i
+      → Keeps r (lanes (start (lent h (job-script w job table) M D) r .state)) i
+  -- and every kept word stays the 0 that it was: no order's target lies behind the registers
+  pub kept-words : (h : ℕ) (job table M D : List ℕ) (r : Pair) → AllAdditive job
+      → start (lent h (job-script w job table) M D) r .number ≡ 0
+      → length (r .0) ≡ 16 → length (r .1) ≡ 16 → (i : ℕ) → 16 ≤ i
+      → (at (start (lent h (job-script w job table) M D) r .state .m) i ≡ 0)
+      × (at (start (lent h (job-script w job table) M D) r .state .mask) i ≡ 0)
+  -- ---- anywhere in the runs of a job of whatever orders
+
+  -- from one state that a call returned to another, not behind it: a register that no order from where the one stands
+  -- up to where the other stands has as its target, the order where the other stands not among them
+  pub between1 : (S : Setting) (cs cs′ : List Call) (z z′ : Dealer) (buf buf′ : List ℕ) (s s′ : State)
+      (t t′ : List Pair) (said said′ : List Spoken) (two two′ : Side)
+      → Run (staged w S) cs (world z buf (going s t said) two)
+      → Run (staged w S) cs′ (world z′ buf′ (going s′ t′ said′) two′)
+      → s .order ≤ s′ .order → (i : ℕ) → i < 16 → UntargetedBetween S (s .order) (s′ .order) i
+      → Keeps (lanes s) (lanes s′) i
+  pub between2 : (S : Setting) (cs cs′ : List Call) (z z′ : Dealer) (buf buf′ : List ℕ) (one one′ : Side)
+      (s s′ : State) (t t′ : List Pair) (said said′ : List Spoken)
+      → Run (staged w S) cs (world z buf one (going s t said))
+      → Run (staged w S) cs′ (world z′ buf′ one′ (going s′ t′ said′))
+      → s .order ≤ s′ .order → (i : ℕ) → i < 16 → UntargetedBetween S (s .order) (s′ .order) i
+      → Keeps (lanes s) (lanes s′) i
