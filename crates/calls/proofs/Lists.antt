@@ -6,7 +6,6 @@ use native.Mathlib.Omega.{arith}
 use borrow.Author.Tests.{le-ltb}
 use lib.ListN.{length, take, replicate}
 use lib.Seq.{take-all}
-use Rattle.words.proofs.Copying.{copied}
 use Rattle.word_lists.specs.Copied.{front-copied}
 use Rattle.gates.specs.Steps.{Lane, at}
 use Rattle.calls.specs.Calls.{fresh}
@@ -15,8 +14,9 @@ pub given-registers : (s : Lane) → length s ≡ 16 → front-copied s (replica
 unfolding front-copied fresh
 given-registers s e = rw (le-ltb (length s) 16 (omega (arith, e)), take-all 16 s (omega (arith, e)))
 
-pub copied-front : (s : List ℕ) (i : ℕ) → i ≡ 16 → copied (replicate 16 0) s i ≡ take 16 s
-copied-front s i e = rw (e, append-nil)
+pub taken-registers : (s : Lane) → length s ≡ 24 → front-copied s (replicate 16 0) 16 ≡ take 16 s
+unfolding front-copied
+taken-registers s e = rw (le-ltb (length s) 16 (omega (arith, e)), append-nil)
 
 -- the slots behind what is given hold the 0 that a lane has past its end
 zeros : (n i : ℕ) → at (replicate n 0) i ≡ 0

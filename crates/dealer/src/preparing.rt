@@ -33,11 +33,7 @@ fn registers(lane: [u32; 24]) -> [u32; 16]
     ensures { λ r. ⌜ r ≡ take 16 lane ⌝ }
 {
     let mut kept = [0u32; 16];
-    let mut i = 0;
-    while i < 16 {
-        kept[i] = lane[i];
-        i += 1;
-    }
+    copy_front(&lane, &mut kept, 16);
     kept
 }
 

@@ -1,7 +1,7 @@
 -- The walks of the hosts over additions and subtractions: no word is spoken and none dealt. Assumes nothing.
 use mathlib.Core.Path.{_≡_, refl, ap, _∙_}
 use mathlib.Core.List.{List, [], _∷_, _++_, map, map-append}
-use Prim.Native.Nat.{ℕ, suc, _+_, _%_, _<_}
+use Prim.Native.Nat.{ℕ, suc, _+_, _%_}
 use native.Mathlib.Omega.{arith}
 use lib.ListN.{length}
 use Rattle.tables.specs.Table.{Row, rows}
@@ -12,7 +12,6 @@ use Rattle.gates.specs.Hosts.{Pair, act0, dealt, deals}
 use Rattle.programs.specs.declared.Order.{Order}
 use Rattle.programs.specs.Orders.{program}
 use Rattle.jobs.specs.Job.{orders, job-gates, steps-of}
-use Rattle.jobs.specs.FirstFault.{order}
 use Rattle.jobs.specs.Additions.{Additive, added-word, added-all}
 use Rattle.jobs.proofs.Additions.{additive-steps, orders-append}
 use Rattle.calls.specs.Lent.{worker-with}
@@ -20,6 +19,7 @@ use Rattle.calls.specs.Calls.{word-at, spoken-at}
 use Rattle.walks.specs.Halts.{going-on, reported}
 use Rattle.walks.proofs.Gates.{programs-append}
 use Rattle.walks.proofs.Alike.{written, passes-each}
+use Rattle.demands.specs.Additions.{AllAdditive}
 
 -- such an order's steps
 abbrev pub adding : (w : ℕ) → Order → List Step → List Step
@@ -37,15 +37,12 @@ steps-with w job table o h e =
 
 -- ---- a list of such orders
 
-abbrev Adds : List Order → Type 0
-Adds os = (q : ℕ) → q < length os → Additive (order os q)
-
 module _ (w : ℕ) (ps : List Row) where
   abbrev steps : List Order → List Step
   steps os = job-steps w (map (program w ps) os)
 
   -- hosts 1 and 2 come to the end
-  pub worker-adds : (h : ℕ) (M D : List ℕ) (os : List Order) → Adds os → (c : Cursor) (s : Pair)
+  pub worker-adds : (h : ℕ) (M D : List ℕ) (os : List Order) → AllAdditive os → (c : Cursor) (s : Pair)
       → c .turn ≡ 0
       → reported (worker-with h M D) (steps os) c s
       ≡ going-on (c .b) 0 (added-all w os s .0) (added-all w os s .1) (length os + c .order) 0
@@ -58,7 +55,7 @@ module _ (w : ℕ) (ps : List Row) where
       ∙ ap (λ (n : ℕ). going-on (c .b) 0 (added-all w (o ∷ os) s .0) (added-all w (o ∷ os) s .1) n 0) (omega arith)
 
   -- and host 0 deals nothing
-  pub dealer-adds : (A B : List ℕ) (os : List Order) → Adds os → (c : Cursor) (s : Pair) (t : List Pair)
+  pub dealer-adds : (A B : List ℕ) (os : List Order) → AllAdditive os → (c : Cursor) (s : Pair) (t : List Pair)
       → (whole (act0 A B) (steps os) c s t .state ≡ added-all w os s)
       × (deals A B (steps os) c s ≡ [])
   unfolding job-steps added-all whole deals dealt act0

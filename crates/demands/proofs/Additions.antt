@@ -1,6 +1,6 @@
 -- Additions and subtractions write their target alone, on each host, of what the calls return. Assumes nothing.
 use mathlib.Core.Path.{_≡_, refl, sym, ap, _∙_, subst}
-use mathlib.Core.List.{List, [], _∷_, _++_, append-nil}
+use mathlib.Core.List.{List, [], _∷_, _++_, append-nil, append-assoc}
 use Prim.Native.Nat.{ℕ, suc, _+_, _≤_, _<_}
 use native.Mathlib.Nat.{add-zero}
 use native.Mathlib.Omega.{arith}
@@ -8,7 +8,7 @@ use lib.ListN.{length, take, drop, length-append, List·getD-eq-default}
 use lib.Seq.{getD-take, getD-append-seam}
 use Rattle.tables.specs.Table.{rows, keeps-rules}
 use Rattle.gates.specs.Steps.{Lane, at, Step, local, deal, exchange, end, Cursor, origin, past}
-use Rattle.gates.specs.Walk.{Conf, walk, whole}
+use Rattle.gates.specs.Walk.{Conf, walk, whole, far}
 use Rattle.gates.specs.Hosts.{Pair, act0, dealt, deals}
 use Rattle.gates.proofs.Needs.{whole-append}
 use Rattle.programs.specs.declared.Order.{Order}
@@ -18,26 +18,26 @@ use Rattle.jobs.specs.Additions.{Additive, added-word, added, added2, added-all
 use Rattle.jobs.proofs.Accepted.{Good, accepted-orders}
 use Rattle.jobs.proofs.Additions.{others-kept, target-written, untargeted-kept, registers-added, orders-append, in-fours}
 use Rattle.calls.specs.Scripts.{Script, job-script, ends, Closed}
-use Rattle.calls.specs.Places.{Found, seek}
 use Rattle.calls.specs.Lent.{Worker, worker-with, lent}
-use Rattle.calls.specs.Calls.{State, Answer, Prepared, fresh2, word-at, spoken-at, report, start-walk, start, hear-walk, place-fault}
-use Rattle.calls.specs.Calls.{found-of, resume, hear, script-deals, prepare-walk, prepare}
+use Rattle.calls.specs.Calls.{State, Answer, Prepared, fresh2, word-at, spoken-at, report, start-walk, start, hear}
+use Rattle.calls.specs.Calls.{script-deals, prepare-walk, prepare}
 use Rattle.calls.proofs.Faults.{no-fault, no-dealer-fault}
 use Rattle.calls.proofs.Lists.{fresh-at}
 use Rattle.walks.specs.Halts.{going-on, reported}
 use Rattle.walks.proofs.Alike.{acts-each}
 use Rattle.walks.proofs.Preparing.{deals-append}
-use Rattle.walks.proofs.Resuming.{Resumes, resumes}
 use Rattle.runs.proofs.Chain.{job-orders, job-closed}
-use Rattle.runs.proofs.Refusals.{unless-none, start-none, hear-none}
+use Rattle.runs.proofs.Refusals.{start-none, hear-none}
+use Rattle.demands.specs.Completed.{Located}
 use Rattle.demands.specs.Additions.{AllAdditive, NoTarget, Keeps, lanes, with-order, and-prepared, Further, Additions}
-use Rattle.demands.proofs.Completed.{prepare-none, resumed}
+use Rattle.demands.proofs.Completed.{prepare-none, heard, standing-at}
+use Rattle.demands.proofs.Passed.{masks-kept, registers-kept, state-kept}
 use Rattle.demands.proofs.Between.{between1, between2}
 use Rattle.demands.proofs.Adding.{adding, steps-with, worker-adds, dealer-adds}
 
 -- ---- a job of such orders
 
-module _ (w : ℕ) (job table : List ℕ) (all : AllAdditive job) where
+module _ (w : ℕ) (job table : List ℕ) (all : AllAdditive (orders job)) where
   abbrev σ : Script
   σ = job-script w job table
 
@@ -66,13 +66,6 @@ module _ (w : ℕ) (job table : List ℕ) (all : AllAdditive job) where
           masks = (take 16 (p .0 i .0), take 16 (p .0 i .1));
           buffer = p .1 i ++ drop (length (p .1 i)) buf;
         }
-
-    preparation-kept : (i : ℕ) → i < 16 → NoTarget job i → Keeps r (prepare σ A B buf r .masks) i
-    preparation-kept i h u =
-        let k = left-kept r i u in (
-          ap (λ (p : Prepared). at (p .masks .0) i) preparation ∙ getD-take 16 (left r .0) i 0 h ∙ k .0,
-          ap (λ (p : Prepared). at (p .masks .1) i) preparation ∙ getD-take 16 (left r .1) i 0 h ∙ k .1,
-        )
 
   module _ (h : ℕ) (M D : List ℕ) (r : Pair) (z : start (lent h σ M D) r .number ≡ 0) where
     at-start : start (lent h σ M D) r ≡ going-on 0 0 (left r .0) (left r .1) (length (orders job)) 0
@@ -106,11 +99,24 @@ module _ (w : ℕ) (job table : List ℕ) (all : AllAdditive job) where
 
 -- ---- one such order behind a job: the walk of host 1 or 2
 
+-- the steps behind others: each stands in an order, and those that end there are the rest
+closed-behind : (pre ss : List Step) → Closed (pre ++ ss) → Closed ss
+closed-behind [] ss c = c
+closed-behind (x ∷ pre) ss c = closed-behind pre ss (c .1)
+
+ends-behind : (pre ss : List Step) (c : Cursor) → ends ss + far pre c .order ≡ ends (pre ++ ss) + c .order
+unfolding ends far past
+ends-behind [] ss c = refl
+ends-behind (local d m l ∷ pre) ss c = ends-behind pre ss (past (local d m l) c)
+ends-behind (deal d f ∷ pre) ss c = ends-behind pre ss (past (deal d f) c)
+ends-behind (exchange d e ∷ pre) ss c = ends-behind pre ss (past (exchange d e) c)
+ends-behind (end ∷ pre) ss c = omega (arith, ends-behind pre ss (past end c))
+
 moved : {w n : ℕ} {o : Order} {r r′ q q′ : Answer} → r ≡ q → r′ ≡ q′ → Further w o n q q′ → Further w o n r r′
 moved {w} {n} {o} {r} {r′} {q} {q′} e e′ f =
     subst (λ (x : Answer). Further w o n x r′) (sym e) (subst (λ (x : Answer). Further w o n q x) (sym e′) f)
 
-module _ (w h : ℕ) (M D : List ℕ) (o : Order) where
+module _ (w h : ℕ) (M D : List ℕ) (o : Order) (reg : o .target < 16) where
   abbrev P : Worker
   P = worker-with h M D
 
@@ -119,6 +125,7 @@ module _ (w h : ℕ) (M D : List ℕ) (o : Order) where
   unfolding walk past ends word-at spoken-at
   further [] c s t n cl e =
       record {
+        register = reg;
         within = omega arith;
         before = λ l. absurd (omega arith);
         at-end = λ q.
@@ -127,7 +134,7 @@ module _ (w h : ℕ) (M D : List ℕ) (o : Order) where
   further (local d m l ∷ ss) c s t n cl e = further ss c (P .act (local d m l) c s) t n (cl .1) e
   further (deal d f ∷ ss) c s t n cl e = further ss (past (deal d f) c) (P .act (deal d f) c s) t n (cl .1) e
   further (exchange d x ∷ ss) c s t n cl e =
-      record { within = omega arith; before = λ l. refl; at-end = λ q. absurd (omega (arith, cl .0)) }
+      record { register = reg; within = omega arith; before = λ l. refl; at-end = λ q. absurd (omega (arith, cl .0)) }
   further (end ∷ ss) c s t n cl e = further ss (past end c) (P .act end c s) (t ++ (s ∷ [])) n (cl .1) (omega arith)
 
 -- ---- and the three calls
@@ -142,8 +149,20 @@ module _ (w : ℕ) (job table : List ℕ) (o : Order) (a : Additive o) where
   abbrev ss : List Step
   ss = steps-of w job table
 
-  steps₂ : job-fault w job table .0 ≡ 0 → σ₂ .steps ≡ ss ++ adding w o []
-  steps₂ e = steps-with w job table o a (in-fours w job table e)
+  module _ (sound : job-fault w job table .0 ≡ 0) where
+    steps₂ : σ₂ .steps ≡ ss ++ adding w o []
+    steps₂ = steps-with w job table o a (in-fours w job table sound)
+
+    -- the order is accepted
+    order-good : job-fault w (with-order job o) table .0 ≡ 0 → Good w (keeps-rules table) o
+    unfolding orders
+    order-good fine =
+        let e : orders (with-order job o) ≡ orders job ++ (o ∷ []) = orders-append job _ (in-fours w job table sound) in
+        let n : length (orders job) < length (orders (with-order job o)) =
+        rw e (omega (arith, length-append (orders job) (o ∷ []))) in
+        subst (λ (x : Order). Good w (keeps-rules table) x)
+        (ap (λ (os : List Order). order os (length (orders job))) e ∙ getD-append-seam (orders job) o [] _)
+        (accepted-orders w (with-order job o) table fine (length (orders job)) n _)
 
   module _ (h : ℕ) (M D : List ℕ) where
     start-further : (r : Pair) → start (lent h σ₁ M D) r .number ≡ 0 → start (lent h σ₂ M D) r .number ≡ 0
@@ -151,54 +170,44 @@ module _ (w : ℕ) (job table : List ℕ) (o : Order) (a : Additive o) where
     unfolding start-walk
     start-further r z z′ =
         let p = start-none (lent h σ₁ M D) r z in
+        let p′ = start-none (lent h σ₂ M D) r z′ in
+        let k = no-fault h σ₁ M D (p .0) in
         let W : Worker = worker-with h M D in
         moved (p .1)
-        (start-none (lent h σ₂ M D) r z′ .1
-        ∙ ap (λ (ts : List Step). report W (walk (W .act) ts origin (fresh2 r) [])) (steps₂ (no-fault h σ₁ M D (p .0))))
-        (further w h M D o ss origin (fresh2 r) [] (length (orders job)) (job-closed w job table)
+        (p′ .1 ∙ ap (λ (ts : List Step). report W (walk (W .act) ts origin (fresh2 r) [])) (steps₂ k))
+        (further w h M D o (order-good k (no-fault h σ₂ M D (p′ .0)) .target) ss origin (fresh2 r) [] (length (orders job))
+        (job-closed w job table)
         (add-zero (ends ss) ∙ job-orders w job table))
-
-    -- from the product or refresh that a hearing finds
-    heard-further : (s : State) (v : ℕ) → Resumes (s .order) (s .turn) ss (adding w o []) origin
-        → Further w o (length (orders job)) (resume (worker-with h M D) s v (seek (s .order) (s .turn) ss origin))
-        (resume (worker-with h M D) s v (seek (s .order) (s .turn) (ss ++ adding w o []) origin))
-    unfolding past
-    heard-further s v x =
-        let W : Worker = worker-with h M D in
-        moved (ap (resume W s v) (x .is) ∙ resumed (lent h σ₁ M D) s v (x .behind) (x .cur) (x .slot) (x .gate))
-        (ap (resume W s v) (x .is-still) ∙ resumed (lent h σ₁ M D) s v (x .behind ++ adding w o []) (x .cur) (x .slot) (x .gate))
-        (further w h M D o (x .behind) (past (exchange (x .slot) (x .gate)) (x .cur))
-        (W .hear (x .slot) (x .gate) (x .cur) (s .m, s .mask) v) [] (length (orders job)) (x .closed)
-        (x .count ∙ add-zero (ends ss) ∙ job-orders w job table))
 
     hear-further : (s : State) (v : ℕ) → hear (lent h σ₁ M D) s v .number ≡ 0 → hear (lent h σ₂ M D) s v .number ≡ 0
         → Further w o (length (orders job)) (hear (lent h σ₁ M D) s v) (hear (lent h σ₂ M D) s v)
-    unfolding found-of resume
-    hear-further s v z z′ =
-        let p = hear-none (lent h σ₁ M D) s v z in
-        let W : Worker = worker-with h M D in
-        let f : Found = seek (s .order) (s .turn) ss origin in
-        let n : resume W s v f .number ≡ 0 = sym (ap (λ (x : Answer). x .number) (p .1)) ∙ z in
-        let k = unless-none (place-fault f) (place-fault f, 0) s (report W (hear-walk W s v f)) refl n .0 in
-        moved (p .1)
-        (hear-none (lent h σ₂ M D) s v z′ .1
-        ∙ ap (λ (ts : List Step). resume W s v (seek (s .order) (s .turn) ts origin)) (steps₂ (no-fault h σ₁ M D (p .0))))
-        (heard-further s v (resumes (s .order) (s .turn) ss (adding w o []) origin (job-closed w job table) k))
+    unfolding ends past
+    hear-further s v z z′ = go (standing-at (lent h σ₁ M D) s v z)
+      where
+        -- from the product or refresh where the hearing stands
+        go : Located ss origin (s .order) (s .turn)
+            → Further w o (length (orders job)) (hear (lent h σ₁ M D) s v) (hear (lent h σ₂ M D) s v)
+        go y =
+            let k = no-fault h σ₁ M D (hear-none (lent h σ₁ M D) s v z .0) in
+            let k′ = no-fault h σ₂ M D (hear-none (lent h σ₂ M D) s v z′ .0) in
+            let x : Step = exchange (y .target) (y .gate) in
+            let c : Cursor = far (y .before) origin in
+            let still = steps₂ k ∙ ap (λ (ts : List Step). ts ++ adding w o []) (y .is) ∙ append-assoc (y .before) (x ∷ y .behind) (adding w o []) in
+            moved
+            (heard (lent h σ₁ M D) s v (y .before) (y .behind) (y .target) (y .gate) (y .is) (sym (y .order)) (sym (y .turn)) z)
+            (heard (lent h σ₂ M D) s v (y .before) (y .behind ++ adding w o []) (y .target) (y .gate) still (sym (y .order))
+            (sym (y .turn)) z′)
+            (further w h M D o (order-good k k′ .target) (y .behind) (past x c)
+            (worker-with h M D .hear (y .target) (y .gate) c (s .m, s .mask) v)
+            []
+            (length (orders job))
+            (closed-behind (y .before) (x ∷ y .behind) (subst Closed (y .is) (job-closed w job table)) .1)
+            (ends-behind (y .before) (x ∷ y .behind) origin
+            ∙ ap (λ (ts : List Step). ends ts + 0) (sym (y .is)) ∙ add-zero (ends ss) ∙ job-orders w job table))
 
   module _ (A B buf : List ℕ) (r : Pair) (z : prepare σ₁ A B buf r .number ≡ 0) (z′ : prepare σ₂ A B buf r .number ≡ 0) where
     sound : job-fault w job table .0 ≡ 0
     sound = no-dealer-fault σ₁ A B buf (prepare-none σ₁ A B buf r z .0)
-
-    -- the order is accepted
-    order-good : Good w (keeps-rules table) o
-    unfolding orders
-    order-good =
-        let e : orders (with-order job o) ≡ orders job ++ (o ∷ []) = orders-append job _ (in-fours w job table sound) in
-        let n : length (orders job) < length (orders (with-order job o)) =
-        rw e (omega (arith, length-append (orders job) (o ∷ []))) in
-        subst (λ (x : Order). Good w (keeps-rules table) x)
-        (ap (λ (os : List Order). order os (length (orders job))) e ∙ getD-append-seam (orders job) o [] _)
-        (accepted-orders w (with-order job o) table (no-dealer-fault σ₂ A B buf (prepare-none σ₂ A B buf r z′ .0)) (length (orders job)) n _)
 
     deals-same : script-deals σ₂ A B r ≡ script-deals σ₁ A B r
     unfolding script-deals deals dealt
@@ -214,7 +223,9 @@ module _ (w : ℕ) (job table : List ℕ) (o : Order) (a : Additive o) where
         ∙ ap (λ (p : Conf Pair). p .state) (whole-append (act0 A B) ss (adding w o []) origin (fresh2 r) [])
 
     register-lane : (l : Lane) → take 16 (added w o l) ≡ added w o (take 16 l)
-    register-lane = registers-added w (keeps-rules table) o a order-good
+    register-lane =
+        registers-added w (keeps-rules table) o a
+        (order-good sound (no-dealer-fault σ₂ A B buf (prepare-none σ₂ A B buf r z′ .0)))
 
     prepare-further : prepare σ₂ A B buf r ≡ and-prepared w o (prepare σ₁ A B buf r)
     prepare-further =
@@ -243,9 +254,10 @@ additions w =
       target = target-written w;
       prepared = λ job table A B buf r all z. preparation w job table all A B buf r z;
       started = λ h job table M D r all z. at-start w job table all h M D r z;
-      masks-kept = λ job table A B buf r all z. preparation-kept w job table all A B buf r z;
-      registers-kept = λ h job table M D r all z i l. start-kept w job table all h M D r z i;
       kept-words = λ h job table M D r all z. words-kept w job table all h M D r z;
+      masks-kept = masks-kept w;
+      registers-kept = λ h job table M D r i l u. registers-kept w job table h M D r i l u;
+      state-kept = λ h job table M D s v i l u. state-kept w job table h M D s v i l u;
       between1 = λ S cs cs′ z z′ buf buf′ s s′ t t′ said said′ two two′ r r′ l i k u.
           between1 w S cs cs′ z z′ buf buf′ s s′ t t′ said said′ two two′ l i k u r r′;
       between2 = λ S cs cs′ z z′ buf buf′ one one′ s s′ t t′ said said′ r r′ l i k u.

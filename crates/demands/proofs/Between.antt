@@ -2,25 +2,27 @@
 use mathlib.Core.Path.{_≡_, sym, ap, _∙_}
 use mathlib.Core.List.{List}
 use Prim.Native.Nat.{ℕ, _≤_, _<_}
+use borrow.Author.Tests.{ne-eqb}
 use Rattle.shares.specs.Gates.{Share}
 use Rattle.gates.specs.Hosts.{Pair}
 use Rattle.calls.specs.Scripts.{orders-in}
 use Rattle.calls.specs.Calls.{State}
 use Rattle.runs.specs.Runs.{Setting, staged, Spoken, Dealer, Side, going, world, Call, Run, side-order}
-use Rattle.runs.specs.Orders.{share-before}
-use Rattle.runs.specs.Readings.{UntargetedBetween}
+use Rattle.runs.specs.Orders.{share-before, order-of}
 use Rattle.runs.proofs.Kept.{Ok, ok, kept}
 use Rattle.runs.proofs.Standing.{order1-inside, order2-inside}
 use Rattle.runs.proofs.Spared.{kept-between}
-use Rattle.runs.proofs.Readings.{readings}
+use Rattle.runs.proofs.Opened.{untargeted}
 use Rattle.runs.proofs.Holdings.{holdings}
-use Rattle.demands.specs.Additions.{Keeps, lanes}
+use Rattle.demands.specs.Additions.{NoTargetBetween, Keeps, lanes}
 
 module _ (w : ℕ) (S : Setting) where
   -- what stands just before order q stood so just before order p
-  same-share : (p q i : ℕ) → p ≤ q → q ≤ orders-in (staged w S .script) → i < 16 → UntargetedBetween S p q i
+  same-share : (p q i : ℕ) → p ≤ q → q ≤ orders-in (staged w S .script) → i < 16 → NoTargetBetween (S .job) p q i
       → share-before (staged w S) q i ≡ share-before (staged w S) p i
-  same-share p q i l n h u = kept-between (staged w S) p i q l n (readings w .untargeted S p q i h u)
+  unfolding order-of
+  same-share p q i l n h u =
+      kept-between (staged w S) p i q l n (λ k a b. untargeted w S k i h (λ m. ne-eqb i (order-of S k .target) (u k a b)))
 
   inside1 : {z : Dealer} {buf : List ℕ} {one two : Side} → Ok (staged w S) (world z buf one two)
       → side-order one ≤ orders-in (staged w S .script)
@@ -31,7 +33,7 @@ module _ (w : ℕ) (S : Setting) where
   inside2 (ok d a b e) = order2-inside (staged w S) b
 
   module _ (cs cs′ : List Call) (z z′ : Dealer) (buf buf′ : List ℕ) (s s′ : State) (t t′ : List Pair) (said said′ : List Spoken)
-      (other other′ : Side) (l : s .order ≤ s′ .order) (i : ℕ) (h : i < 16) (u : UntargetedBetween S (s .order) (s′ .order) i) where
+      (other other′ : Side) (l : s .order ≤ s′ .order) (i : ℕ) (h : i < 16) (u : NoTargetBetween (S .job) (s .order) (s′ .order) i) where
     pub between1 : Run (staged w S) cs (world z buf (going s t said) other) → Run (staged w S) cs′ (world z′ buf′ (going s′ t′ said′) other′)
         → Keeps (lanes s) (lanes s′) i
     between1 r r′ =

@@ -10,15 +10,16 @@ use Rattle.gates.specs.Walk.{far}
 use Rattle.gates.specs.Hosts.{Pair}
 use Rattle.jobs.specs.Job.{Fault}
 use Rattle.calls.specs.Scripts.{Script}
-use Rattle.calls.specs.Places.{found, seek}
+use Rattle.calls.specs.Places.{Found, found, seek}
 use Rattle.calls.specs.Lent.{Lent, dealer-fault, worker-of}
-use Rattle.calls.specs.Calls.{State, Answer, fresh, unless, start-walk, hear-walk, place-fault, found-of, resume, hear}
+use Rattle.calls.specs.Calls.{State, Answer, fresh, report, unless, start-walk, hear-walk, place-fault, found-of, resume, hear}
 use Rattle.calls.specs.Calls.{Prepared, script-deals, prepare-walk, prepared, prepare}
 use Rattle.runs.specs.Runs.{Among}
 use Rattle.demands.specs.Conditions.{Place, places-from}
 use Rattle.demands.specs.Completed.{walks-on, Located, Completed}
 use Rattle.runs.proofs.Places.{here-self, here-other, Upto, level, upto-past, upto-not}
-use Rattle.runs.proofs.Refusals.{start-none, hear-none}
+use Rattle.runs.proofs.Refusals.{unless-none, start-none, hear-none}
+use Rattle.demands.proofs.Placed.{Placed, a-turn, the-end, nothing, placed}
 
 -- ---- `seek` finds the product or refresh behind the steps pre
 
@@ -68,7 +69,7 @@ pub prepare-none : (σ : Script) (A B buf : List ℕ) (r : Pair) → prepare σ 
 unfolding prepare
 prepare-none σ A B buf r h = prepared-done (dealer-fault σ A B buf .0) (dealer-fault σ A B buf) σ A B buf r refl h
 
-pub resumed : (loan : Lent) (s : State) (v : ℕ) (ss : List Step) (c : Cursor) (d : ℕ) (e : Exchange)
+resumed : (loan : Lent) (s : State) (v : ℕ) (ss : List Step) (c : Cursor) (d : ℕ) (e : Exchange)
     → resume (worker-of loan) s v (found (exchange d e ∷ ss) c)
     ≡ walks-on loan ss (past (exchange d e) c) (worker-of loan .hear d e c (s .m, s .mask) v)
 unfolding resume place-fault unless hear-walk
@@ -81,7 +82,7 @@ module _ (loan : Lent) (s : State) (v : ℕ) (pre ss : List Step) (d : ℕ) (e :
   unfolding found-of
   found-there = rw (o, x, is) (seek-to pre ss d e origin)
 
-  heard : hear loan s v .number ≡ 0
+  pub heard : hear loan s v .number ≡ 0
       → hear loan s v ≡ walks-on loan ss (past (exchange d e) (far pre origin))
       (worker-of loan .hear d e (far pre origin) (s .m, s .mask) v)
   heard h = hear-none loan s v h .1 ∙ ap {B = Answer} (resume (worker-of loan) s v) found-there ∙ resumed loan s v ss (far pre origin) d e
@@ -118,6 +119,27 @@ located (exchange d e ∷ ss) c o x (inl p) =
     }
 located (exchange d e ∷ ss) c o x (inr h) = past-one (exchange d e) ss c o x (located ss (past (exchange d e) c) o x h)
 located (end ∷ ss) c o x h = past-one end ss c o x (located ss (past end c) o x h)
+
+-- where a completed hearing stands
+pub standing-at : (loan : Lent) (s : State) (v : ℕ) → hear loan s v .number ≡ 0
+    → Located (loan .script .steps) origin (s .order) (s .turn)
+unfolding found-of resume
+standing-at loan s v z = go (placed (s .order) (s .turn) (loan .script .steps) origin)
+  where
+    f : Found
+    f = seek (s .order) (s .turn) (loan .script .steps) origin
+
+    fine : place-fault f ≡ 0
+    fine =
+        let p = hear-none loan s v z in
+        let n : resume (worker-of loan) s v f .number ≡ 0 = sym (ap (λ (x : Answer). x .number) (p .1)) ∙ z in
+        unless-none (place-fault f) (place-fault f, 0) s (report (worker-of loan) (hear-walk (worker-of loan) s v f)) refl n .0
+
+    go : {q y : ℕ} → Placed (s .order) (s .turn) (places-from 0 0 (loan .script .steps)) q y (place-fault f)
+        → Located (loan .script .steps) origin (s .order) (s .turn)
+    go (a-turn a e) = located (loan .script .steps) origin (s .order) (s .turn) a
+    go (the-end a b e) = absurd (omega (arith, e, fine))
+    go (nothing a b e) = absurd (omega (arith, e, fine))
 
 pub completed : Completed
 unfolding script-deals prepare-walk fresh start-walk

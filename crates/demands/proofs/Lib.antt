@@ -12,5 +12,6 @@ pub mod ByKind
 pub mod ByHand
 pub mod Fronts
 pub mod Adding
+pub mod Passed
 pub mod Between
 pub mod Additions

@@ -16,15 +16,23 @@ use Rattle.calls.specs.Scripts.{job-script}
 use Rattle.calls.specs.Lent.{lent}
 use Rattle.calls.specs.Calls.{State, Answer, Prepared, fresh2, prepare, start, hear}
 use Rattle.runs.specs.Runs.{Setting, staged, Spoken, Dealer, Side, going, world, Call, Run}
-use Rattle.runs.specs.Readings.{UntargetedBetween}
 
--- a job of such orders alone
-abbrev pub AllAdditive : (job : List ℕ) → Type 0
-AllAdditive job = (q : ℕ) → q < length (orders job) → Additive (order (orders job) q)
+-- a list of such orders alone
+abbrev pub AllAdditive : List Order → Type 0
+AllAdditive os = (q : ℕ) → q < length os → Additive (order os q)
 
 -- slot i is no order's target
 abbrev pub NoTarget : (job : List ℕ) (i : ℕ) → Type 0
 NoTarget job i = (q : ℕ) → q < length (orders job) → i ≢ order (orders job) q .target
+
+-- of no order from order p up to order q, q not among them
+abbrev pub NoTargetBetween : (job : List ℕ) (p q i : ℕ) → Type 0
+NoTargetBetween job p q i = (n : ℕ) → p ≤ n → n < q → i ≢ order (orders job) n .target
+
+-- the orders from order p up to order q, q among them, are of kinds 0 to 5, which have one gate and so keep no word
+-- between gates
+abbrev pub PlainUpTo : (job : List ℕ) (p q : ℕ) → Type 0
+PlainUpTo job p q = (n : ℕ) → p ≤ n → n ≤ q → order (orders job) n .kind < 6
 
 -- slot i holds in t the very words that it held in s, on both lanes of a host
 abbrev pub Keeps : (s t : Pair) (i : ℕ) → Type 0
@@ -66,8 +74,9 @@ and-prepared w o p =
     }
 
 -- r is the answer on a job of n orders, r′ the answer with o behind them: the same where the call stops before the
--- end, and at the end with o done too
+-- end, and at the end with o done too, whose target is a register and no kept word
 pub record Further (w : ℕ) (o : Order) (n : ℕ) (r r′ : Answer) : Type 0 where
+  pub register : o .target < 16
   pub within : r .state .order ≤ n
   pub before : r .state .order < n → r′ ≡ r
   pub at-end : r .state .order ≡ n → r′ ≡ and-then w o r
@@ -101,7 +110,7 @@ pub record Additions (w : ℕ) : Type 0 where
       × (at (added2 w o s .1) (o .target) ≡ added-word w o (s .1))
   -- ---- a job of such orders, against what the host was given
 
-  pub prepared : (job table A B buf : List ℕ) (r : Pair) → AllAdditive job
+  pub prepared : (job table A B buf : List ℕ) (r : Pair) → AllAdditive (orders job)
       → prepare (job-script w job table) A B buf r .number ≡ 0
       → prepare (job-script w job table) A B buf r
       ≡ record {
@@ -112,7 +121,7 @@ pub record Additions (w : ℕ) : Type 0 where
         buffer = buf;
       }
   -- it ends at once: no word is spoken
-  pub started : (h : ℕ) (job table M D : List ℕ) (r : Pair) → AllAdditive job
+  pub started : (h : ℕ) (job table M D : List ℕ) (r : Pair) → AllAdditive (orders job)
       → start (lent h (job-script w job table) M D) r .number ≡ 0
       → start (lent h (job-script w job table) M D) r
       ≡ record {
@@ -128,22 +137,30 @@ pub record Additions (w : ℕ) : Type 0 where
               turn = 0;
             };
       }
-  -- "every other register keeps its share on each host": host 0's two masks, and m and the mask of host 1 or 2
-  pub masks-kept : (job table A B buf : List ℕ) (r : Pair) → AllAdditive job
-      → prepare (job-script w job table) A B buf r .number ≡ 0
-      → (i : ℕ) → i < 16 → NoTarget job i
-      → Keeps r (prepare (job-script w job table) A B buf r .masks) i
-  pub registers-kept : (h : ℕ) (job table M D : List ℕ) (r : Pair) → AllAdditive job
-      → start (lent h (job-script w job table) M D) r .number ≡ 0
-      → (i : ℕ) → i < 16 → NoTarget job i
-      → Keeps r (lanes (start (lent h (job-script w job table) M D) r .state)) i
-  -- and every kept word stays the 0 that it was: no order's target lies behind the registers
-  pub kept-words : (h : ℕ) (job table M D : List ℕ) (r : Pair) → AllAdditive job
+  -- every kept word stays the 0 that it was: no order's target lies behind the registers
+  pub kept-words : (h : ℕ) (job table M D : List ℕ) (r : Pair) → AllAdditive (orders job)
       → start (lent h (job-script w job table) M D) r .number ≡ 0
       → length (r .0) ≡ 16 → length (r .1) ≡ 16 → (i : ℕ) → 16 ≤ i
       → (at (start (lent h (job-script w job table) M D) r .state .m) i ≡ 0)
       × (at (start (lent h (job-script w job table) M D) r .state .mask) i ≡ 0)
-  -- ---- anywhere in the runs of a job of whatever orders
+  -- ---- one call on a job of whatever orders, refused or not
+
+  -- "every other register keeps its share on each host": a register that no order has as its target, of host 0's two
+  -- masks
+  pub masks-kept : (job table A B buf : List ℕ) (r : Pair) (i : ℕ) → i < 16 → NoTarget job i
+      → Keeps r (prepare (job-script w job table) A B buf r .masks) i
+  -- and of m and the mask of host 1 or 2, from the registers that starting is given to the state that it returns, and
+  -- from the state that hearing is given, whatever it holds: a register that no order which the call passes has as its
+  -- target; every kept word too, where none of these orders and not the one where the call stops keeps words
+  pub registers-kept : (h : ℕ) (job table M D : List ℕ) (r : Pair) (i : ℕ)
+      → (16 ≤ i → PlainUpTo job 0 (start (lent h (job-script w job table) M D) r .state .order))
+      → NoTargetBetween job 0 (start (lent h (job-script w job table) M D) r .state .order) i
+      → Keeps r (lanes (start (lent h (job-script w job table) M D) r .state)) i
+  pub state-kept : (h : ℕ) (job table M D : List ℕ) (s : State) (v i : ℕ)
+      → (16 ≤ i → PlainUpTo job (s .order) (hear (lent h (job-script w job table) M D) s v .state .order))
+      → NoTargetBetween job (s .order) (hear (lent h (job-script w job table) M D) s v .state .order) i
+      → Keeps (lanes s) (lanes (hear (lent h (job-script w job table) M D) s v .state)) i
+  -- ---- anywhere in the runs of such a job
 
   -- from one state that a call returned to another, not behind it: a register that no order from where the one stands
   -- up to where the other stands has as its target, the order where the other stands not among them
@@ -151,11 +168,11 @@ pub record Additions (w : ℕ) : Type 0 where
       (t t′ : List Pair) (said said′ : List Spoken) (two two′ : Side)
       → Run (staged w S) cs (world z buf (going s t said) two)
       → Run (staged w S) cs′ (world z′ buf′ (going s′ t′ said′) two′)
-      → s .order ≤ s′ .order → (i : ℕ) → i < 16 → UntargetedBetween S (s .order) (s′ .order) i
+      → s .order ≤ s′ .order → (i : ℕ) → i < 16 → NoTargetBetween (S .job) (s .order) (s′ .order) i
       → Keeps (lanes s) (lanes s′) i
   pub between2 : (S : Setting) (cs cs′ : List Call) (z z′ : Dealer) (buf buf′ : List ℕ) (one one′ : Side)
       (s s′ : State) (t t′ : List Pair) (said said′ : List Spoken)
       → Run (staged w S) cs (world z buf one (going s t said))
       → Run (staged w S) cs′ (world z′ buf′ one′ (going s′ t′ said′))
-      → s .order ≤ s′ .order → (i : ℕ) → i < 16 → UntargetedBetween S (s .order) (s′ .order) i
+      → s .order ≤ s′ .order → (i : ℕ) → i < 16 → NoTargetBetween (S .job) (s .order) (s′ .order) i
       → Keeps (lanes s) (lanes s′) i

@@ -6,8 +6,8 @@ use programs::Order;
 use word_lists::at;
 use word_lists::put;
 
-// Whether a walk that stands at a gate of an order can do the order at once: it is at the first gate, and the order adds
-// or subtracts registers. Every addition and subtraction of an accepted job does.
+// Whether a walk that stands at a gate of an order can do the order at once: it is at the first gate, and the order
+// adds or subtracts registers, as every addition and subtraction of an accepted job does.
 pub fn adds_here(o: Order, gate: usize) -> bool
     ensures { λ b. ⌜ b ≡ adds-here o gate ⌝ }
 {
@@ -26,7 +26,8 @@ pub fn adds_here(o: Order, gate: usize) -> bool
     o.fourth < 16
 }
 
-// On one lane: kind 0 adds and kind 1 subtracts. Of all slots the target's is written, with what the sources held before.
+// On one lane: kind 0 adds and kind 1 subtracts. Of all slots the target's alone is written, from what the sources
+// held.
 fn write_target(o: Order, lane: &mut [u32; 24])
     ensures { λ r. ⌜ now (lane .exit) ≡ added 32 o (now (lane .entry)) ⌝ }
 {

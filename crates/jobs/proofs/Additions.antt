@@ -38,8 +38,8 @@ module _ (w : ℕ) where
   pub others-kept : (o : Order) (s : Pair) (i : ℕ) → i ≢ o .target
       → (at (added2 w o s .0) i ≡ at (s .0) i) × (at (added2 w o s .1) i ≡ at (s .1) i)
   others-kept o s i n = (
-    getD-set-other (s .0) (o .target) i (added-word w o (s .0)) 0 n,
-    getD-set-other (s .1) (o .target) i (added-word w o (s .1)) 0 n,
+    getD-set-other (s .0) (o .target) i _ 0 n,
+    getD-set-other (s .1) (o .target) i _ 0 n,
   )
 
   -- and the target

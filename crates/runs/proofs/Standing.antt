@@ -8,7 +8,7 @@ use native.Mathlib.Omega.{arith}
 use lib.ListN.{getD, length, length-append, List·getD-append}
 use lib.Seq.{getD-take, getD-at}
 use Rattle.shares.specs.Gates.{Share}
-use Rattle.gates.specs.Steps.{Lane, at, Exchange, Step, local, deal, exchange, end, Cursor, origin, past}
+use Rattle.gates.specs.Steps.{at, Exchange, Step, local, deal, exchange, end, Cursor, origin, past}
 use Rattle.gates.specs.Walk.{Conf, conf, next, whole}
 use Rattle.gates.specs.Hosts.{Pair, Triple, share, of1, of2, joint1, joint2, act}
 use Rattle.calls.specs.Scripts.{ends, orders-in, Closed}
@@ -19,7 +19,7 @@ use Rattle.runs.specs.Returned.{UnwrittenFrom}
 use Rattle.runs.proofs.Places.{Halted, pos, whole-pos, trail-pos, trail-length, ends-pos}
 use Rattle.runs.proofs.Ties.{joint, Tied}
 use Rattle.runs.proofs.Kept.{all, j₀, last, position, dealt-all, OneOk, wait1, go1, TwoOk, wait2, go2, Ok, ok, kept}
-use Rattle.runs.proofs.Unwritten.{act-misses, closed-from, Unended, unended, halted-unended, never-last}
+use Rattle.runs.proofs.Unwritten.{act-misses, closed-from, Unended, unended, halted-unended, last-behind, never-last}
 use Rattle.runs.proofs.Spared.{kept-between}
 
 module _ (A B : List ℕ) (all : List Step) (j₀ : Triple) where
@@ -64,33 +64,18 @@ module _ (A B : List ℕ) (all : List Step) (j₀ : Triple) where
           count = omega (arith, length-append t (j ∷ []), z .count);
         }
 
-  abbrev passes : (i : ℕ) (ss : List Step) (x : Step) → Type 0
-  passes i ss x = (k : ℕ) → WrittenLast i k (x ∷ ss) → WrittenLast i k ss
-
-  passes-local : (i d : ℕ) (m l : Lane → ℕ) (ss : List Step) → passes i ss (local d m l)
-  passes-local i d m l ss zero u = u .1
-  passes-local i d m l ss (suc k) u = u
-
-  passes-deal : (i d : ℕ) (f : ℕ → Lane → Lane → ℕ) (ss : List Step) → passes i ss (deal d f)
-  passes-deal i d f ss zero u = u .1
-  passes-deal i d f ss (suc k) u = u
-
-  passes-exchange : (i d : ℕ) (e : Exchange) (ss : List Step) → passes i ss (exchange d e)
-  passes-exchange i d e ss zero u = u .1
-  passes-exchange i d e ss (suc k) u = u
-
   current-next : (i : ℕ) (ss : List Step) (c : Cursor) (j : Triple) (t : List Triple) → Current i (conf ss c j t)
       → Current i (next (act A B) (conf ss c j t))
   unfolding past
   current-next i [] c j t z = z
   current-next i (local d m l ∷ ss) c j t z =
-      within i ss c j t (local d m l) _ _ refl (passes-local i d m l ss) tt
+      within i ss c j t (local d m l) _ _ refl (λ k. last-behind i k (local d m l) ss tt) tt
       (λ u n. act-misses A B (local d m l) c j i (unended ss n (u .0))) z
   current-next i (deal d f ∷ ss) c j t z =
-      within i ss c j t (deal d f) _ _ refl (passes-deal i d f ss) tt
+      within i ss c j t (deal d f) _ _ refl (λ k. last-behind i k (deal d f) ss tt) tt
       (λ u n. act-misses A B (deal d f) c j i (unended ss n (u .0))) z
   current-next i (exchange d e ∷ ss) c j t z =
-      within i ss c j t (exchange d e) _ _ refl (passes-exchange i d e ss) tt
+      within i ss c j t (exchange d e) _ _ refl (λ k. last-behind i k (exchange d e) ss tt) tt
       (λ u n. act-misses A B (exchange d e) c j i (unended ss n (u .0))) z
   current-next i (end ∷ ss) c j t z = behind-end i ss c j t z
 

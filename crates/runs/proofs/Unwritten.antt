@@ -46,6 +46,16 @@ closed-from i (exchange d e ∷ ss) c (suc p) h = closed-from i ss (c .1) (suc p
 closed-from i (end ∷ ss) c zero h = tt
 closed-from i (end ∷ ss) c (suc p) h = closed-from i ss (c .1) p (omega arith)
 
+-- behind a step of the order at hand
+pub unwritten-behind : (i q : ℕ) (x : Step) (ss : List Step) → OfGate x → Unwritten i q (x ∷ ss) → Unwritten i q ss
+unwritten-behind i zero (local d m l) ss o u = u .1
+unwritten-behind i zero (deal d f) ss o u = u .1
+unwritten-behind i zero (exchange d e) ss o u = u .1
+unwritten-behind i (suc q) (local d m l) ss o u = u
+unwritten-behind i (suc q) (deal d f) ss o u = u
+unwritten-behind i (suc q) (exchange d e) ss o u = u
+unwritten-behind i q end ss o u = absurd o
+
 -- ---- steps of which only an order's last may write slot i
 
 -- not at the end of an order
@@ -76,6 +86,15 @@ going-on (local d m l ∷ ss) p = p
 going-on (deal d f ∷ ss) p = p
 going-on (exchange d e ∷ ss) p = p
 going-on (end ∷ ss) p = tt
+
+pub last-behind : (i q : ℕ) (x : Step) (ss : List Step) → OfGate x → WrittenLast i q (x ∷ ss) → WrittenLast i q ss
+last-behind i zero (local d m l) ss o u = u .1
+last-behind i zero (deal d f) ss o u = u .1
+last-behind i zero (exchange d e) ss o u = u .1
+last-behind i (suc q) (local d m l) ss o u = u
+last-behind i (suc q) (deal d f) ss o u = u
+last-behind i (suc q) (exchange d e) ss o u = u
+last-behind i q end ss o u = absurd o
 
 -- a slot that is never written
 pub never-last : (i q : ℕ) (ss : List Step) → Unwritten i q ss → WrittenLast i q ss

@@ -3,6 +3,7 @@ use mathlib.Core.Path.{_≡_, refl}
 use mathlib.Core.Bool.{false}
 use mathlib.Core.List.{List, [], _∷_, _++_}
 use Prim.Native.Nat.{ℕ, zero, suc, _-_, _^_, _<_}
+use native.Mathlib.Omega.{arith}
 use lib.Dec.{eqb, lit≤}
 use lib.ListN.{getD}
 use lib.IntN.{ℤ, pos}
@@ -38,7 +39,7 @@ then-front i d [] hs none q = q
 then-front i d (g ∷ gs) hs (also e p) q = in-front e (then-front i d gs hs p q)
 
 -- so no gate at all, where i is another slot
-spared : (i d : ℕ) (gs : List Gate) → eqb i d ≡ false → SparesFront i d gs → Spares i gs
+pub spared : (i d : ℕ) (gs : List Gate) → eqb i d ≡ false → SparesFront i d gs → Spares i gs
 spared i d [] e none-in-front = none
 spared i d (g ∷ []) e (alone t) = also {g = g} (rw t e) none
 spared i d (g ∷ []) e (in-front f p) = also f none
@@ -156,6 +157,20 @@ unfolding program
 front-program w ps o i h =
     front-at i (o .target) (kinds w ps (o .target) (o .source) (o .fourth)) (o .kind)
     (front-kinds i (other 22 i h (not-temporary i 22 h (lit≤ tt))) w ps (o .target) (o .source) (o .fourth))
+
+-- an order of kinds 0 to 5 has one gate, so that this holds of every slot, the temporaries too
+pub front-alone : (w : ℕ) (ps : List Row) (o : Order) (i : ℕ) → o .kind < 6 → SparesFront i (o .target) (program w ps o)
+unfolding program kinds target
+front-alone w ps o i h = go (o .kind) h
+  where
+    go : (k : ℕ) → k < 6 → SparesFront i (o .target) (getD (kinds w ps (o .target) (o .source) (o .fourth)) k [])
+    go zero h = alone refl
+    go (suc zero) h = alone refl
+    go (suc (suc zero)) h = alone refl
+    go (suc (suc (suc zero))) h = alone refl
+    go (suc (suc (suc (suc zero)))) h = alone refl
+    go (suc (suc (suc (suc (suc zero))))) h = alone refl
+    go (suc (suc (suc (suc (suc (suc k)))))) h = absurd (omega arith)
 
 pub spares-program : (w : ℕ) (ps : List Row) (o : Order) (i : ℕ) → i < 16 → eqb i (o .target) ≡ false → Spares i (program w ps o)
 spares-program w ps o i h e = spared i (o .target) (program w ps o) e (front-program w ps o i h)

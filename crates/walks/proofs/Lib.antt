@@ -11,4 +11,3 @@ pub mod Answers
 pub mod Dealers
 pub mod Preparing
 pub mod Prepared
-pub mod Resuming

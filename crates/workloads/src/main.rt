@@ -1,6 +1,6 @@
-// Workloads for `bench/run`: standard input is the workload's digit, the orders of its job in two digits, and how often;
-// printed is a sum over what came out, which bench.c prints too. Its functions promise nothing but that they end and
-// stay within their bounds.
+// Workloads for `bench/run`: standard input is the workload's digit, the orders of its job in two digits, and how
+// often; printed is a sum over what came out, which bench.c prints too. Its functions promise nothing but that they end
+// and stay within their bounds.
 use dealer::Masks;
 use dealer::prepare;
 use sample_masks::fill;
