@@ -1,6 +1,6 @@
 /* Workloads over the engine in C. bench [-p] W S N: workload W on a job of S orders, N times, and a sum over what came
  * out, which the crate workloads prints too. bench [-p] rehearsal: the rehearsal program, lines of standard input.
- * -p: hears in place. */
+ * -p: hears in place. Status 3: a job of theirs is refused. */
 #include "engine.h"
 #include <stdio.h>
 #include <stdlib.h>
@@ -39,6 +39,14 @@ static uint32_t preparing(struct list job, uint32_t v)
     uint32_t x[16] = {v}, y[16] = {v + 7};
     struct prepared p = prepare(job, table, (struct list){A, MOST_A}, (struct list){B, MOST_B}, D, MOST_DEALS, x, y);
     return p.deals + p.l1[0] + p.l2[0];
+}
+
+/* the job is accepted, so that its work is what is measured */
+static int accepted(const uint32_t *job)
+{
+    uint32_t zeros[16] = {0};
+    return !prepare((struct list){job, 256}, table, (struct list){A, MOST_A}, (struct list){B, MOST_B}, D, MOST_DEALS,
+                    zeros, zeros).number;
 }
 
 static uint32_t starting(uint32_t host, struct list job, uint32_t v)
@@ -222,6 +230,8 @@ int main(int argc, char **argv)
     }
     if (argc != 4)
         return 2;
+    if (!accepted(curves) || !accepted(sums))
+        return 3;
     uint32_t sum = 0;
     int w = atoi(argv[1]);
     size_t orders = (size_t)atol(argv[2]);

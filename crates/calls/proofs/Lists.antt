@@ -1,6 +1,6 @@
 -- A lane that is given its registers, its slots then, and a lane's registers copied out. Assumes nothing.
 use mathlib.Core.Path.{_≡_, refl}
-use mathlib.Core.List.{List, [], _∷_, append-nil}
+use mathlib.Core.List.{[], _∷_, append-nil}
 use Prim.Native.Nat.{ℕ, zero, suc}
 use native.Mathlib.Omega.{arith}
 use borrow.Author.Tests.{le-ltb}

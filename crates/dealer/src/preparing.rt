@@ -141,6 +141,12 @@ pub fn prepare(
         (now (deals .entry))
         (masks .l1, masks .l2) ⌝ }
 {
+    let first = masks.l1;
+    let second = masks.l2;
+    let mut l1 = [0u32; 24];
+    let mut l2 = [0u32; 24];
+    copy_front(&first, &mut l1, 16);
+    copy_front(&second, &mut l2, 16);
     let found = check_dealer(job, table, a, b, deals);
     if found.number != 0 {
         return Prepared {
@@ -150,12 +156,6 @@ pub fn prepare(
             masks,
         };
     }
-    let first = masks.l1;
-    let second = masks.l2;
-    let mut l1 = [0u32; 24];
-    let mut l2 = [0u32; 24];
-    copy_front(&first, &mut l1, 16);
-    copy_front(&second, &mut l2, 16);
     let used = deal_job(job, table, a, b, &mut l1, &mut l2, deals);
     let kept1 = registers(l1);
     let kept2 = registers(l2);

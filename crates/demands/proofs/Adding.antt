@@ -1,39 +1,27 @@
 -- The walks of the hosts over additions and subtractions: no word is spoken and none dealt. Assumes nothing.
 use mathlib.Core.Path.{_≡_, refl, ap, _∙_}
-use mathlib.Core.List.{List, [], _∷_, _++_, map, map-append}
-use Prim.Native.Nat.{ℕ, suc, _+_, _%_}
+use mathlib.Core.List.{List, [], _∷_, map}
+use Prim.Native.Nat.{ℕ, suc, _+_}
 use native.Mathlib.Omega.{arith}
 use lib.ListN.{length}
-use Rattle.tables.specs.Table.{Row, rows}
+use Rattle.tables.specs.Table.{Row}
 use Rattle.gates.specs.Steps.{Step, end, Cursor, past}
 use Rattle.gates.specs.Meaning.{each, job-steps}
 use Rattle.gates.specs.Walk.{walk, whole}
 use Rattle.gates.specs.Hosts.{Pair, act0, dealt, deals}
 use Rattle.programs.specs.declared.Order.{Order}
 use Rattle.programs.specs.Orders.{program}
-use Rattle.jobs.specs.Job.{orders, job-gates, steps-of}
-use Rattle.jobs.specs.Additions.{Additive, added-word, added-all}
-use Rattle.jobs.proofs.Additions.{additive-steps, orders-append}
+use Rattle.jobs.specs.Additions.{added-word, added-all}
+use Rattle.jobs.proofs.Additions.{additive-steps}
 use Rattle.calls.specs.Lent.{worker-with}
 use Rattle.calls.specs.Calls.{word-at, spoken-at}
 use Rattle.walks.specs.Halts.{going-on, reported}
-use Rattle.walks.proofs.Gates.{programs-append}
 use Rattle.walks.proofs.Alike.{written, passes-each}
 use Rattle.demands.specs.Additions.{AllAdditive}
 
 -- such an order's steps
 abbrev pub adding : (w : ℕ) → Order → List Step → List Step
 adding w o ss = each (o .target) (added-word w o) ∷ end ∷ ss
-
--- the steps of a job with that order at its end
-pub steps-with : (w : ℕ) (job table : List ℕ) (o : Order) → Additive o → length job % 4 ≡ 0
-    → steps-of w (job ++ (o .kind ∷ o .target ∷ o .source ∷ o .fourth ∷ [])) table ≡ steps-of w job table ++ adding w o []
-unfolding steps-of job-gates orders job-steps
-steps-with w job table o h e =
-    ap (λ (os : List Order). job-steps w (map (program w (rows table)) os)) (orders-append job _ e)
-    ∙ ap (job-steps w) (map-append (program w (rows table)) (orders job) (o ∷ []))
-    ∙ programs-append w (job-gates w job table) (program w (rows table) o ∷ [])
-    ∙ ap (λ (ss : List Step). steps-of w job table ++ ss) (additive-steps w (rows table) o h [])
 
 -- ---- a list of such orders
 

@@ -14,15 +14,15 @@ use Rattle.runs.proofs.Standing.{order1-inside, order2-inside}
 use Rattle.runs.proofs.Spared.{kept-between}
 use Rattle.runs.proofs.Opened.{untargeted}
 use Rattle.runs.proofs.Holdings.{holdings}
-use Rattle.demands.specs.Additions.{NoTargetBetween, Keeps, lanes}
+use Rattle.demands.specs.Additions.{Leaves, Keeps, lanes}
 
 module _ (w : ℕ) (S : Setting) where
   -- what stands just before order q stood so just before order p
-  same-share : (p q i : ℕ) → p ≤ q → q ≤ orders-in (staged w S .script) → i < 16 → NoTargetBetween (S .job) p q i
+  same-share : (p q i : ℕ) → p ≤ q → q ≤ orders-in (staged w S .script) → i < 16 → Leaves (S .job) p q i
       → share-before (staged w S) q i ≡ share-before (staged w S) p i
   unfolding order-of
   same-share p q i l n h u =
-      kept-between (staged w S) p i q l n (λ k a b. untargeted w S k i h (λ m. ne-eqb i (order-of S k .target) (u k a b)))
+      kept-between (staged w S) p i q l n (λ k a b. untargeted w S k i h (λ m. ne-eqb i (order-of S k .target) (u .target k a b)))
 
   inside1 : {z : Dealer} {buf : List ℕ} {one two : Side} → Ok (staged w S) (world z buf one two)
       → side-order one ≤ orders-in (staged w S .script)
@@ -33,7 +33,7 @@ module _ (w : ℕ) (S : Setting) where
   inside2 (ok d a b e) = order2-inside (staged w S) b
 
   module _ (cs cs′ : List Call) (z z′ : Dealer) (buf buf′ : List ℕ) (s s′ : State) (t t′ : List Pair) (said said′ : List Spoken)
-      (other other′ : Side) (l : s .order ≤ s′ .order) (i : ℕ) (h : i < 16) (u : NoTargetBetween (S .job) (s .order) (s′ .order) i) where
+      (other other′ : Side) (l : s .order ≤ s′ .order) (i : ℕ) (h : i < 16) (u : Leaves (S .job) (s .order) (s′ .order) i) where
     pub between1 : Run (staged w S) cs (world z buf (going s t said) other) → Run (staged w S) cs′ (world z′ buf′ (going s′ t′ said′) other′)
         → Keeps (lanes s) (lanes s′) i
     between1 r r′ =

@@ -13,5 +13,6 @@ pub mod ByHand
 pub mod Fronts
 pub mod Adding
 pub mod Passed
+pub mod More
 pub mod Between
 pub mod Additions

@@ -31,7 +31,7 @@ use Rattle.runs.proofs.Refusals.{start-none, start-state, hear-state, prepare-b
 use Rattle.runs.proofs.Unwritten.{Misses, unwritten-behind, last-behind, unwritten-gates, last-gates}
 use Rattle.runs.proofs.Written.{SparesFront, spared, front-program, front-alone}
 use Rattle.demands.specs.Completed.{walks-on, Located}
-use Rattle.demands.specs.Additions.{NoTarget, NoTargetBetween, PlainUpTo, Keeps, lanes}
+use Rattle.demands.specs.Additions.{Leaves, Keeps, lanes}
 use Rattle.demands.proofs.Completed.{prepare-none, heard, standing-at}
 
 -- ---- what is said of order q of some steps, said of the steps behind
@@ -92,7 +92,7 @@ module _ (i : ℕ) where
 -- ---- host 0, over all steps
 
 module _ (A B : List ℕ) (i : ℕ) where
-  dealer-keeps : (ss : List Step) (c : Cursor) (s : Pair) (t : List Pair) → ((q : ℕ) → Unwritten i q ss)
+  pub dealer-keeps : (ss : List Step) (c : Cursor) (s : Pair) (t : List Pair) → ((q : ℕ) → Unwritten i q ss)
       → Keeps s (whole (act0 A B) ss c s t .state) i
   unfolding whole act0
   dealer-keeps [] c s t u = (refl, refl)
@@ -146,7 +146,7 @@ module _ (h : ℕ) (M D : List ℕ) (i : ℕ) where
   missed d (end ∷ ss) c s t f g = f (walk-up ss (past end c) (P .act end c s) (t ++ (s ∷ [])))
 
   -- no order that the walk passes writes the slot, and none but with its last step
-  walk-keeps : (ss : List Step) (c : Cursor) (s : Pair) (t : List Pair)
+  pub walk-keeps : (ss : List Step) (c : Cursor) (s : Pair) (t : List Pair)
       → ((q : ℕ) → c .order + q < walk (P .act) ss c s t .cur .order → Unwritten i q ss)
       → ((q : ℕ) → c .order + q ≤ walk (P .act) ss c s t .cur .order → WrittenLast i q ss)
       → Keeps s (walk (P .act) ss c s t .state) i
@@ -216,9 +216,23 @@ module _ (w : ℕ) (job table : List ℕ) where
         unwritten-gates w i q (job-gates w job table)
         (λ k. rw (gates-of k) (spared i _ _ (ne-eqb i _ (n (rw (gates-length w job table) at k))) front))
 
+  -- of the steps ss, the first of which stands in order p
+  module _ (i : ℕ) (pre ss : List Step) (p : ℕ) (is : steps-of w job table ≡ pre ++ ss) (stands : far pre origin .order ≡ p) (q : ℕ)
+      (plain : 16 ≤ i → order (orders job) (p + q) .kind < 6) where
+    pub last : WrittenLast i q ss
+    last =
+        shifted (last-on i) pre ss origin q (p + q) (omega (arith, stands))
+        (subst (λ (ts : List Step). WrittenLast i (p + q) ts) is (last-alone i (p + q) plain))
+
+    pub free : (p + q < length (orders job) → i ≢ order (orders job) (p + q) .target) → Unwritten i q ss
+    free u =
+        shifted (unwritten-on i) pre ss origin q (p + q) (omega (arith, stands))
+        (subst (λ (ts : List Step). Unwritten i (p + q) ts) is (no-step i (p + q) plain u))
+
   -- ---- host 0
 
-  pub masks-kept : (A B buf : List ℕ) (r : Pair) (i : ℕ) → i < 16 → NoTarget job i → Keeps r (prepare σ A B buf r .masks) i
+  pub masks-kept : (A B buf : List ℕ) (r : Pair) (i : ℕ) → i < 16 → Leaves job 0 (length (orders job)) i
+      → Keeps r (prepare σ A B buf r .masks) i
   unfolding prepare-walk
   masks-kept A B buf r i reg u = go (prepare σ A B buf r .number) refl
     where
@@ -227,7 +241,8 @@ module _ (w : ℕ) (job table : List ℕ) where
           let e = prepare-none σ A B buf r z .1 in
           let s : Pair = prepare-walk σ A B r .state in
           let k =
-          dealer-keeps A B i (steps-of w job table) origin (fresh2 r) [] (λ q. no-step i q (λ l. absurd (omega (arith, l, reg))) (u q)) in (
+          dealer-keeps A B i (steps-of w job table) origin (fresh2 r) []
+          (λ q. no-step i q (λ l. absurd (omega (arith, l, reg))) (λ m. u .target q (omega arith) m)) in (
             ap (λ (p : Prepared). at (p .masks .0) i) e ∙ getD-take 16 (s .0) i 0 reg ∙ k .0 ∙ fresh-at (r .0) i,
             ap (λ (p : Prepared). at (p .masks .1) i) e ∙ getD-take 16 (s .1) i 0 reg ∙ k .1 ∙ fresh-at (r .1) i,
           )
@@ -244,35 +259,23 @@ module _ (w : ℕ) (job table : List ℕ) where
     abbrev loan : Lent
     loan = lent h σ M D
 
-    -- of the steps ss, the first of which stands in order p: what a call needs that begins there and comes to order n
-    module _ (i : ℕ) (pre ss : List Step) (p : ℕ) (is : steps-of w job table ≡ pre ++ ss) (stands : far pre origin .order ≡ p)
-        (n : ℕ) (plain : 16 ≤ i → PlainUpTo job p n) where
-      last : (q : ℕ) → p + q ≤ n → WrittenLast i q ss
-      last q k =
-          shifted (last-on i) pre ss origin q (p + q) (omega (arith, stands))
-          (subst (λ (ts : List Step). WrittenLast i (p + q) ts) is (last-alone i (p + q) (λ l. plain l (p + q) (omega arith) k)))
+    abbrev ends-at : List Step → Cursor → Pair → ℕ
+    ends-at ss c l = walk (worker-with h M D .act) ss c l [] .cur .order
 
-      free : NoTargetBetween job p n i → (q : ℕ) → p + q < n → Unwritten i q ss
-      free u q k =
-          shifted (unwritten-on i) pre ss origin q (p + q) (omega (arith, stands))
-          (subst (λ (ts : List Step). Unwritten i (p + q) ts) is
-          (no-step i (p + q) (λ l. plain l (p + q) (omega arith) (omega (arith, k))) (λ m. u (p + q) (omega arith) k)))
-
-    pub registers-kept : (r : Pair) (i : ℕ) → (16 ≤ i → PlainUpTo job 0 (start loan r .state .order))
-        → NoTargetBetween job 0 (start loan r .state .order) i → Keeps r (lanes (start loan r .state)) i
+    pub registers-kept : (r : Pair) (i : ℕ) → Leaves job 0 (start loan r .state .order) i → Keeps r (lanes (start loan r .state)) i
     unfolding start-walk given far
-    registers-kept r i plain u = go (start loan r .number) refl
+    registers-kept r i u = go (start loan r .number) refl
       where
         done : start loan r .number ≡ 0 → Keeps r (lanes (start loan r .state)) i
         done z =
+            let ss : List Step = steps-of w job table in
             let e = start-none loan r z .1 in
-            let n : ℕ = start loan r .state .order in
-            let o : n ≡ walk (worker-with h M D .act) (steps-of w job table) origin (fresh2 r) [] .cur .order =
-            ap (λ (a : Answer). a .state .order) e in
+            let o : start loan r .state .order ≡ ends-at ss origin (fresh2 r) = ap (λ (a : Answer). a .state .order) e in
             let k =
-            walk-keeps h M D i (steps-of w job table) origin (fresh2 r) []
-            (λ q l. free i [] (steps-of w job table) 0 refl refl n plain u q (omega (arith, l, o)))
-            (λ q l. last i [] (steps-of w job table) 0 refl refl n plain q (omega (arith, l, o))) in (
+            walk-keeps h M D i ss origin (fresh2 r) []
+            (λ q l. free i [] ss 0 refl refl q (λ g. u .plain g (0 + q) (omega arith) (omega (arith, l, o)))
+            (λ m. u .target (0 + q) (omega arith) (omega (arith, l, o))))
+            (λ q l. last i [] ss 0 refl refl q (λ g. u .plain g (0 + q) (omega arith) (omega (arith, l, o)))) in (
               ap (λ (a : Answer). at (a .state .m) i) e ∙ k .0 ∙ fresh-at (r .0) i,
               ap (λ (a : Answer). at (a .state .mask) i) e ∙ k .1 ∙ fresh-at (r .1) i,
             )
@@ -283,10 +286,10 @@ module _ (w : ℕ) (job table : List ℕ) where
             let e = start-state loan r (λ (o : start loan r .number ≡ 0). omega (arith, o, z)) in
             (ap (λ (s : State). at (s .m) i) e ∙ fresh-at (r .0) i, ap (λ (s : State). at (s .mask) i) e ∙ fresh-at (r .1) i)
 
-    pub state-kept : (s : State) (v i : ℕ) → (16 ≤ i → PlainUpTo job (s .order) (hear loan s v .state .order))
-        → NoTargetBetween job (s .order) (hear loan s v .state .order) i → Keeps (lanes s) (lanes (hear loan s v .state)) i
+    pub state-kept : (s : State) (v i : ℕ) → Leaves job (s .order) (hear loan s v .state .order) i
+        → Keeps (lanes s) (lanes (hear loan s v .state)) i
     unfolding past
-    state-kept s v i plain u = go (hear loan s v .number) refl
+    state-kept s v i u = go (hear loan s v .number) refl
       where
         -- from the product or refresh where the hearing stands
         done : hear loan s v .number ≡ 0 → Located (steps-of w job table) origin (s .order) (s .turn)
@@ -296,20 +299,25 @@ module _ (w : ℕ) (job table : List ℕ) where
             let c : Cursor = far (y .before) origin in
             let x : Step = exchange (y .target) (y .gate) in
             let l : Pair = worker-with h M D .hear (y .target) (y .gate) c (s .m, s .mask) v in
-            let n : ℕ = hear loan s v .state .order in
             let e : hear loan s v ≡ walks-on loan ss (past x c) l =
             heard loan s v (y .before) ss (y .target) (y .gate) (y .is) (sym (y .order)) (sym (y .turn)) z in
-            let o : n ≡ walk (worker-with h M D .act) ss (past x c) l [] .cur .order = ap (λ (a : Answer). a .state .order) e in
-            let f = free i (y .before) (x ∷ ss) (s .order) (y .is) (y .order) n plain u in
-            let g = last i (y .before) (x ∷ ss) (s .order) (y .is) (y .order) n plain in
-            let up = walk-up h M D i ss (past x c) l [] in
+            let o : hear loan s v .state .order ≡ ends-at ss (past x c) l = ap (λ (a : Answer). a .state .order) e in
+            let g : (q : ℕ) → c .order + q ≤ ends-at ss (past x c) l → WrittenLast i q (x ∷ ss) =
+            λ q m.
+            last i (y .before) (x ∷ ss) (s .order) (y .is) (y .order) q
+            (λ g. u .plain g (s .order + q) (omega arith) (omega (arith, m, o, y .order))) in
+            let f : (q : ℕ) → c .order + q < ends-at ss (past x c) l → Unwritten i q (x ∷ ss) =
+            λ q m.
+            free i (y .before) (x ∷ ss) (s .order) (y .is) (y .order) q
+            (λ g. u .plain g (s .order + q) (omega arith) (omega (arith, m, o, y .order)))
+            (λ k. u .target (s .order + q) (omega arith) (omega (arith, m, o, y .order))) in
             let k =
             both
             (walk-keeps h M D i ss (past x c) l []
-            (λ q m. unwritten-behind i q x ss tt (f q (omega (arith, m, o, y .order))))
-            (λ q m. last-behind i q x ss tt (g q (omega (arith, m, o, y .order)))))
+            (λ q m. unwritten-behind i q x ss tt (f q m)) (λ q m. last-behind i q x ss tt (g q m)))
             (hear-keeps h M D i (y .target) (y .gate) c (s .m, s .mask) v
-            (missed h M D i (y .target) ss (past x c) l [] (λ m. f 0 (omega (arith, m, o, y .order)) .0) (g 0 (omega (arith, up, o, y .order)) .0))) in (
+            (missed h M D i (y .target) ss (past x c) l [] (λ m. f 0 (omega (arith, m)) .0)
+            (g 0 (omega (arith, walk-up h M D i ss (past x c) l [])) .0))) in (
               ap (λ (a : Answer). at (a .state .m) i) e ∙ k .0,
               ap (λ (a : Answer). at (a .state .mask) i) e ∙ k .1,
             )

@@ -21,18 +21,11 @@ use Rattle.runs.specs.Runs.{Setting, staged, Spoken, Dealer, Side, going, world
 abbrev pub AllAdditive : List Order → Type 0
 AllAdditive os = (q : ℕ) → q < length os → Additive (order os q)
 
--- slot i is no order's target
-abbrev pub NoTarget : (job : List ℕ) (i : ℕ) → Type 0
-NoTarget job i = (q : ℕ) → q < length (orders job) → i ≢ order (orders job) q .target
-
--- of no order from order p up to order q, q not among them
-abbrev pub NoTargetBetween : (job : List ℕ) (p q i : ℕ) → Type 0
-NoTargetBetween job p q i = (n : ℕ) → p ≤ n → n < q → i ≢ order (orders job) n .target
-
--- the orders from order p up to order q, q among them, are of kinds 0 to 5, which have one gate and so keep no word
--- between gates
-abbrev pub PlainUpTo : (job : List ℕ) (p q : ℕ) → Type 0
-PlainUpTo job p q = (n : ℕ) → p ≤ n → n ≤ q → order (orders job) n .kind < 6
+-- the orders of a job from order p up to order q, q not among them, leave slot i: it is none of their targets; and if
+-- it is a kept word, they and order q are of kinds 0 to 5, which have one gate and so keep no word between gates
+pub record Leaves (job : List ℕ) (p q i : ℕ) : Type 0 where
+  pub target : (n : ℕ) → p ≤ n → n < q → i ≢ order (orders job) n .target
+  pub plain : 16 ≤ i → (n : ℕ) → p ≤ n → n ≤ q → order (orders job) n .kind < 6
 
 -- slot i holds in t the very words that it held in s, on both lanes of a host
 abbrev pub Keeps : (s t : Pair) (i : ℕ) → Type 0
@@ -41,6 +34,16 @@ Keeps s t i = (at (t .0) i ≡ at (s .0) i) × (at (t .1) i ≡ at (s .1) i)
 -- the lanes of a state: sixteen registers, and the kept words behind them
 abbrev pub lanes : State → Pair
 lanes s = (s .m, s .mask)
+
+-- the calls on a job
+abbrev pub prepares : (w : ℕ) (job table A B buf : List ℕ) → Pair → Prepared
+prepares w job table A B buf r = prepare (job-script w job table) A B buf r
+
+abbrev pub starts : (w h : ℕ) (job table M D : List ℕ) → Pair → Answer
+starts w h job table M D r = start (lent h (job-script w job table) M D) r
+
+abbrev pub hears : (w h : ℕ) (job table M D : List ℕ) → State → ℕ → Answer
+hears w h job table M D s v = hear (lent h (job-script w job table) M D) s v
 
 -- the job with one more order at its end
 abbrev pub with-order : (job : List ℕ) → Order → List ℕ
@@ -82,37 +85,51 @@ pub record Further (w : ℕ) (o : Order) (n : ℕ) (r r′ : Answer) : Type 0 wh
   pub at-end : r .state .order ≡ n → r′ ≡ and-then w o r
 
 pub record Additions (w : ℕ) : Type 0 where
-  -- ---- one order, behind a job of whatever orders
+  -- ---- one addition or subtraction, the last order of a job of whatever orders (as its only order: below)
 
   -- A call on the job with that order at its end answers what it answers on the job without; where it comes to that
   -- job's end, with the order done: of all registers and kept words the target's alone is another, the sum or
   -- difference of what its sources held, also where the target is one of them.
   pub preparing : (job table A B buf : List ℕ) (r : Pair) (o : Order) → Additive o
-      → prepare (job-script w job table) A B buf r .number ≡ 0
-      → prepare (job-script w (with-order job o) table) A B buf r .number ≡ 0
-      → prepare (job-script w (with-order job o) table) A B buf r
-      ≡ and-prepared w o (prepare (job-script w job table) A B buf r)
+      → prepares w job table A B buf r .number ≡ 0 → prepares w (with-order job o) table A B buf r .number ≡ 0
+      → prepares w (with-order job o) table A B buf r ≡ and-prepared w o (prepares w job table A B buf r)
   pub starting : (h : ℕ) (job table M D : List ℕ) (r : Pair) (o : Order) → Additive o
-      → start (lent h (job-script w job table) M D) r .number ≡ 0
-      → start (lent h (job-script w (with-order job o) table) M D) r .number ≡ 0
-      → Further w o (length (orders job)) (start (lent h (job-script w job table) M D) r)
-      (start (lent h (job-script w (with-order job o) table) M D) r)
+      → starts w h job table M D r .number ≡ 0 → starts w h (with-order job o) table M D r .number ≡ 0
+      → Further w o (length (orders job)) (starts w h job table M D r) (starts w h (with-order job o) table M D r)
   pub hearing : (h : ℕ) (job table M D : List ℕ) (s : State) (v : ℕ) (o : Order) → Additive o
-      → hear (lent h (job-script w job table) M D) s v .number ≡ 0
-      → hear (lent h (job-script w (with-order job o) table) M D) s v .number ≡ 0
-      → Further w o (length (orders job)) (hear (lent h (job-script w job table) M D) s v)
-      (hear (lent h (job-script w (with-order job o) table) M D) s v)
+      → hears w h job table M D s v .number ≡ 0 → hears w h (with-order job o) table M D s v .number ≡ 0
+      → Further w o (length (orders job)) (hears w h job table M D s v) (hears w h (with-order job o) table M D s v)
   -- what that says slot by slot: every slot but the target
   pub others : (o : Order) (s : Pair) (i : ℕ) → i ≢ o .target → Keeps s (added2 w o s) i
   -- and the target
   pub target : (o : Order) (s : Pair) → o .target < length (s .0) → o .target < length (s .1)
       → (at (added2 w o s .0) (o .target) ≡ added-word w o (s .0))
       × (at (added2 w o s .1) (o .target) ≡ added-word w o (s .1))
-  -- ---- a job of such orders, against what the host was given
+  -- ---- and anywhere in a job: whatever orders follow
+
+  -- Where a call on a job comes to its end, the same call on the job with more orders behind it leaves in every slot
+  -- what it held there, if the orders that it passes from there on leave the slot. (Host 0's call always comes to the
+  -- end, of sixteen registers alone.)
+  pub preparing-more : (job more table A B buf : List ℕ) (r : Pair) → prepares w job table A B buf r .number ≡ 0
+      → prepares w (job ++ more) table A B buf r .number ≡ 0 → (i : ℕ) → i < 16
+      → Leaves (job ++ more) (length (orders job)) (length (orders (job ++ more))) i
+      → Keeps (prepares w job table A B buf r .masks) (prepares w (job ++ more) table A B buf r .masks) i
+  pub starting-more : (h : ℕ) (job more table M D : List ℕ) (r : Pair) → starts w h job table M D r .number ≡ 0
+      → starts w h (job ++ more) table M D r .number ≡ 0
+      → starts w h job table M D r .state .order ≡ length (orders job) → (i : ℕ)
+      → Leaves (job ++ more) (length (orders job)) (starts w h (job ++ more) table M D r .state .order) i
+      → Keeps (lanes (starts w h job table M D r .state)) (lanes (starts w h (job ++ more) table M D r .state)) i
+  pub hearing-more : (h : ℕ) (job more table M D : List ℕ) (s : State) (v : ℕ)
+      → hears w h job table M D s v .number ≡ 0 → hears w h (job ++ more) table M D s v .number ≡ 0
+      → hears w h job table M D s v .state .order ≡ length (orders job) → (i : ℕ)
+      → Leaves (job ++ more) (length (orders job)) (hears w h (job ++ more) table M D s v .state .order) i
+      → Keeps (lanes (hears w h job table M D s v .state))
+      (lanes (hears w h (job ++ more) table M D s v .state)) i
+  -- ---- a job of such orders alone, against what the host was given
 
   pub prepared : (job table A B buf : List ℕ) (r : Pair) → AllAdditive (orders job)
-      → prepare (job-script w job table) A B buf r .number ≡ 0
-      → prepare (job-script w job table) A B buf r
+      → prepares w job table A B buf r .number ≡ 0
+      → prepares w job table A B buf r
       ≡ record {
         number = 0;
         index = 0;
@@ -122,8 +139,8 @@ pub record Additions (w : ℕ) : Type 0 where
       }
   -- it ends at once: no word is spoken
   pub started : (h : ℕ) (job table M D : List ℕ) (r : Pair) → AllAdditive (orders job)
-      → start (lent h (job-script w job table) M D) r .number ≡ 0
-      → start (lent h (job-script w job table) M D) r
+      → starts w h job table M D r .number ≡ 0
+      → starts w h job table M D r
       ≡ record {
         number = 0;
         index = 0;
@@ -139,40 +156,33 @@ pub record Additions (w : ℕ) : Type 0 where
       }
   -- every kept word stays the 0 that it was: no order's target lies behind the registers
   pub kept-words : (h : ℕ) (job table M D : List ℕ) (r : Pair) → AllAdditive (orders job)
-      → start (lent h (job-script w job table) M D) r .number ≡ 0
-      → length (r .0) ≡ 16 → length (r .1) ≡ 16 → (i : ℕ) → 16 ≤ i
-      → (at (start (lent h (job-script w job table) M D) r .state .m) i ≡ 0)
-      × (at (start (lent h (job-script w job table) M D) r .state .mask) i ≡ 0)
+      → starts w h job table M D r .number ≡ 0 → length (r .0) ≡ 16 → length (r .1) ≡ 16 → (i : ℕ) → 16 ≤ i
+      → (at (starts w h job table M D r .state .m) i ≡ 0) × (at (starts w h job table M D r .state .mask) i ≡ 0)
   -- ---- one call on a job of whatever orders, refused or not
 
-  -- "every other register keeps its share on each host": a register that no order has as its target, of host 0's two
-  -- masks
-  pub masks-kept : (job table A B buf : List ℕ) (r : Pair) (i : ℕ) → i < 16 → NoTarget job i
-      → Keeps r (prepare (job-script w job table) A B buf r .masks) i
-  -- and of m and the mask of host 1 or 2, from the registers that starting is given to the state that it returns, and
-  -- from the state that hearing is given, whatever it holds: a register that no order which the call passes has as its
-  -- target; every kept word too, where none of these orders and not the one where the call stops keeps words
+  -- "every other register keeps its share on each host": a register that the orders leave, of host 0's two masks
+  pub masks-kept : (job table A B buf : List ℕ) (r : Pair) (i : ℕ) → i < 16
+      → Leaves job 0 (length (orders job)) i → Keeps r (prepares w job table A B buf r .masks) i
+  -- and of m and the mask of host 1 or 2, a slot that the orders which the call passes leave: from the registers that
+  -- starting is given to the state that it returns, and from the state that hearing is given, whatever it holds
   pub registers-kept : (h : ℕ) (job table M D : List ℕ) (r : Pair) (i : ℕ)
-      → (16 ≤ i → PlainUpTo job 0 (start (lent h (job-script w job table) M D) r .state .order))
-      → NoTargetBetween job 0 (start (lent h (job-script w job table) M D) r .state .order) i
-      → Keeps r (lanes (start (lent h (job-script w job table) M D) r .state)) i
+      → Leaves job 0 (starts w h job table M D r .state .order) i
+      → Keeps r (lanes (starts w h job table M D r .state)) i
   pub state-kept : (h : ℕ) (job table M D : List ℕ) (s : State) (v i : ℕ)
-      → (16 ≤ i → PlainUpTo job (s .order) (hear (lent h (job-script w job table) M D) s v .state .order))
-      → NoTargetBetween job (s .order) (hear (lent h (job-script w job table) M D) s v .state .order) i
-      → Keeps (lanes s) (lanes (hear (lent h (job-script w job table) M D) s v .state)) i
-  -- ---- anywhere in the runs of such a job
+      → Leaves job (s .order) (hears w h job table M D s v .state .order) i
+      → Keeps (lanes s) (lanes (hears w h job table M D s v .state)) i
+  -- ---- from one state of a job's runs to another, over many calls
 
-  -- from one state that a call returned to another, not behind it: a register that no order from where the one stands
-  -- up to where the other stands has as its target, the order where the other stands not among them
+  -- not behind it: a register that the orders from where the one stands up to where the other stands leave
   pub between1 : (S : Setting) (cs cs′ : List Call) (z z′ : Dealer) (buf buf′ : List ℕ) (s s′ : State)
       (t t′ : List Pair) (said said′ : List Spoken) (two two′ : Side)
       → Run (staged w S) cs (world z buf (going s t said) two)
       → Run (staged w S) cs′ (world z′ buf′ (going s′ t′ said′) two′)
-      → s .order ≤ s′ .order → (i : ℕ) → i < 16 → NoTargetBetween (S .job) (s .order) (s′ .order) i
+      → s .order ≤ s′ .order → (i : ℕ) → i < 16 → Leaves (S .job) (s .order) (s′ .order) i
       → Keeps (lanes s) (lanes s′) i
   pub between2 : (S : Setting) (cs cs′ : List Call) (z z′ : Dealer) (buf buf′ : List ℕ) (one one′ : Side)
       (s s′ : State) (t t′ : List Pair) (said said′ : List Spoken)
       → Run (staged w S) cs (world z buf one (going s t said))
       → Run (staged w S) cs′ (world z′ buf′ one′ (going s′ t′ said′))
-      → s .order ≤ s′ .order → (i : ℕ) → i < 16 → NoTargetBetween (S .job) (s .order) (s′ .order) i
+      → s .order ≤ s′ .order → (i : ℕ) → i < 16 → Leaves (S .job) (s .order) (s′ .order) i
       → Keeps (lanes s) (lanes s′) i

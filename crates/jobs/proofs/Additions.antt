@@ -15,8 +15,7 @@ use Rattle.gates.specs.Hosts.{Pair}
 use Rattle.programs.specs.declared.Order.{Order}
 use Rattle.programs.specs.Orders.{kinds, program}
 use Rattle.jobs.specs.Job.{orders, two-sources, job-fault}
-use Rattle.jobs.specs.FirstFault.{order}
-use Rattle.jobs.specs.Additions.{Additive, added-word, added, added2, added-all}
+use Rattle.jobs.specs.Additions.{Additive, added-word, added, added2}
 use Rattle.jobs.proofs.Accepted.{Good, faultless-parts}
 use Rattle.jobs.proofs.Conditions.{sized}
 
@@ -49,16 +48,6 @@ module _ (w : ℕ) where
     getD-set-same (s .0) (o .target) (added-word w o (s .0)) 0 h,
     getD-set-same (s .1) (o .target) (added-word w o (s .1)) 0 k,
   )
-
-  -- of one order after another, every slot that is no order's target
-  pub untargeted-kept : (os : List Order) (s : Pair) (i : ℕ) → ((q : ℕ) → q < length os → i ≢ order os q .target)
-      → (at (added-all w os s .0) i ≡ at (s .0) i) × (at (added-all w os s .1) i ≡ at (s .1) i)
-  unfolding added-all
-  untargeted-kept [] s i n = (refl, refl)
-  untargeted-kept (o ∷ os) s i n =
-      let p = others-kept o s i (n 0 (omega arith)) in
-      let r = untargeted-kept os (added2 w o s) i (λ q h. n (suc q) (omega arith)) in
-      (r .0 ∙ p .0, r .1 ∙ p .1)
 
   -- an accepted order stays among the sixteen registers
   pub registers-added : (ruled : Bool) (o : Order) → Additive o → Good w ruled o → (l : Lane)
