@@ -41,12 +41,13 @@ static uint32_t preparing(struct list job, uint32_t v)
     return p.deals + p.l1[0] + p.l2[0];
 }
 
-/* the job is accepted, so that its work is what is measured */
-static int accepted(const uint32_t *job)
+/* the job is accepted, so that its work is what is measured; starting writes no list */
+static int accepted(const uint32_t *words)
 {
     uint32_t zeros[16] = {0};
-    return !prepare((struct list){job, 256}, table, (struct list){A, MOST_A}, (struct list){B, MOST_B}, D, MOST_DEALS,
-                    zeros, zeros).number;
+    struct list job = {words, 256}, deals = {D, MOST_DEALS};
+    struct lent one = {job, table, {A, MOST_A}, deals}, two = {job, table, {B, MOST_B}, deals};
+    return !start(1, &one, zeros, zeros).number && !start(2, &two, zeros, zeros).number;
 }
 
 static uint32_t starting(uint32_t host, struct list job, uint32_t v)

@@ -156,7 +156,8 @@ pub record Additions (w : ℕ) : Type 0 where
       }
   -- every kept word stays the 0 that it was: no order's target lies behind the registers
   pub kept-words : (h : ℕ) (job table M D : List ℕ) (r : Pair) → AllAdditive (orders job)
-      → starts w h job table M D r .number ≡ 0 → length (r .0) ≡ 16 → length (r .1) ≡ 16 → (i : ℕ) → 16 ≤ i
+      → starts w h job table M D r .number ≡ 0 → length (r .0) ≡ 16 → length (r .1) ≡ 16
+      → (i : ℕ) → 16 ≤ i
       → (at (starts w h job table M D r .state .m) i ≡ 0) × (at (starts w h job table M D r .state .mask) i ≡ 0)
   -- ---- one call on a job of whatever orders, refused or not
 
