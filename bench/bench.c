@@ -1,13 +1,13 @@
 /* Workloads over the engine in C. bench [-p] W S N: workload W on a job of S orders, N times, and a sum over what came
  * out, which the crate workloads prints too. bench [-p] rehearsal: the rehearsal program, lines of standard input.
- * -p: hears in place. Status 3: a job of theirs is refused. */
+ * -p: hears in place. Status 3: a job of theirs, or the day, is refused. */
 #include "engine.h"
 #include <stdio.h>
 #include <stdlib.h>
 #include <string.h>
 #include <unistd.h>
 
-static uint32_t A[MOST_A], B[MOST_B], D[MOST_DEALS], curves[256], sums[256];
+static uint32_t A[MOST_A], B[MOST_B], D[MOST_DEALS], curves[256], sums[256], shares[3][DAY_WORDS];
 static const struct list table = {house, 16};
 static int in_place;
 
@@ -39,6 +39,55 @@ static uint32_t preparing(struct list job, uint32_t v)
     uint32_t x[16] = {v}, y[16] = {v + 7};
     struct prepared p = prepare(job, table, (struct list){A, MOST_A}, (struct list){B, MOST_B}, D, MOST_DEALS, x, y);
     return p.deals + p.l1[0] + p.l2[0];
+}
+
+/* ---- the day: what hosts 1 and 2 are lent. Kept out of main, where gcc copies states by rep movs */
+
+#define DAY(host) {table, {shares[host], DAY_WORDS}, {host == 1 ? A : B, host == 1 ? MOST_A : MOST_B}, {D, MOST_DEALS}}
+static const struct day day1 = DAY(1), day2 = DAY(2);
+
+static void hear_in_day(struct answer *r, uint32_t host, uint32_t heard)
+{
+    const struct day *day = host == 1 ? &day1 : &day2;
+    if (in_place)
+        hear_day_at(r, host, day, heard);
+    else
+        *r = hear_day(r->state, host, day, heard);
+}
+
+static __attribute__((noinline)) uint32_t running_day(void)
+{
+    struct list a = {A, MOST_A}, b = {B, MOST_B};
+    struct prepared p = prepare_day(table, (struct list){shares[0], DAY_WORDS}, a, b, D, MOST_DEALS);
+    struct answer one = start_day(1, &day1), two = start_day(2, &day2);
+    while (one.state.order < DAY_END) {
+        uint32_t w1 = one.word, w2 = two.word;
+        hear_in_day(&one, 1, w2);
+        hear_in_day(&two, 2, w1);
+    }
+    return one.state.m[0] + one.state.m[1] + two.spoken + p.l1[0] + p.deals;
+}
+
+static void hear_in_job(struct answer *r, uint32_t heard)
+{
+    static const struct lent job = {{curves, 4}, table, {A, MOST_A}, {D, MOST_DEALS}};
+    if (in_place)
+        hear_at(r, 1, &job, heard);
+    else
+        *r = hear(r->state, 1, &job, heard);
+}
+
+/* host 1, in the middle of a curve: what does not hang on kept words, which the engines keep each in its own way */
+static __attribute__((noinline)) uint32_t hearing_in_curve(uint32_t quarter, uint32_t v)
+{
+    struct answer r = {.state.order = quarter == JOB_HEARING ? 0 : quarter, .state.turn = DAY_TURN};
+    for (int j = 0; j < 24; j++)
+        r.state.m[j] = v, r.state.l[j] = 7;
+    if (quarter == JOB_HEARING)
+        hear_in_job(&r, 5);
+    else
+        hear_in_day(&r, 1, 5);
+    return r.number * 65537 + r.spoken * 257 + r.state.order * 31 + r.state.turn + r.state.m[0];
 }
 
 /* the job is accepted, so that its work is what is measured; starting writes no list */
@@ -84,7 +133,7 @@ static uint32_t probing(uint32_t i)
     return (r.number + r.index * 1000) * 65537 + r.spoken * 257 + r.state.order * 31 + r.state.turn;
 }
 
-/* of curves 1 preparation, 2 and 3 starting hosts 1 and 2, 4 a run; of sums 5, 6, 7 likewise; 8 probing */
+/* of curves 1 preparation, 2 and 3 starting hosts 1 and 2, 4 a run; of sums 5, 6, 7 likewise; 8 probing; 9 a day */
 static uint32_t once(int w, size_t orders, uint32_t x)
 {
     struct list curve = {curves, 4 * orders}, sum = {sums, 4 * orders};
@@ -97,6 +146,7 @@ static uint32_t once(int w, size_t orders, uint32_t x)
     case 6: return starting(1, sum, x);
     case 7: return starting(2, sum, x);
     case 8: return probing(x);
+    case 9: return orders == WHOLE_DAY ? running_day() : hearing_in_curve((uint32_t)orders, x);
     }
     return 0;
 }
@@ -231,7 +281,8 @@ int main(int argc, char **argv)
     }
     if (argc != 4)
         return 2;
-    if (!accepted(curves) || !accepted(sums))
+    sample_day(shares);
+    if (!accepted(curves) || !accepted(sums) || start_day(1, &day1).number || start_day(2, &day2).number)
         return 3;
     uint32_t sum = 0;
     int w = atoi(argv[1]);

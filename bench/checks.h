@@ -1,11 +1,14 @@
-/* What every host does first: conditions 1 to 7 of document 01, and the counts before a place. The curve's slopes. */
+/* What every host does first: conditions 1 to 7 of document 01, 12 of R-3, and the counts before a place. The curve's
+ * slopes. */
 #ifndef CHECKS_H
 #define CHECKS_H
 #include "engine.h"
 
 typedef uint32_t u32;
 
-/* ---- checking: conditions 2 to 7 */
+enum { MEAN_FACTOR = 682, MEAN_SHIFT = 16 }; /* a day's mean: floor(682 * sum / 65536) */
+
+/* ---- checking: conditions 2 to 7 and 12 */
 
 struct cost { u32 deals, a, b; };
 
@@ -28,6 +31,16 @@ static inline int keeps_rules(struct list t)
     return 1;
 }
 
+/* Of a curve: a kind 9 for each row, and as much once more behind the truncation. */
+static inline struct cost exact_curve(u32 rows)
+{
+    return (struct cost){14 * rows + 30, 26 * rows + 54, 12 * rows + 24};
+}
+static inline struct cost one_bit_curve(u32 rows)
+{
+    return (struct cost){14 * rows + 17, 26 * rows + 31, 12 * rows + 14};
+}
+
 struct checked { u32 number, index; struct cost whole, before; };
 
 static inline __attribute__((always_inline)) struct checked check_job(struct list job, struct list table, u32 place)
@@ -35,9 +48,7 @@ static inline __attribute__((always_inline)) struct checked check_job(struct lis
     struct checked r = {0};
     if (job.n == 0 || job.n > 256 || job.n % 4)
         return (struct checked){.number = 2};
-    u32 rows = table.n / 2; /* a kind 9 for each, and as much once more behind the truncation */
-    struct cost curve[2] = {{14 * rows + 30, 26 * rows + 54, 12 * rows + 24},
-                            {14 * rows + 17, 26 * rows + 31, 12 * rows + 14}};
+    struct cost curve[2] = {exact_curve(table.n / 2), one_bit_curve(table.n / 2)};
     u32 deals = 0, a = 0, b = 0, i = 0, ruled = 0, fault;
     for (const u32 *o = job.at, *end = o + job.n; o < end; o += 4, i++) {
         u32 kind = o[0], fourth = o[3];
@@ -71,17 +82,48 @@ refused:
     return (struct checked){.number = fault, .index = i};
 }
 
+static inline struct cost plus(struct cost x, u32 times, struct cost y)
+{
+    return (struct cost){x.deals + times * y.deals, x.a + times * y.a, x.b + times * y.b};
+}
+
+/* A day is checked in the time of one curve: the counts before a quarter are so many times one quarter's. */
+static inline __attribute__((always_inline)) struct checked check_day(struct list table, struct list shares, u32 place)
+{
+    if (shares.n != DAY_WORDS)
+        return (struct checked){.number = 12};
+    if (!keeps_rules(table))
+        return (struct checked){.number = 5};
+    struct cost quarter = exact_curve(table.n / 2), none = {0, 0, 0};
+    return (struct checked){0, 0, plus(COST[8], QUARTERS, quarter), plus(none, place, quarter)};
+}
+
+/* Conditions 6 and 7 of host 1 or 2. */
+static inline void check_lists(struct checked *r, u32 host, struct list masks, struct list deals)
+{
+    if (r->number == 0) {
+        if (masks.n < (host == 1 ? r->whole.a : r->whole.b))
+            r->number = 6;
+        else if (host == 2 && deals.n < r->whole.deals)
+            r->number = 7;
+    }
+}
+
 static inline __attribute__((always_inline)) struct checked check_lent(u32 host, const struct lent *l, u32 place)
 {
     if (host != 1 && host != 2)
         return (struct checked){.number = 1};
     struct checked r = check_job(l->job, l->table, place);
-    if (r.number == 0) {
-        if (l->masks.n < (host == 1 ? r.whole.a : r.whole.b))
-            r.number = 6;
-        else if (host == 2 && l->deals.n < r.whole.deals)
-            r.number = 7;
-    }
+    check_lists(&r, host, l->masks, l->deals);
+    return r;
+}
+
+static inline __attribute__((always_inline)) struct checked check_lent_day(u32 host, const struct day *d, u32 place)
+{
+    if (host != 1 && host != 2)
+        return (struct checked){.number = 1};
+    struct checked r = check_day(d->table, d->shares, place);
+    check_lists(&r, host, d->masks, d->deals);
     return r;
 }
 

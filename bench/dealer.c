@@ -100,14 +100,23 @@ static struct pair one_bit(struct dealer *p, struct pair x, u32 k)
 
 /* R-1: a, the sign of last r - x, times the value plus 1 is taken off the value; what is known has no masks. Not
  * inline: in the loop over the orders it would slow the short kinds. */
-static __attribute__((noinline)) struct pair curve(struct dealer *p, struct pair x, u32 mode, struct list t)
+static __attribute__((noinline)) struct pair curve(struct dealer *p, struct pair x, u32 mode, struct list t,
+                                                   struct pair *above)
 {
     struct pair y = {0, 0}, v, a;
     for (u32 row = 0; row < t.n / 2; row++)
         y = padd(y, pscale(relu(p, x), change(t, row)));
     v = mode == 0 ? exact(p, y, 12) : one_bit(p, fresh(p), 12);
-    a = sign(p, pneg(x));
+    *above = a = sign(p, pneg(x));
     return psub(v, mul(p, a, v));
+}
+
+/* Conditions 6 and 7 behind what was checked before them. */
+static inline u32 check_room(struct checked c, struct list a, struct list b, size_t room)
+{
+    if (c.number)
+        return c.number;
+    return a.n < c.whole.a || b.n < c.whole.b ? 6 : room < c.whole.deals ? 7 : 0;
 }
 
 struct prepared prepare(struct list job, struct list table, struct list a, struct list b, u32 *deals, size_t room,
@@ -117,17 +126,15 @@ struct prepared prepare(struct list job, struct list table, struct list a, struc
     memcpy(r.l1, l1, 64);
     memcpy(r.l2, l2, 64);
     struct checked c = check_job(job, table, 0);
-    r.number = c.number;
+    r.number = check_room(c, a, b, room);
     r.index = c.index;
-    if (c.number == 0)
-        r.number = a.n < c.whole.a || b.n < c.whole.b ? 6 : room < c.whole.deals ? 7 : 0;
     if (r.number)
         return r;
     struct dealer p = {a.at, b.at, deals};
     for (u32 i = 0; i < job.n / 4; i++) {
         const u32 *o = job.at + 4 * i;
         u32 f = o[3];
-        struct pair x = {r.l1[o[2]], r.l2[o[2]]}, y = {r.l1[f & 15], r.l2[f & 15]}, v;
+        struct pair x = {r.l1[o[2]], r.l2[o[2]]}, y = {r.l1[f & 15], r.l2[f & 15]}, v, above;
         switch (o[0]) {
         case 0: v = padd(x, y); break;
         case 1: v = psub(x, y); break;
@@ -139,11 +146,30 @@ struct prepared prepare(struct list job, struct list table, struct list a, struc
         case 7: v = one_bit(&p, x, f); break;
         case 8: v = exact(&p, x, f); break;
         case 9: v = relu(&p, x); break;
-        default: v = curve(&p, x, f, table);
+        default: v = curve(&p, x, f, table, &above);
         }
         r.l1[o[1]] = v.l1;
         r.l2[o[1]] = v.l2;
     }
+    r.deals = (u32)(p.d - deals);
+    return r;
+}
+
+struct prepared prepare_day(struct list table, struct list shares, struct list a, struct list b, u32 *deals,
+                            size_t room)
+{
+    struct prepared r = {.number = check_room(check_day(table, shares, 0), a, b, room)};
+    if (r.number)
+        return r;
+    struct dealer p = {a.at, b.at, deals};
+    struct pair values = {0, 0}, count = {0, 0}, above;
+    for (const u32 *x = shares.at, *end = x + shares.n; x < end; x += 2) {
+        values = padd(values, curve(&p, (struct pair){x[0], x[1]}, 0, table, &above));
+        count = padd(count, above);
+    }
+    struct pair mean = exact(&p, pscale(values, MEAN_FACTOR), MEAN_SHIFT);
+    r.l1[0] = mean.l1, r.l2[0] = mean.l2;
+    r.l1[1] = count.l1, r.l2[1] = count.l2;
     r.deals = (u32)(p.d - deals);
     return r;
 }

@@ -1,11 +1,13 @@
-/* Document 01's engine, with R-1, written by hand in C: the same calls and obligations as the proved engine. */
+/* Document 01's engine, with, written by hand in C: the same calls and obligations as the proved engine. */
 #ifndef ENGINE_H
 #define ENGINE_H
 #include <stddef.h>
 #include <stdint.h>
 
-/* What the longest job needs: 64 exact curves on 16 rows. */
+/* What the longest job needs: 64 exact curves on 16 rows. A day on the house table needs less. */
 enum { MOST_A = 30080, MOST_B = 13824, MOST_DEALS = 16256 };
+
+enum { QUARTERS = 96, MEAN = QUARTERS, DAY_END, DAY_WORDS = 2 * QUARTERS }; /* a day's orders, and its list */
 
 /* Word j of the sample lists, from j = 1, is a multiple of these. */
 #define FACTOR_A 2654435769u
@@ -15,6 +17,7 @@ struct list { const uint32_t *at; size_t n; };
 
 /* What a host is lent at a call, afresh each time; host 2 alone uses the deals. */
 struct lent { struct list job, table, masks, deals; };
+struct day { struct list table, shares, masks, deals; };
 
 /* Registers 0 to 15, kept words behind them, and the place. */
 struct state { uint32_t m[24], l[24], order, turn; };
@@ -25,13 +28,33 @@ struct prepared { uint32_t number, index, deals, l1[16], l2[16]; };
 
 struct prepared prepare(struct list job, struct list table, struct list a, struct list b,
                         uint32_t *deals, size_t room, const uint32_t l1[16], const uint32_t l2[16]);
+struct prepared prepare_day(struct list table, struct list shares, struct list a, struct list b,
+                            uint32_t *deals, size_t room);
 
 /* By value, as document 01 has it ("passed by value"). */
 struct answer start(uint32_t host, const struct lent *lent, const uint32_t m[16], const uint32_t l[16]);
 struct answer hear(struct state s, uint32_t host, const struct lent *lent, uint32_t heard);
+struct answer start_day(uint32_t host, const struct day *day);
+struct answer hear_day(struct state s, uint32_t host, const struct day *day, uint32_t heard);
 
 /* The same on an answer that stays where it is: its state goes in and comes out. */
 void hear_at(struct answer *r, uint32_t host, const struct lent *lent, uint32_t heard);
+void hear_day_at(struct answer *r, uint32_t host, const struct day *day, uint32_t heard);
 
 extern const uint32_t house[16];
+
+/* Workload 9 of bench.c, library.c and the crate workloads: by S a whole day, the hearing of a job of one curve, or else
+ * one hearing in quarter S; both at this turn. */
+enum { WHOLE_DAY = DAY_END, JOB_HEARING, DAY_TURN = 60 };
+
+/* Its day, as each host's list: 40 times the quarter, so that the last ones are above the house table's last row. */
+static inline void sample_day(uint32_t shares[3][DAY_WORDS])
+{
+    for (uint32_t q = 0; q < QUARTERS; q++) {
+        uint32_t l1 = 3 * q + 1, l2 = 5 * q + 2, m = 40 * q + l1 + l2;
+        const uint32_t of[3][2] = {{l1, l2}, {m, l1}, {m, l2}};
+        for (int host = 0; host < 3; host++)
+            shares[host][2 * q] = of[host][0], shares[host][2 * q + 1] = of[host][1];
+    }
+}
 #endif

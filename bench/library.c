@@ -9,6 +9,7 @@
 struct job { const uint32_t *words; size_t n; };
 
 static uint32_t A[MOST_A], B[MOST_B], D[MOST_DEALS], curves[256], sums[256], table[LAMPHIEK_HOUSE_WORDS];
+static uint32_t shares[3][DAY_WORDS];
 
 #define JOB(job) (job).words, (job).n, table, LAMPHIEK_HOUSE_WORDS
 #define LENT_1(job) 1, JOB(job), A, MOST_A, D, MOST_DEALS
@@ -47,6 +48,34 @@ static uint32_t running(struct job job, uint32_t v)
     return s.m[0] + two.count + k.l1[0] + p.count;
 }
 
+#define DAY(host) table, LAMPHIEK_HOUSE_WORDS, shares[host], DAY_WORDS
+#define DAY_1 1, DAY(1), A, MOST_A, D, MOST_DEALS
+#define DAY_2 2, DAY(2), B, MOST_B, D, MOST_DEALS
+
+static uint32_t running_day(void)
+{
+    static lamphiek_masks k;
+    static lamphiek_state s, t;
+    lamphiek_answer p = lamphiek_day_prepare(&k, DAY(0), A, MOST_A, B, MOST_B, D, MOST_DEALS);
+    lamphiek_answer one = lamphiek_day_start(&s, DAY_1), two = lamphiek_day_start(&t, DAY_2);
+    while (s.order < DAY_END) {
+        uint32_t w1 = one.word, w2 = two.word;
+        one = lamphiek_day_hear(&s, DAY_1, w2);
+        two = lamphiek_day_hear(&t, DAY_2, w1);
+    }
+    return s.m[0] + s.m[1] + two.count + k.l1[0] + p.count;
+}
+
+static uint32_t hearing_in_curve(uint32_t quarter, uint32_t v)
+{
+    struct job curve = {curves, LAMPHIEK_ORDER_WORDS};
+    lamphiek_state s = {.order = quarter == JOB_HEARING ? 0 : quarter, .turn = DAY_TURN};
+    for (int j = 0; j < LAMPHIEK_LANE; j++)
+        s.m[j] = v, s.mask[j] = 7;
+    lamphiek_answer r = quarter == JOB_HEARING ? lamphiek_hear(&s, LENT_1(curve), 5) : lamphiek_day_hear(&s, DAY_1, 5);
+    return r.number * 65537 + r.count * 257 + s.order * 31 + s.turn + s.m[0];
+}
+
 static uint32_t once(int w, size_t orders, uint32_t x)
 {
     struct job curve = {curves, LAMPHIEK_ORDER_WORDS * orders}, sum = {sums, LAMPHIEK_ORDER_WORDS * orders};
@@ -58,6 +87,7 @@ static uint32_t once(int w, size_t orders, uint32_t x)
     case 5: return preparing(sum, x);
     case 6: return starting(1, sum, x);
     case 7: return starting(2, sum, x);
+    case 9: return orders == WHOLE_DAY ? running_day() : hearing_in_curve((uint32_t)orders, x);
     }
     return 0;
 }
@@ -74,6 +104,7 @@ int main(int argc, char **argv)
         memcpy(sums + 4 * i, (const uint32_t[4]){i % 2 ? LAMPHIEK_SUBTRACT : LAMPHIEK_ADD, (i + i / 8) % 16, i % 16,
                                                  (14 * i + 2) % 16}, 16);
     }
+    sample_day(shares);
     if (argc != 4)
         return 2;
     uint32_t sum = 0;

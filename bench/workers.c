@@ -1,133 +1,7 @@
 /* Hosts 1 and 2: a switch over kind and turn, no gate interpreter. Hearing finds its place from (order, turn),
  * conditions 8 and 9, and works its own word out again. */
-#include "gates.h"
+#include "turns.h"
 #include <string.h>
-
-/* kept words: m xor n, P and G of the adder; a bit made a number; the sign's factor, 1 - s of ReLU and a of the curve's
- * end; the truncation's sum; the curve's sum, then what its truncation gives */
-enum { FIRST = 16, PP, GG, BIT, FACTOR, SUM, CURVE };
-
-/* the adder's ten products: turns 0 to 9 */
-
-static inline void adder_begin(struct state *s, struct walk *w, u32 m)
-{
-    struct share p = {m, deal(w)};
-    put(s, FIRST, p);
-    put(s, PP, p);
-}
-
-static inline u32 adder_word(const struct state *s, const struct walk *w, u32 turn)
-{
-    struct share p = get(s, PP);
-    if (turn == 0)
-        return and_known(w, p);
-    return and_word(w, p, up(turn % 2 ? get(s, GG) : p, 1u << (turn - 1) / 2));
-}
-
-static inline void adder_heard(struct state *s, u32 turn, struct share v)
-{
-    if (turn == 0)
-        put(s, GG, v);
-    else if (turn % 2)
-        put(s, GG, xor(get(s, GG), v));
-    else
-        put(s, PP, v);
-}
-
-static inline struct share number(const struct state *s, struct share product)
-{
-    return sub(get(s, BIT), scale(product, 2));
-}
-static inline void bit_begin(struct state *s, struct walk *w, struct share q)
-{
-    put(s, BIT, (struct share){q.m, deal(w)});
-}
-
-/* a sign s made a number, and a product of x with its factor: turns 0 to 11; heard gives 1 where v is the product */
-
-enum factor { ONE_LESS_SIGN, SIGN }; /* ReLU's, and that of the curve's end */
-
-static inline u32 sign_word(const struct state *s, const struct walk *w, struct share x, u32 turn)
-{
-    if (turn < 10)
-        return adder_word(s, w, turn);
-    return turn == 10 ? mul_known(w, get(s, BIT)) : mul_word(w, x, get(s, FACTOR));
-}
-
-static inline int sign_heard(struct state *s, struct walk *w, enum factor f, u32 turn, struct share v)
-{
-    if (turn < 10) {
-        adder_heard(s, turn, v);
-        if (turn == 9)
-            bit_begin(s, w, xor(bit(get(s, FIRST), 31), bit(get(s, GG), 30)));
-        return 0;
-    }
-    if (turn == 10) {
-        struct share sign = number(s, v);
-        put(s, FACTOR, f == SIGN ? sign : (struct share){1 - sign.m, 0 - sign.l});
-        return 0;
-    }
-    return 1;
-}
-
-/* exact truncation, turns 0 to 11 */
-
-static inline void exact_begin(struct state *s, struct walk *w, struct share x, u32 k)
-{
-    u32 m = x.m + 0x80000000;
-    put(s, SUM, (struct share){m >> k, deal(w)});
-    adder_begin(s, w, m);
-}
-
-static inline u32 exact_word(const struct state *s, const struct walk *w, u32 turn)
-{
-    return turn < 10 ? adder_word(s, w, turn) : mul_known(w, get(s, BIT));
-}
-
-static inline int exact_heard(struct state *s, struct walk *w, u32 k, u32 turn, struct share *v)
-{
-    if (turn < 10) {
-        adder_heard(s, turn, *v);
-        if (turn == 9)
-            bit_begin(s, w, bit(get(s, GG), k - 1));
-        return 0;
-    }
-    struct share b = number(s, *v), sum = get(s, SUM);
-    if (turn == 10) {
-        put(s, SUM, add(sum, b));
-        bit_begin(s, w, bit(get(s, GG), 31));
-        return 0;
-    }
-    *v = sub(sum, scale(b, 2u << (31 - k)));
-    v->m -= 1u << (31 - k);
-    return 1;
-}
-
-/* one-bit truncation, turn 0 */
-
-static inline void one_bit_begin(struct state *s, struct walk *w, struct share x, u32 k)
-{
-    u32 m = x.m + 0x40000000;
-    put(s, SUM, (struct share){(m >> k) & ((1u << (31 - k)) - 1), 0 - deal(w)});
-    put(s, BIT, (struct share){m >> 31, deal(w)});
-}
-
-static inline struct share one_bit_end(const struct state *s, u32 k, struct share v)
-{
-    struct share r = add(get(s, SUM), scale(number(s, v), 1u << (31 - k)));
-    r.m -= 1u << (30 - k);
-    return r;
-}
-
-/* the curve: a row's ReLU of x - r, the truncation of the sum, and behind it (R-1) the value less a times the value
- * plus 1, a the sign of last r - x */
-
-static inline struct share row_source(const struct state *s, const u32 *o, struct list t, u32 row)
-{
-    struct share x = get(s, o[2]);
-    x.m -= t.at[2 * row];
-    return x;
-}
 
 /* Runs from the beginning of an order to the first product or refresh, or to the end. */
 static inline void run(struct answer *r, struct walk *w, const struct lent *lent)
@@ -150,10 +24,7 @@ static inline void run(struct answer *r, struct walk *w, const struct lent *lent
         case 7: one_bit_begin(s, w, x, c); r->word = mul_known(w, get(s, BIT)); break;
         case 8: exact_begin(s, w, x, c); r->word = adder_word(s, w, 0); break;
         case 9: adder_begin(s, w, x.m); r->word = adder_word(s, w, 0); break;
-        default:
-            put(s, CURVE, (struct share){4096 * lent->table.at[1], 0});
-            adder_begin(s, w, x.m - lent->table.at[0]);
-            r->word = adder_word(s, w, 0);
+        default: curve_begin(s, w, x, lent->table); r->word = adder_word(s, w, 0);
         }
         r->spoken = w->b + 1;
         return;
@@ -176,128 +47,6 @@ struct answer start(u32 host, const struct lent *lent, const u32 m[16], const u3
     struct walk w = {host, lent->masks.at, lent->deals.at, 0, 0, 0};
     run(&r, &w, lent);
     return r;
-}
-
-/* Words of A, and deals, before a turn of kind 9 (a sign and a product) and of kind 8. */
-static inline void sign_place(struct walk *w, u32 turn)
-{
-    w->a += turn < 10 ? 1 + 2 * turn : 2 * turn + 2;
-    w->k += turn < 10 ? 1 + turn : turn + 2;
-}
-
-static inline void exact_place(struct walk *w, u32 turn)
-{
-    w->a += turn < 10 ? 2 + 2 * turn : turn == 10 ? 23 : 26;
-    w->k += turn < 10 ? 2 + turn : turn == 10 ? 13 : 15;
-}
-
-static inline int said(struct answer *r, const struct walk *w, u32 word)
-{
-    r->state.turn++;
-    r->word = word;
-    r->spoken = w->b + 1;
-    return 0;
-}
-
-/* A turn of kind 8 or 9 (of a curve, too): 1 where it was the last one, with the result in v. */
-static inline __attribute__((always_inline)) int sign_turn(struct answer *r, struct walk *w, struct share x,
-                             enum factor f, u32 turn, u32 heard, struct share *v)
-{
-    struct state *s = &r->state;
-    sign_place(w, turn);
-    u32 own = sign_word(s, w, x, turn);
-    *v = met(w, turn < 10 ? own ^ heard : own + heard);
-    if (sign_heard(s, w, f, turn, *v))
-        return 1;
-    return said(r, w, sign_word(s, w, x, turn + 1));
-}
-
-static inline __attribute__((always_inline)) int exact_turn(struct answer *r, struct walk *w, u32 k,
-                             u32 turn, u32 heard, struct share *v)
-{
-    struct state *s = &r->state;
-    exact_place(w, turn);
-    u32 own = exact_word(s, w, turn);
-    *v = met(w, turn < 10 ? own ^ heard : own + heard);
-    if (exact_heard(s, w, k, turn, v))
-        return 1;
-    return said(r, w, exact_word(s, w, turn + 1));
-}
-
-static inline int one_bit_turn(struct answer *r, struct walk *w, u32 k, u32 heard, struct share *v)
-{
-    w->a += 2;
-    w->k += 2;
-    *v = one_bit_end(&r->state, k, met(w, mul_known(w, get(&r->state, BIT)) + heard));
-    return 1;
-}
-
-/* A turn of the curve's rows; behind the last of them the truncation begins. */
-static inline __attribute__((always_inline)) int row_turn(struct answer *r, struct walk *w, const u32 *o,
-                    struct list t, u32 turn, u32 heard)
-{
-    struct state *s = &r->state;
-    struct share v;
-    u32 row = turn / 12;
-    w->a += 26 * row;
-    w->k += 14 * row;
-    if (!sign_turn(r, w, row_source(s, o, t, row), ONE_LESS_SIGN, turn % 12, heard, &v))
-        return 0;
-    struct share sum = add(get(s, CURVE), scale(v, change(t, row)));
-    put(s, CURVE, sum);
-    if (2 * ++row < t.n) {
-        adder_begin(s, w, row_source(s, o, t, row).m);
-        return said(r, w, adder_word(s, w, 0));
-    }
-    if (o[3])
-        return said(r, w, refresh_word(w, sum));
-    exact_begin(s, w, sum, 12);
-    return said(r, w, adder_word(s, w, 0));
-}
-
-/* A turn of its truncation, or of the refresh before that; behind it the value is kept, and the sign's adder begins. */
-static inline __attribute__((always_inline)) int curve_truncation_turn(struct answer *r, struct walk *w, const u32 *o,
-                    struct list t, u32 turn, u32 heard)
-{
-    struct state *s = &r->state;
-    struct share v;
-    if (o[3] == 0) {
-        if (!exact_turn(r, w, 12, turn, heard, &v))
-            return 0;
-    } else if (turn == 0) {
-        v = (struct share){refresh_word(w, get(s, CURVE)) + heard, refresh_mask(w)};
-        past_refresh(w);
-        one_bit_begin(s, w, v, 12);
-        return said(r, w, mul_known(w, get(s, BIT)));
-    } else {
-        w->a++;
-        one_bit_turn(r, w, 12, heard, &v);
-    }
-    put(s, CURVE, v);
-    adder_begin(s, w, t.at[t.n - 2] - get(s, o[2]).m);
-    return said(r, w, adder_word(s, w, 0));
-}
-
-/* A turn of a curve: 1 where it was the last one, with the result in v. */
-static inline __attribute__((always_inline)) int curve_turn(struct answer *r, struct walk *w, const u32 *o,
-                    struct list t, u32 turn, u32 heard, struct share *v)
-{
-    u32 rows = t.n / 2;
-    if (turn < 12 * rows)
-        return row_turn(r, w, o, t, turn, heard);
-    w->a += 26 * rows;
-    w->k += 14 * rows;
-    turn -= 12 * rows;
-    u32 truncated = o[3] ? 2 : 12;
-    if (turn < truncated)
-        return curve_truncation_turn(r, w, o, t, turn, heard);
-    w->a += o[3] ? 5 : 28;
-    w->k += o[3] ? 3 : 16;
-    struct share value = get(&r->state, CURVE), over = {value.m + 1, value.l};
-    if (!sign_turn(r, w, over, SIGN, turn - truncated, heard, v))
-        return 0;
-    *v = sub(value, *v);
-    return 1;
 }
 
 static inline u32 turns(const u32 *o, struct list t)
@@ -337,7 +86,7 @@ static inline __attribute__((always_inline)) void hear_in(struct answer *r, u32 
     case 7: done = one_bit_turn(r, &w, o[3], heard, &v); break;
     case 8: done = exact_turn(r, &w, o[3], turn, heard, &v); break;
     case 9: done = sign_turn(r, &w, get(s, o[2]), ONE_LESS_SIGN, turn, heard, &v); break;
-    default: done = curve_turn(r, &w, o, lent->table, turn, heard, &v);
+    default: done = curve_turn(r, &w, get(s, o[2]), o[3], lent->table, turn, heard, &v);
     }
     if (done) {
         put(s, o[1], v);
@@ -355,3 +104,75 @@ struct answer hear(struct state s, u32 host, const struct lent *lent, u32 heard)
 }
 
 void hear_at(struct answer *r, u32 host, const struct lent *lent, u32 heard) { hear_in(r, host, lent, heard); }
+
+/* ---- the day: a quarter is an exact curve of its lent share, the mean a kind 8 of the sum in register 0 */
+
+static inline struct share quarter(const struct day *d, u32 q)
+{
+    return (struct share){d->shares.at[2 * q], d->shares.at[2 * q + 1]};
+}
+
+/* Runs from the beginning of an order to its first product, or stands at the end. */
+static inline void run_day(struct answer *r, struct walk *w, const struct day *d)
+{
+    struct state *s = &r->state;
+    s->turn = 0;
+    r->word = 0;
+    r->spoken = w->b;
+    if (s->order == DAY_END)
+        return;
+    if (s->order < MEAN)
+        curve_begin(s, w, quarter(d, s->order), d->table);
+    else
+        exact_begin(s, w, scale(get(s, 0), MEAN_FACTOR), MEAN_SHIFT);
+    r->word = adder_word(s, w, 0);
+    r->spoken++;
+}
+
+struct answer start_day(u32 host, const struct day *d)
+{
+    struct answer r = {0};
+    r.number = check_lent_day(host, d, 0).number;
+    if (r.number)
+        return r;
+    struct walk w = {host, d->masks.at, d->deals.at, 0, 0, 0};
+    run_day(&r, &w, d);
+    return r;
+}
+
+static inline __attribute__((always_inline)) void hear_day_in(struct answer *r, u32 host, const struct day *d,
+                    u32 heard)
+{
+    struct state *s = &r->state;
+    u32 order = s->order, turn = s->turn, turns = order < MEAN ? exact_curve(d->table.n / 2).b : COST[8].b;
+    struct checked c = check_lent_day(host, d, order);
+    r->number = c.number;
+    r->index = r->spoken = r->word = 0;
+    if (c.number == 0 && (order > MEAN || turn >= turns))
+        r->number = order == DAY_END && turn == 0 ? 9 : 8;
+    if (r->number)
+        return;
+    struct walk w = {host, d->masks.at, d->deals.at, c.before.a, c.before.b + turn, c.before.deals};
+    struct share v;
+    if (order < MEAN) {
+        if (!curve_turn(r, &w, quarter(d, order), 0, d->table, turn, heard, &v))
+            return;
+        put(s, 1, add(get(s, 1), get(s, FACTOR)));
+        v = add(get(s, 0), v);
+    } else if (!exact_turn(r, &w, MEAN_SHIFT, turn, heard, &v)) {
+        return;
+    }
+    put(s, 0, v);
+    s->order++;
+    run_day(r, &w, d);
+}
+
+struct answer hear_day(struct state s, u32 host, const struct day *d, u32 heard)
+{
+    struct answer r;
+    r.state = s;
+    hear_day_in(&r, host, d, heard);
+    return r;
+}
+
+void hear_day_at(struct answer *r, u32 host, const struct day *d, u32 heard) { hear_day_in(r, host, d, heard); }

@@ -1,4 +1,4 @@
-"""Lamphiek from Python: the nine calls, and a reading through the three hosts in one process, as one_process.c.
+"""Lamphiek from Python: the twelve calls, and a reading through the three hosts in one process, as one_process.c.
 
     lamphiek.py E|S READING [LIBRARY]
 
@@ -15,6 +15,7 @@ from ctypes import POINTER, c_int64, c_size_t, c_uint32
 RANGE = 11  # the number of a reading that is out of range
 CURVE, EXACT, ONE_BIT = 10, 0, 1
 HOUSE_WORDS, REGISTERS, LANE = 16, 16, 24
+QUARTERS, DAY_WORDS = 96, 192
 
 
 class DealerShare(ctypes.Structure):
@@ -50,9 +51,10 @@ class Refused(Exception):
 
 
 def load(path):
-    """The library with its nine calls declared as in lamphiek.h. A list is a pointer and its count of words."""
+    """The library with its twelve calls declared as in lamphiek.h. A list is a pointer and its count of words."""
     words = [POINTER(c_uint32), c_size_t]
     job = words + words  # the job and its table
+    day = words + words  # the table and the host's shares
     calls = {
         "split": (c_uint32, [c_int64, c_uint32, c_uint32, POINTER(Shares)]),
         "open": (c_uint32, [POINTER(Shares), POINTER(c_int64)]),
@@ -63,6 +65,9 @@ def load(path):
         "prepare": (Answer, [POINTER(Masks)] + job + words + words + words),
         "start": (Answer, [POINTER(State), c_uint32] + job + words + words),
         "hear": (Answer, [POINTER(State), c_uint32] + job + words + words + [c_uint32]),
+        "day_prepare": (Answer, [POINTER(Masks)] + day + words + words + words),
+        "day_start": (Answer, [POINTER(State), c_uint32] + day + words + words),
+        "day_hear": (Answer, [POINTER(State), c_uint32] + day + words + words + [c_uint32]),
     }
     library = ctypes.CDLL(os.path.abspath(path))
     for name, (result, arguments) in calls.items():

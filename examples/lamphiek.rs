@@ -1,4 +1,5 @@
-//! Lamphiek from Rust: the nine calls, and a reading through the three hosts in one process, as one_process.c.
+//! Lamphiek from Rust: the nine calls that are not of a day, and a reading through the three hosts in one process, as
+//! one_process.c.
 //!
 //!     rustc -L target/staticlib -o target/from_rust examples/lamphiek.rs && target/from_rust E 202
 use std::process::ExitCode;

@@ -1,10 +1,10 @@
-/* Lamphiek: a masked calibration engine for three hosts (docs/01-scope.md, and of docs/02-change-requests.md R-1), for
- * C11, C++11 and later.
+/* Lamphiek: a masked calibration engine for three hosts (docs/01-scope.md, and of docs/02-change-requests.md R-1, R-2
+ * and R-3), for C11, C++11 and later.
  *
  * No call allocates, blocks, or keeps anything between calls: what a call reads and writes is lent to it for that call
  * alone. Words are uint32_t, and arithmetic on them is modulo 2^32.
  *
- * Each call but lamphiek_house gives document 01's number: 0 for none, or the first condition that it meets, in
+ * Each call but lamphiek_house gives the documents' number: 0 for none, or the first condition that it meets, in
  * checking order (lamphiek_unused_a and _b write it). A call that is refused leaves what it was lent as it was, but for
  * that number.
  *
@@ -18,8 +18,8 @@
  *     but what they only read may run at once.
  *
  * What the three hosts owe for the plant room to open the value that is defined, and no call can check:
- *   - before a job all sixteen registers open: zero shares, shares of a split reading, or what an earlier job left that
- *     both workers brought to its end;
+ *   - before a job all sixteen registers open: zero shares, shares of a split reading, or what an earlier job or day
+ *     left that both workers brought to its end;
  *   - every call of the job is lent the same job, table and mask lists, and host 2 the deals that host 0's preparation
  *     wrote, unaltered;
  *   - host 0 completes one preparation, hosts 1 and 2 each one start, host 2 after the preparation. A refused call has
@@ -29,10 +29,15 @@
  *   - the plant room opens the three hosts' words of a register when both workers are at the end: from its preparation
  *     on, host 0 holds the masks of the end.
  *
- * What they owe for nobody to learn a reading: every mask word is drawn at random and used once, for one split or one
- * job, also where a job broke off.
+ * For a day (R-3) they owe the same, but for the job and the registers, of which it has none: every call of a host is
+ * lent the same 96 shares, its own of the readings that were split, quarter by quarter. The plant room then opens
+ * registers 0 and 1. A state does not say whether it is a job's or a day's: it goes on with the calls that began it.
  *
- * The library is built for x86-64 Linux. Its calls need less than 2,048 bytes of stack.
+ * What they owe for nobody to learn a reading: every mask word is drawn at random and used once, for one split, one job
+ * or one day, also where a job or a day broke off.
+ *
+ * The library is built for x86-64 Linux. Its calls need less than 2,048 bytes of stack, beside what memcpy needs; where
+ * that is bound lazily, the call that first comes to it needs more.
  */
 #ifndef LAMPHIEK_H
 #define LAMPHIEK_H
@@ -47,21 +52,22 @@ extern "C" {
 #define LAMPHIEK_ASSERT(test) _Static_assert(test, #test)
 #endif
 
-/* ---- the numbers: document 01, "Turned down, in checking order" */
+/* ---- the numbers: document 01, "Turned down, in checking order"; 12 is a day's alone, checked directly after 1 */
 enum {
     LAMPHIEK_OK = 0,           /* completed */
     LAMPHIEK_NO_HOST = 1,      /* starting or hearing names a host other than 1 or 2 */
     LAMPHIEK_JOB_SIZE = 2,     /* the job has no words, more than 256, or a number of words not divisible by 4 */
     LAMPHIEK_KIND = 3,         /* an order's kind is above 10 */
     LAMPHIEK_REGISTER = 4,     /* a target or source is above 15 */
-    LAMPHIEK_FOURTH = 5,       /* a shift or mode is outside its range, a word due to be 0 is not 0, or a curve's table
-                                  breaks its rules */
-    LAMPHIEK_SHORT_MASKS = 6,  /* a mask list that this host uses is shorter than the job needs */
-    LAMPHIEK_SHORT_DEALS = 7,  /* the deal list or deal buffer is shorter than the job's deals */
-    LAMPHIEK_PLACE = 8,        /* the state's place is neither the end nor a product or refresh of this job */
+    LAMPHIEK_FOURTH = 5,       /* a shift or mode is outside its range, a word due to be 0 is not 0, or the table of a
+                                  curve or a day breaks its rules */
+    LAMPHIEK_SHORT_MASKS = 6,  /* a mask list that this host uses is shorter than the job, or the day, needs */
+    LAMPHIEK_SHORT_DEALS = 7,  /* the deal list or deal buffer is shorter than the deals of the job or the day */
+    LAMPHIEK_PLACE = 8,        /* the state's place is neither the end nor a product or refresh of the job or the day */
     LAMPHIEK_END = 9,          /* hearing is called at the end */
     LAMPHIEK_DISAGREE = 10,    /* the opened shares disagree in L1, in L2 or in m */
-    LAMPHIEK_RANGE = 11        /* a reading to be split is outside -2^30 to 2^30 - 1 */
+    LAMPHIEK_RANGE = 11,       /* a reading to be split is outside -2^30 to 2^30 - 1 */
+    LAMPHIEK_DAY_LIST = 12     /* the day list is not of 96 shares: 192 words */
 };
 
 /* ---- a job: 1 to 64 orders of four words, kind, target, first source and fourth word; registers are 0 to 15 */
@@ -76,9 +82,9 @@ enum {
     LAMPHIEK_ONE_BIT = 7,        /* the shift, 1 to 30 */
     LAMPHIEK_EXACT = 8,          /* the shift, 1 to 31 */
     LAMPHIEK_RELU = 9,           /* 0 */
-    LAMPHIEK_CURVE = 10          /* the mode. Above the table's last count it opens -1, no reading (R-1). Where a
-                                    table's values fall to 0 it may open -1 too; not where they never fall, or are
-                                    all at least 1. Later orders compute with -1 as with any number */
+    LAMPHIEK_CURVE = 10          /* the mode. Above the table's last count the order opens -1, no reading (R-1).
+                                    Where a table's values fall to 0 it may open -1 too; not where they never fall,
+                                    or are all at least 1. Later orders compute with -1 as with any number */
 };
 
 enum { LAMPHIEK_MODE_EXACT = 0, LAMPHIEK_MODE_ONE_BIT = 1 };
@@ -90,7 +96,9 @@ enum {
                                   and micrograms per litre, 0 to 20000 */
     LAMPHIEK_HOUSE_WORDS = 16, /* of the house table */
     LAMPHIEK_REGISTERS = 16,
-    LAMPHIEK_LANE = 24         /* the registers, and 8 kept words behind them */
+    LAMPHIEK_LANE = 24,        /* the registers, and 8 kept words behind them */
+    LAMPHIEK_QUARTERS = 96,    /* of a day */
+    LAMPHIEK_DAY_WORDS = 192   /* of a host's day list, exactly */
 };
 
 /* ---- what is lent */
@@ -119,7 +127,8 @@ typedef struct {
     uint32_t l1[LAMPHIEK_REGISTERS], l2[LAMPHIEK_REGISTERS];
 } lamphiek_masks;
 
-/* Host 1 or 2: in each lane its registers, then its kept words; and its place (at the end: number of orders, and 0). */
+/* Host 1 or 2: in each lane its registers, then its kept words; and its place (at the end: number of orders, and 0). In
+ * a day the order is the quarter from 0, then 96 for the mean, and the end is 97 and 0. */
 typedef struct {
     uint32_t m[LAMPHIEK_LANE], mask[LAMPHIEK_LANE];
     uint32_t order, turn;
@@ -147,7 +156,8 @@ LAMPHIEK_ASSERT(sizeof(lamphiek_answer) == 4 * sizeof(uint32_t));
  * Gives 0 or 11. */
 uint32_t lamphiek_split(int64_t reading, uint32_t l1, uint32_t l2, lamphiek_shares *shares);
 
-/* ---- plant room: opens six words. Writes the value; of a curve -1 is no reading (LAMPHIEK_CURVE). Gives 0 or 10. */
+/* ---- plant room: opens six words. Writes the value; of a curve order -1 is no reading (LAMPHIEK_CURVE); a day's
+ * mean has no such mark. Gives 0 or 10. */
 uint32_t lamphiek_open(const lamphiek_shares *shares, int64_t *value);
 
 /* ---- anybody: checks a job with its table (which only curves use). Writes the job's counts. Numbers 2 to 5. */
@@ -184,6 +194,32 @@ lamphiek_answer lamphiek_start(lamphiek_state *state, uint32_t host, const uint3
 lamphiek_answer lamphiek_hear(lamphiek_state *state, uint32_t host, const uint32_t *job, size_t job_words,
                               const uint32_t *table, size_t table_words, const uint32_t *masks, size_t masks_words,
                               const uint32_t *deals, size_t deals_words, uint32_t heard);
+
+/* ---- a day (R-3): 96 quarter-hour readings, each split. The curve in exact mode on each, in day order; then the mean,
+ * the sum of the values times 682, truncated exactly by 16: floor(682 * sum / 65536), a little low, for 682 * 96 is
+ * 65472 (96 quarters of 4249 open 4244). A quarter above the table's last count enters the sum as -1 and is counted.
+ * There is no job, and registers start at zero: as a quarter ends, register 0 gets the sum (at the end the mean) and
+ * register 1 the count. That count alone says whether readings are missing: with some the mean need not be -1, and
+ * where a table's values fall to 0 it may be -1 with none.
+ *
+ * shares: the host's 96 shares in day order, two words each: host 0 l1, l2; hosts 1 and 2 m, l. A day uses what 96
+ * exact curves and one LAMPHIEK_EXACT use (lamphiek_check counts either): on the house table 13,648 deals, 23,064 words
+ * spoken, 25,180 words of list A and 11,532 of list B. lamphiek_unused_a and _b have no form for a day: the words that
+ * it leaves are those behind these counts. The index is always 0. */
+
+/* Host 0: prepares a day, as lamphiek_prepare a job. The masks are only written. Numbers 12, then 5 to 7. */
+lamphiek_answer lamphiek_day_prepare(lamphiek_masks *masks, const uint32_t *table, size_t table_words,
+                                     const uint32_t *shares, size_t shares_words, const uint32_t *a, size_t a_words,
+                                     const uint32_t *b, size_t b_words, uint32_t *deals, size_t deals_words);
+
+/* Hosts 1 and 2: as lamphiek_start and lamphiek_hear, word and count too; the end is order 97. Starting only writes the
+ * state. Numbers 1, 12, then 5 to 7; hearing also 8 and 9. */
+lamphiek_answer lamphiek_day_start(lamphiek_state *state, uint32_t host, const uint32_t *table, size_t table_words,
+                                   const uint32_t *shares, size_t shares_words, const uint32_t *masks,
+                                   size_t masks_words, const uint32_t *deals, size_t deals_words);
+lamphiek_answer lamphiek_day_hear(lamphiek_state *state, uint32_t host, const uint32_t *table, size_t table_words,
+                                  const uint32_t *shares, size_t shares_words, const uint32_t *masks,
+                                  size_t masks_words, const uint32_t *deals, size_t deals_words, uint32_t heard);
 
 #undef LAMPHIEK_ASSERT
 #ifdef __cplusplus

@@ -1,64 +1,46 @@
-/* Every number of document 01 by every call that can give it. All that a refused call is lent stands on pages that
- * cannot be written (but for the number of unused masks), and every list that is only read ends where a page ends
- * behind which nothing can be read: a store, or a read too far, ends the program. */
+/* Every number of document 01 and of R-3 by every call that can give it. All that a refused call is lent stands on
+ * pages that cannot be written (but for the number of unused masks), and every list that is only read ends where a page
+ * ends behind which nothing can be read: a store, or a read too far, ends the program. */
 #define _GNU_SOURCE
+#include "border.h"
 #include <stdio.h>
 #include <string.h>
 #include <sys/mman.h>
 #include <unistd.h>
 
-#include "lamphiek.h"
+enum { PAGE = 4096, NUMBERS = 13 };
 
-enum { A_WORDS = 262, B_WORDS = 120, DEALS = 142 }; /* an exact curve on the house table */
-enum { PAGE = 4096, PLACES = 8 };
-enum call { SPLIT, OPEN, CHECK, UNUSED_A, UNUSED_B, PREPARE, START, HEAR, CALLS };
+/* The numbers that each must give here: bit n for number n. */
+static const struct {
+    const char *name;
+    uint32_t gives;
+} CALL[CALLS] = {{"split", 0x0800},   {"open", 0x0400},        {"check", 0x003c},     {"unused_a", 0x007c},
+                 {"unused_b", 0x007c}, {"prepare", 0x00fc},     {"start", 0x00fe},     {"hear", 0x03fe},
+                 {"day_prepare", 0x10e0}, {"day_start", 0x10e2}, {"day_hear", 0x13e2}};
+static unsigned reached[CALLS][NUMBERS], failed;
 
-static const char *const NAMES[CALLS] = {"split", "open", "check", "unused_a", "unused_b", "prepare", "start", "hear"};
-static const struct { uint32_t first, last; } GIVES[CALLS] = {{11, 11}, {10, 10}, {2, 5}, {2, 6},
-                                                              {2, 6},   {2, 7},   {1, 7}, {1, 9}};
-static unsigned reached[CALLS][12], failed;
+const struct sealed *sealed;
 
-/* What refused calls are lent to write: read only. */
-static const struct sealed {
-    lamphiek_shares shares;
-    int64_t value;
-    lamphiek_counts counts;
-    lamphiek_masks masks;
-    lamphiek_state state, end, elsewhere[PLACES];
-    uint32_t deals[DEALS];
-} *sealed;
-
-#define WRITABLE(type, place) ((type *)(uintptr_t)&sealed->place)
-
-struct list { const uint32_t *at; size_t n; };
-
-/* What calls are lent to read. */
-struct given { struct list job, table, a, b, deals; };
-
-#define LIST(l) (l).at, (l).n
 #define TASK(g) LIST((g).job), LIST((g).table)
-#define HOST(g, host) host, TASK(g), LIST((host) == 1 ? (g).a : (g).b), LIST((g).deals)
+#define HOST(g, host) host, TASK(g), LISTS(g, host)
 
-static void expect(int holds, const char *what, int line)
+void expect(int holds, const char *file, int line, const char *what)
 {
     if (!holds) {
-        printf("border.c:%d: not so: %s\n", line, what);
+        printf("%s:%d: not so: %s\n", file, line, what);
         failed++;
     }
 }
-#define EXPECT(test) expect(test, #test, __LINE__)
 
-static void is(enum call call, lamphiek_answer r, uint32_t number, uint32_t index, int line)
+void is(enum call call, lamphiek_answer r, uint32_t number, uint32_t index, const char *file, int line)
 {
     if (r.number != number || r.index != index || r.count || r.word) {
-        printf("border.c:%d: %s gave %u %u %u %u, not %u %u 0 0\n", line, NAMES[call], r.number, r.index, r.count,
+        printf("%s:%d: %s gave %u %u %u %u, not %u %u 0 0\n", file, line, CALL[call].name, r.number, r.index, r.count,
                r.word, number, index);
         failed++;
     }
     reached[call][number]++;
 }
-#define IS(call, answer, number, index) is(call, answer, number, index, __LINE__)
-#define BARE(number) ((lamphiek_answer){number, 0, 0, 0})
 
 /* ---- pages */
 
@@ -80,21 +62,19 @@ static void protect(void *at, size_t bytes, int how)
     }
 }
 
-/* A page that ends with these n words and cannot be written, behind which nothing can be read. */
-static struct list fenced(const uint32_t *words, size_t n)
+struct list fenced(const uint32_t *words, size_t n)
 {
-    char *at = pages(2 * PAGE);
-    uint32_t *list = (uint32_t *)(void *)(at + PAGE) - n;
+    size_t room = (n * sizeof *words + PAGE) / PAGE * PAGE;
+    char *at = pages(room + PAGE);
+    uint32_t *list = (uint32_t *)(void *)(at + room) - n;
     if (words)
         memcpy(list, words, n * sizeof *words);
-    protect(at, PAGE, PROT_READ);
-    protect(at + PAGE, PAGE, PROT_NONE);
+    protect(at, room, PROT_READ);
+    protect(at + room, PAGE, PROT_NONE);
     return (struct list){list, n};
 }
 
-static const struct list NONE = {NULL, 0};
-
-static struct list shorter(struct list l)
+struct list shorter(struct list l)
 {
     return (struct list){l.at + 1, l.n - 1};
 }
@@ -170,7 +150,9 @@ static void refuse_hosts(struct given g)
 /* Lists one word short, or of no words; the shorter mask list comes before the shorter deals. */
 static void refuse_lists(struct given g)
 {
-    struct given less = {g.job, g.table, shorter(g.a), shorter(g.b), g.deals}, fewer = g, none = g;
+    struct given less = g, fewer = g, none = g;
+    less.a = shorter(g.a);
+    less.b = shorter(g.b);
     fewer.deals = shorter(g.deals);
     none.deals = NONE;
     lamphiek_masks *k = WRITABLE(lamphiek_masks, masks);
@@ -244,6 +226,7 @@ static void seal(void)
         s->elsewhere[i].order = places[i][0];
         s->elsewhere[i].turn = places[i][1];
     }
+    seal_days(s);
     protect(s, sizeof *s, PROT_READ);
     sealed = s;
 }
@@ -253,7 +236,7 @@ int main(void)
     static const uint32_t order[4] = {LAMPHIEK_CURVE, 0, 0, LAMPHIEK_MODE_EXACT};
     uint32_t rows[LAMPHIEK_HOUSE_WORDS] = {0};
     lamphiek_house(rows);
-    struct given g = {fenced(order, 4), fenced(rows, LAMPHIEK_HOUSE_WORDS), fenced(NULL, A_WORDS),
+    struct given g = {fenced(order, 4),       NONE, fenced(rows, LAMPHIEK_HOUSE_WORDS), fenced(NULL, A_WORDS),
                       fenced(NULL, B_WORDS), fenced(NULL, DEALS)};
     seal();
     refuse_jobs(g);
@@ -263,10 +246,12 @@ int main(void)
     refuse_places(g);
     refuse_readings();
     complete(g);
+    refuse_days(g.table);
+    complete_day(g.table);
     for (int call = 0; call < CALLS; call++)
-        for (uint32_t n = GIVES[call].first; n <= GIVES[call].last; n++)
-            if (!reached[call][n]) {
-                printf("border.c: %s never gave %u\n", NAMES[call], n);
+        for (uint32_t n = 0; n < NUMBERS; n++)
+            if (CALL[call].gives >> n & 1 && !reached[call][n]) {
+                printf("border.c: %s never gave %u\n", CALL[call].name, n);
                 failed++;
             }
     return failed != 0;

@@ -2,7 +2,30 @@
  * declared; the structs' fields lie where the calls read and write them. */
 #include "lamphiek.h"
 
-static const uint32_t job[LAMPHIEK_ORDER_WORDS] = {LAMPHIEK_ADD, 1, 2, 3};
+enum { DAY_A = 10204, DAY_B = 4620, DAY_DEALS = 5584 }; /* a day's needs on two rows */
+
+static const uint32_t job[LAMPHIEK_ORDER_WORDS] = {LAMPHIEK_ADD, 1, 2, 3}, rows[4] = {1, 0, 2, 0};
+static uint32_t shares[LAMPHIEK_DAY_WORDS], masks_list[DAY_A], deals[DAY_DEALS];
+
+#define DAY rows, 4, shares, LAMPHIEK_DAY_WORDS
+
+static int bad_day(void)
+{
+    lamphiek_masks masks = {{0}, {0}};
+    lamphiek_state state = {{0}, {0}, 0, 0};
+    lamphiek_answer r;
+    masks.l2[15] = state.m[0] = state.order = 7;
+    r = lamphiek_day_prepare(&masks, DAY, masks_list, DAY_A, masks_list, DAY_B, deals, DAY_DEALS);
+    int bad = r.number != LAMPHIEK_OK || r.count != DAY_DEALS || masks.l2[15] != 0;
+    r = lamphiek_day_prepare(&masks, rows, 4, shares, 191, masks_list, DAY_A, masks_list, DAY_B, deals, DAY_DEALS);
+    bad |= r.number != LAMPHIEK_DAY_LIST || LAMPHIEK_DAY_WORDS != 2 * LAMPHIEK_QUARTERS;
+    r = lamphiek_day_start(&state, 2, DAY, masks_list, DAY_B, deals, DAY_DEALS);
+    bad |= r.number != LAMPHIEK_OK || r.count != 1 || state.m[0] != 0 || state.order != 0 || state.turn != 0;
+    r = lamphiek_day_hear(&state, 2, DAY, masks_list, DAY_B, deals, DAY_DEALS, 1);
+    bad |= r.number != LAMPHIEK_OK || r.count != 2 || state.order != 0 || state.turn != 1;
+    state.order = LAMPHIEK_QUARTERS + 1, state.turn = 0;
+    return bad | (lamphiek_day_hear(&state, 1, DAY, masks_list, DAY_A, NULL, 0, 1).number != LAMPHIEK_END);
+}
 
 int main(void)
 {
@@ -25,5 +48,5 @@ int main(void)
     bad |= lamphiek_start(&state, 1, job, LAMPHIEK_ORDER_WORDS, NULL, 0, NULL, 0, NULL, 0).number != LAMPHIEK_OK;
     bad |= masks.l2[1] != 9 || state.m[1] != 40 || state.mask[1] != 2 || state.order != 1 || state.turn != 0;
     bad |= lamphiek_hear(&state, 2, job, LAMPHIEK_ORDER_WORDS, NULL, 0, NULL, 0, NULL, 0, 1).number != LAMPHIEK_END;
-    return bad;
+    return bad | bad_day();
 }

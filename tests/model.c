@@ -1,5 +1,5 @@
-/* The nine calls over bench/: preparation, starting and hearing are its engine's, the others are written here from
- * document 01. Nothing here calls the library. */
+/* The twelve calls over bench/: preparation, starting and hearing, of a job and of a day, are its engine's, the others
+ * are written here from document 01. Nothing here calls the library. */
 #include "model.h"
 #include "checks.h"
 #include <string.h>
@@ -62,6 +62,16 @@ void model_house(uint32_t table[LAMPHIEK_HOUSE_WORDS]) { memcpy(table, house, si
 
 /* ---- the hosts */
 
+/* Writes the masks back, if the call was not refused. */
+static lamphiek_answer prepared(lamphiek_masks *masks, const struct prepared *p)
+{
+    if (p->number == 0) {
+        memcpy(masks->l1, p->l1, sizeof p->l1);
+        memcpy(masks->l2, p->l2, sizeof p->l2);
+    }
+    return (lamphiek_answer){p->number, p->index, p->deals, 0};
+}
+
 lamphiek_answer model_prepare(lamphiek_masks *masks, const uint32_t *job, size_t job_words, const uint32_t *table,
                               size_t table_words, const uint32_t *a, size_t a_words, const uint32_t *b,
                               size_t b_words, uint32_t *deals, size_t deals_words)
@@ -69,11 +79,16 @@ lamphiek_answer model_prepare(lamphiek_masks *masks, const uint32_t *job, size_t
     struct prepared p = prepare((struct list){job, job_words}, (struct list){table, table_words},
                                 (struct list){a, a_words}, (struct list){b, b_words}, deals, deals_words,
                                 masks->l1, masks->l2);
-    if (p.number == 0) {
-        memcpy(masks->l1, p.l1, sizeof p.l1);
-        memcpy(masks->l2, p.l2, sizeof p.l2);
-    }
-    return (lamphiek_answer){p.number, p.index, p.deals, 0};
+    return prepared(masks, &p);
+}
+
+/* What a hearing begins with. */
+static struct answer held(const lamphiek_state *state)
+{
+    struct answer r = {.state.order = state->order, .state.turn = state->turn};
+    memcpy(r.state.m, state->m, sizeof state->m);
+    memcpy(r.state.l, state->mask, sizeof state->mask);
+    return r;
 }
 
 /* Writes the state back, if the call was not refused. */
@@ -102,9 +117,37 @@ lamphiek_answer model_hear(lamphiek_state *state, uint32_t host, const uint32_t 
                            const uint32_t *deals, size_t deals_words, uint32_t heard)
 {
     struct lent lent = {{job, job_words}, {table, table_words}, {masks, masks_words}, {deals, deals_words}};
-    struct answer r = {.state.order = state->order, .state.turn = state->turn};
-    memcpy(r.state.m, state->m, sizeof state->m);
-    memcpy(r.state.l, state->mask, sizeof state->mask);
+    struct answer r = held(state);
     hear_at(&r, host, &lent, heard);
+    return told(state, &r);
+}
+
+/* ---- a day */
+
+lamphiek_answer model_day_prepare(lamphiek_masks *masks, const uint32_t *table, size_t table_words,
+                                  const uint32_t *shares, size_t shares_words, const uint32_t *a, size_t a_words,
+                                  const uint32_t *b, size_t b_words, uint32_t *deals, size_t deals_words)
+{
+    struct prepared p = prepare_day((struct list){table, table_words}, (struct list){shares, shares_words},
+                                    (struct list){a, a_words}, (struct list){b, b_words}, deals, deals_words);
+    return prepared(masks, &p);
+}
+
+lamphiek_answer model_day_start(lamphiek_state *state, uint32_t host, const uint32_t *table, size_t table_words,
+                                const uint32_t *shares, size_t shares_words, const uint32_t *masks,
+                                size_t masks_words, const uint32_t *deals, size_t deals_words)
+{
+    struct day day = {{table, table_words}, {shares, shares_words}, {masks, masks_words}, {deals, deals_words}};
+    struct answer r = start_day(host, &day);
+    return told(state, &r);
+}
+
+lamphiek_answer model_day_hear(lamphiek_state *state, uint32_t host, const uint32_t *table, size_t table_words,
+                               const uint32_t *shares, size_t shares_words, const uint32_t *masks, size_t masks_words,
+                               const uint32_t *deals, size_t deals_words, uint32_t heard)
+{
+    struct day day = {{table, table_words}, {shares, shares_words}, {masks, masks_words}, {deals, deals_words}};
+    struct answer r = held(state);
+    hear_day_at(&r, host, &day, heard);
     return told(state, &r);
 }

@@ -21,6 +21,9 @@ extern __typeof__(lamphiek_house) model_house;
 extern __typeof__(lamphiek_prepare) model_prepare;
 extern __typeof__(lamphiek_start) model_start;
 extern __typeof__(lamphiek_hear) model_hear;
+extern __typeof__(lamphiek_day_prepare) model_day_prepare;
+extern __typeof__(lamphiek_day_start) model_day_start;
+extern __typeof__(lamphiek_day_hear) model_day_hear;
 
 #ifdef LAMPHIEK_MODEL
 #define lamphiek_split model_split
@@ -32,5 +35,8 @@ extern __typeof__(lamphiek_hear) model_hear;
 #define lamphiek_prepare model_prepare
 #define lamphiek_start model_start
 #define lamphiek_hear model_hear
+#define lamphiek_day_prepare model_day_prepare
+#define lamphiek_day_start model_day_start
+#define lamphiek_day_hear model_day_hear
 #endif
 #endif

@@ -1,18 +1,18 @@
 /* random [CALLS [SEED]]: the library held to the model (model.h) on calls at random, the same ones at every time. Ends
  * after the round that reaches CALLS calls; each number comes only after some tens of thousands.
  *
- * First lists of 2^32 words and a run of the largest job; then rounds: splitting and opening; calls on accepted and
- * damaged jobs, tables and lists, and on forged states; a host alone that hears words at random from its start to its
- * end; and whole runs of three hosts, whose registers are opened and held to plain arithmetic too. On the way of a run
- * calls are made on copies of a host's state that a run does not make: refused ones, other places, other registers,
- * other words. */
+ * First lists of 2^32 words, a run of the largest job and the largest day; then rounds: splitting and opening; calls on
+ * accepted and damaged jobs, tables and lists, and on forged states; a host alone that hears words at random from its
+ * start to its end; and whole runs of three hosts, whose registers are opened and held to plain arithmetic too. On the
+ * way of a run calls are made on copies of a host's state that a run does not make: refused ones, other places, other
+ * registers, other words. Now and then the same with a day in a job's place (random_day.c). */
 #include "random.h"
 #include <inttypes.h>
 #include <stdio.h>
 #include <stdlib.h>
 #include <string.h>
 
-static const uint64_t CALLS_DEFAULT = 3000000, SEED_DEFAULT = 1;
+static const uint64_t CALLS_DEFAULT = 3600000, SEED_DEFAULT = 1;
 
 static uint64_t runs, values_held[OR_ONE_MORE + 1];
 
@@ -184,6 +184,8 @@ static bool round_of_long_lists(void)
                 both_hear(&h, number, &l, draw(), GENUINE);
         }
     }
+    if (all.n)
+        round_of_long_days(all);
     return all.n > 0;
 }
 
@@ -265,6 +267,18 @@ static void round_of_three_hosts(struct lent lent)
     runs++;
 }
 
+/* Days are longer than jobs, so fewer of them are tried. */
+static void round_of_days(void)
+{
+    uint32_t which = below(100);
+    if (which < 50)
+        round_of_day_damage();
+    else if (which < 98)
+        round_of_hops();
+    else
+        round_of_whole_day(2 + below(7));
+}
+
 /* Argument i as a number, or `otherwise` where it is not given. */
 static uint64_t argument(int argc, char **argv, int i, uint64_t otherwise)
 {
@@ -286,7 +300,10 @@ int main(int argc, char **argv)
     if (!round_of_long_lists())
         puts("random: no room for lists of 2^32 words, which were not tried");
     round_of_three_hosts(make_largest());
+    round_of_whole_day(LAMPHIEK_TABLE_WORDS / 2);
     while (calls_made() < most) {
+        if (chance(1))
+            round_of_days();
         uint32_t which = below(100);
         if (which < 20)
             round_of_readings();
@@ -297,10 +314,11 @@ int main(int argc, char **argv)
         else
             round_of_three_hosts(make_lent(false));
     }
-    bool all = numbers_came() && values_held[THIS] && values_held[OR_ONE_MORE];
+    bool all = numbers_came() && values_held[THIS] && values_held[OR_ONE_MORE] && days_held() > 1;
     printf("whole runs: %" PRIu64 "; registers that they wrote, opened and as by plain arithmetic: %" PRIu64
            ", or one more: %" PRIu64 ", not known by it: %" PRIu64 "\n",
            runs, values_held[THIS], values_held[OR_ONE_MORE], values_held[UNKNOWN]);
+    printf("whole days, opened and as by plain arithmetic: %" PRIu64 "\n", days_held());
     if (!all) {
         puts("random: a number that a call can give never came, or one came that it cannot give, or no value was held");
         return 1;

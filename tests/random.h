@@ -1,5 +1,5 @@
 /* The parts of the random test: what is drawn and lent (random_make.c), each call made on the library and on the model
- * (random_both.c), and what plain arithmetic says (random_plain.c). */
+ * (random_both.c), days (random_day.c), and what plain arithmetic says (random_plain.c). */
 #ifndef RANDOM_H
 #define RANDOM_H
 #include "model.h"
@@ -10,9 +10,9 @@ struct words {
     size_t n;
 };
 
-/* What a call is lent; a host uses one of the mask lists. */
+/* What a call is lent; a host uses one of the mask lists, and of a day its own list of shares. */
 struct lent {
-    struct words job, table, a, b, deals;
+    struct words job, table, a, b, deals, shares[3];
 };
 
 /* A host's state on either side. */
@@ -37,6 +37,8 @@ enum room {
     ROOM_OTHER_TABLE,
     ROOM_A,
     ROOM_B,
+    ROOM_SHARES, /* of a day: hosts 0, 1 and 2 */
+    ROOM_OTHER_SHARES = ROOM_SHARES + 3,
     ROOM_DEALS, /* which preparation alone writes; those before it are only read */
     ROOM_DEALS_MODEL,
     ROOMS
@@ -48,13 +50,13 @@ struct words lend(enum room room, const uint32_t *from, size_t n);
 /* Remembers what a room holds now, and says whether it still does. */
 void remember(enum room room);
 bool unchanged(enum room room);
-/* A list of 2^32 words and four, of which the first four are an order and also two rows; none where the machine does
- * not grant it. */
+/* A list of 2^32 words and four, of which the first four are an order and also two rows, and as many words behind it as
+ * a day's list has; none where the machine does not grant it. */
 struct words long_list(void);
 /* The words of a room: a list in it with what lies before and behind. */
 struct words whole_room(enum room room);
 
-enum { ORDERS = 64, JOB_MOST = 260, TABLE_MOST = 34, KINDS = 11 };
+enum { ORDERS = 64, JOB_MOST = 260, TABLE_MOST = 34, KINDS = 11, DAY_MOST = 2 * LAMPHIEK_DAY_WORDS };
 
 /* How often an order speaks (each host). */
 uint32_t turns(const uint32_t *order, struct words table);
@@ -73,6 +75,9 @@ int64_t make_count(struct words table);
 struct lent make_lent(bool damaged);
 /* The job that needs most: 64 exact curves on 16 rows. */
 struct lent make_largest(void);
+/* So many rows that keep the rules, and lists that cover such needs. */
+size_t make_rows(uint32_t *table, uint32_t rows);
+void lend_lists(struct lent *l, const lamphiek_counts *need);
 /* A list one word short, or none; and the same lists with a mask list or the deals cut so. */
 struct words cut(struct words w);
 struct lent cut_one(struct lent l);
@@ -94,6 +99,9 @@ void both_house(uint32_t table[LAMPHIEK_HOUSE_WORDS]);
 lamphiek_answer both_prepare(lamphiek_masks *masks, const struct lent *l);
 lamphiek_answer both_start(struct host *h, uint32_t number, const struct lent *l);
 lamphiek_answer both_hear(struct host *h, uint32_t number, const struct lent *l, uint32_t heard, enum kept kept);
+lamphiek_answer both_day_prepare(lamphiek_masks *masks, const struct lent *l);
+lamphiek_answer both_day_start(struct host *h, uint32_t number, const struct lent *l);
+lamphiek_answer both_day_hear(struct host *h, uint32_t number, const struct lent *l, uint32_t heard, enum kept kept);
 
 void begin(uint64_t seed_given);
 uint64_t calls_made(void);
@@ -101,6 +109,18 @@ uint64_t calls_made(void);
 bool numbers_came(void);
 /* Ends the program where the test itself finds something else than it must. */
 void fail(const char *what);
+
+/* ---- random_day.c */
+
+void round_of_day_damage(void);
+/* Such a list in the place of each that a day is lent. */
+void round_of_long_days(struct words all);
+/* A host alone, up to the end, which goes from quarter to quarter at will. */
+void round_of_hops(void);
+/* A day of three hosts on a table of so many rows. */
+void round_of_whole_day(uint32_t rows);
+/* How often a whole day opened as by plain arithmetic. */
+uint64_t days_held(void);
 
 /* ---- random_plain.c */
 
@@ -118,4 +138,6 @@ int64_t signed_reading(int64_t v);
 bool in_range(int64_t x);
 /* What the registers open after an accepted job. */
 void plain_job(struct value r[LAMPHIEK_REGISTERS], struct words job, struct words table);
+/* What registers 0 and 1 open after a day of these values. */
+void plain_day(const int64_t x[LAMPHIEK_QUARTERS], struct words table, int64_t *mean, int64_t *above);
 #endif

@@ -8,11 +8,12 @@
  *     keeps what it needs in its own way, so each gets back its own (document 01 says nothing about how they lie). What
  *     they are worth is seen in the words spoken and the registers written later, which are compared;
  *   - a starting or hearing that is not refused is made once more on the library, the starting on other kept words and
- *     another place: all of the state as before, but for kept words at the end, which are free;
+ *     another place, a day's on other registers too: all of the state as before, but for kept words at the end, which
+ *     are free;
  *   - a hearing on forged kept words, the same on both sides: what depends on them is not compared. At a product or a
  *     refresh of its own (kinds 4, 5) that is nothing, so all is compared as above. Inside kinds 7 to 10 it is the word
  *     given, and the registers that the order's result reaches; number, index, count, place and the other registers are
- *     compared. */
+ *     compared. In a day, whose quarters begin with what is lent, also the word that the next quarter begins with. */
 #include "random_call.h"
 #include <string.h>
 
@@ -92,22 +93,51 @@ static struct words model_buffer(struct words deals)
     return (struct words){deals.n ? model.at + (deals.at - library.at) : deals.at, deals.n};
 }
 
-lamphiek_answer both_prepare(lamphiek_masks *masks, const struct lent *l)
+static bool is_day(void) { return now.call == DAY_PREPARE || now.call == DAY_START || now.call == DAY_HEAR; }
+
+/* The calls of one side, of a job and of a day. */
+static const struct side {
+    __typeof__(lamphiek_prepare) *prepare;
+    __typeof__(lamphiek_start) *start;
+    __typeof__(lamphiek_hear) *hear;
+    __typeof__(lamphiek_day_prepare) *day_prepare;
+    __typeof__(lamphiek_day_start) *day_start;
+    __typeof__(lamphiek_day_hear) *day_hear;
+} LIBRARY = {lamphiek_prepare,     lamphiek_start,     lamphiek_hear,
+             lamphiek_day_prepare, lamphiek_day_start, lamphiek_day_hear},
+  MODEL = {model_prepare, model_start, model_hear, model_day_prepare, model_day_start, model_day_hear};
+
+static lamphiek_answer prepare_by(const struct side *by, lamphiek_masks *masks, const struct lent *l, struct words d)
+{
+    struct words shares = l->shares[0];
+    if (is_day())
+        return by->day_prepare(masks, l->table.at, l->table.n, shares.at, shares.n, l->a.at, l->a.n, l->b.at, l->b.n,
+                               d.at, d.n);
+    return by->prepare(masks, l->job.at, l->job.n, l->table.at, l->table.n, l->a.at, l->a.n, l->b.at, l->b.n, d.at,
+                       d.n);
+}
+
+static lamphiek_answer both_prepare_of(enum call call, lamphiek_masks *masks, const struct lent *l)
 {
     struct words d = l->deals, other = model_buffer(d), room = whole_room(ROOM_DEALS);
-    call_begins(PREPARE, l);
+    call_begins(call, l);
     now.before.of.masks = *masks;
     lend_frames();
-    now.answers[0] = lamphiek_prepare(&now.library.of.masks, l->job.at, l->job.n, l->table.at, l->table.n, l->a.at,
-                                      l->a.n, l->b.at, l->b.n, d.at, d.n);
-    now.answers[1] = model_prepare(&now.model.of.masks, l->job.at, l->job.n, l->table.at, l->table.n, l->a.at,
-                                   l->a.n, l->b.at, l->b.n, other.at, other.n);
+    now.answers[0] = prepare_by(&LIBRARY, &now.library.of.masks, l, d);
+    now.answers[1] = prepare_by(&MODEL, &now.model.of.masks, l, other);
     *masks = now.library.of.masks;
     uint32_t number = written_alike();
     same(!memcmp(room.at, whole_room(ROOM_DEALS_MODEL).at, room.n * sizeof(uint32_t)), "the deal buffers differ");
     same(number == 0 || unchanged(ROOM_DEALS), "deals written though refused");
     remember(ROOM_DEALS);
     return now.answers[0];
+}
+
+lamphiek_answer both_prepare(lamphiek_masks *masks, const struct lent *l) { return both_prepare_of(PREPARE, masks, l); }
+
+lamphiek_answer both_day_prepare(lamphiek_masks *masks, const struct lent *l)
+{
+    return both_prepare_of(DAY_PREPARE, masks, l);
 }
 
 /* Whether the states agree in their place, and in the registers that are not among these (bit i for register i). */
@@ -128,31 +158,40 @@ static bool same_guards(void)
 
 static struct words masks_of(uint32_t number, const struct lent *l) { return number == 2 ? l->b : l->a; }
 
-static lamphiek_answer start_by(__typeof__(lamphiek_start) *start, lamphiek_state *s, const struct lent *l)
+static struct words shares_of(uint32_t number, const struct lent *l) { return l->shares[number == 2 ? 2 : 1]; }
+
+static lamphiek_answer start_by(const struct side *by, lamphiek_state *s, const struct lent *l)
 {
-    struct words masks = masks_of(now.host, l);
-    return start(s, now.host, l->job.at, l->job.n, l->table.at, l->table.n, masks.at, masks.n, l->deals.at,
-                 l->deals.n);
+    struct words masks = masks_of(now.host, l), shares = shares_of(now.host, l);
+    if (is_day())
+        return by->day_start(s, now.host, l->table.at, l->table.n, shares.at, shares.n, masks.at, masks.n, l->deals.at,
+                             l->deals.n);
+    return by->start(s, now.host, l->job.at, l->job.n, l->table.at, l->table.n, masks.at, masks.n, l->deals.at,
+                     l->deals.n);
 }
 
-static lamphiek_answer hear_by(__typeof__(lamphiek_hear) *hear, lamphiek_state *s, const struct lent *l)
+static lamphiek_answer hear_by(const struct side *by, lamphiek_state *s, const struct lent *l)
 {
-    struct words masks = masks_of(now.host, l);
-    return hear(s, now.host, l->job.at, l->job.n, l->table.at, l->table.n, masks.at, masks.n, l->deals.at, l->deals.n,
-                now.heard);
+    struct words masks = masks_of(now.host, l), shares = shares_of(now.host, l);
+    if (is_day())
+        return by->day_hear(s, now.host, l->table.at, l->table.n, shares.at, shares.n, masks.at, masks.n, l->deals.at,
+                            l->deals.n, now.heard);
+    return by->hear(s, now.host, l->job.at, l->job.n, l->table.at, l->table.n, masks.at, masks.n, l->deals.at,
+                    l->deals.n, now.heard);
 }
 
-/* The library's call made once more, on its own words or, for a starting, on other kept words and another place: these
- * make no difference, and nothing that is not lent does. */
+/* The library's call made once more, on its own words or, for a starting, on other kept words and another place, for a
+ * day's on other registers too: these make no difference, and nothing that is not lent does. */
 static void again(const struct lent *l)
 {
     lamphiek_state s = now.before.of.state, first = now.library.of.state;
-    bool starts = now.call == START, ended = first.order == l->job.n / 4;
-    for (int i = LAMPHIEK_REGISTERS; i < LAMPHIEK_LANE && starts; i++)
+    bool starts = now.call == START || now.call == DAY_START;
+    bool ended = first.order == (is_day() ? LAMPHIEK_QUARTERS + 1 : l->job.n / 4);
+    for (int i = is_day() ? 0 : LAMPHIEK_REGISTERS; i < LAMPHIEK_LANE && starts; i++)
         s.m[i] ^= 1u << i, s.mask[i] += 1;
     s.order += starts;
     s.turn -= starts;
-    lamphiek_answer r = starts ? start_by(lamphiek_start, &s, l) : hear_by(lamphiek_hear, &s, l);
+    lamphiek_answer r = starts ? start_by(&LIBRARY, &s, l) : hear_by(&LIBRARY, &s, l);
     same(!memcmp(&r, &now.answers[0], sizeof r), "made once more it answers otherwise");
     same(ended ? same_states(&s, &first, 0) : !memcmp(&s, &first, sizeof s), "made once more it writes otherwise");
 }
@@ -179,15 +218,25 @@ static void host_ends(struct host *h, uint32_t but)
     h->model = now.model.of.state;
 }
 
-lamphiek_answer both_start(struct host *h, uint32_t number, const struct lent *l)
+static lamphiek_answer both_start_of(enum call call, struct host *h, uint32_t number, const struct lent *l)
 {
-    host_begins(START, h, number, l, 0);
-    now.answers[0] = start_by(lamphiek_start, &now.library.of.state, l);
-    now.answers[1] = start_by(model_start, &now.model.of.state, l);
+    host_begins(call, h, number, l, 0);
+    now.answers[0] = start_by(&LIBRARY, &now.library.of.state, l);
+    now.answers[1] = start_by(&MODEL, &now.model.of.state, l);
     if (now.answers[0].number == 0)
         again(l);
     host_ends(h, 0);
     return now.answers[0];
+}
+
+lamphiek_answer both_start(struct host *h, uint32_t number, const struct lent *l)
+{
+    return both_start_of(START, h, number, l);
+}
+
+lamphiek_answer both_day_start(struct host *h, uint32_t number, const struct lent *l)
+{
+    return both_start_of(DAY_START, h, number, l);
 }
 
 /* The registers that what the order leaves in its target reaches until another place: the orders between speak
@@ -203,19 +252,51 @@ static uint32_t reached(struct words job, uint32_t order, uint32_t until)
     return set;
 }
 
-lamphiek_answer both_hear(struct host *h, uint32_t number, const struct lent *l, uint32_t heard, enum kept kept)
+/* The same for a day: 0 and 1 as a quarter ends, 0 as the mean does. */
+static uint32_t reached_day(uint32_t order, uint32_t until)
+{
+    return order == until ? 0 : order < LAMPHIEK_QUARTERS ? 3 : 1;
+}
+
+/* What is made of forged kept words: whether the word given is, and the registers that are. */
+static bool forged_word(const struct lent *l, uint32_t order, uint32_t until)
+{
+    return is_day() ? order == until || until == LAMPHIEK_QUARTERS : l->job.at[4 * order] > LAMPHIEK_REFRESH;
+}
+
+static uint32_t forged_registers(const struct lent *l, uint32_t order, uint32_t until)
+{
+    if (is_day())
+        return reached_day(order, until);
+    return l->job.at[4 * order] > LAMPHIEK_REFRESH ? reached(l->job, order, until) : 0;
+}
+
+static lamphiek_answer both_hear_of(enum call call, struct host *h, uint32_t number, const struct lent *l,
+                                    uint32_t heard, enum kept kept)
 {
     uint32_t order = h->library.order, but = 0;
-    host_begins(HEAR, h, number, l, heard);
-    now.answers[0] = hear_by(lamphiek_hear, &now.library.of.state, l);
-    now.answers[1] = hear_by(model_hear, &now.model.of.state, l);
+    host_begins(call, h, number, l, heard);
+    now.answers[0] = hear_by(&LIBRARY, &now.library.of.state, l);
+    now.answers[1] = hear_by(&MODEL, &now.model.of.state, l);
     lamphiek_answer answer = now.answers[0];
+    uint32_t until = now.model.of.state.order;
     if (answer.number == 0)
         again(l);
-    if (kept == FORGED && now.answers[1].number == 0 && l->job.at[4 * order] > LAMPHIEK_REFRESH) {
-        now.answers[0].word = now.answers[1].word;
-        but = reached(l->job, order, now.model.of.state.order);
+    if (kept == FORGED && now.answers[1].number == 0) {
+        if (forged_word(l, order, until))
+            now.answers[0].word = now.answers[1].word;
+        but = forged_registers(l, order, until);
     }
     host_ends(h, but);
     return answer;
+}
+
+lamphiek_answer both_hear(struct host *h, uint32_t number, const struct lent *l, uint32_t heard, enum kept kept)
+{
+    return both_hear_of(HEAR, h, number, l, heard, kept);
+}
+
+lamphiek_answer both_day_hear(struct host *h, uint32_t number, const struct lent *l, uint32_t heard, enum kept kept)
+{
+    return both_hear_of(DAY_HEAR, h, number, l, heard, kept);
 }

@@ -7,14 +7,15 @@
 #include <string.h>
 #include <unistd.h>
 
-enum { NUMBERS = 12 };
+enum { NUMBERS = 13 };
 
 /* The numbers that each can give: bit n for number n. */
 static const struct {
     const char *name;
     uint32_t can;
-} CALL[CALLS] = {{"split", 0x801}, {"open", 0x401}, {"check", 0x03d}, {"unused_a", 0x07d}, {"unused_b", 0x07d},
-                 {"house", 0x001}, {"prepare", 0x0fd}, {"start", 0x0ff}, {"hear", 0x3ff}};
+} CALL[CALLS] = {{"split", 0x801},     {"open", 0x401},         {"check", 0x03d},      {"unused_a", 0x07d},
+                 {"unused_b", 0x07d}, {"house", 0x001},        {"prepare", 0x0fd},    {"day_prepare", 0x10e1},
+                 {"start", 0x0ff},    {"day_start", 0x10e3},   {"hear", 0x3ff},       {"day_hear", 0x13e3}};
 
 struct made now;
 
@@ -41,6 +42,8 @@ static void print_arguments(void)
         print_list("a", l->a, 4);
         print_list("b", l->b, 4);
         print_list("deals", l->deals, 4);
+        for (int host = 0; host < 3; host++)
+            print_list("shares", l->shares[host], 4);
     }
     if (now.call == SPLIT)
         printf("  reading %" PRId64 " under %" PRIu32 " %" PRIu32 "\n", now.reading, g->host0.l1, g->host0.l2);
@@ -96,12 +99,12 @@ uint64_t calls_made(void) { return calls; }
 bool numbers_came(void)
 {
     bool all = true;
-    printf("%-10s", "number");
+    printf("%-12s", "number");
     for (int n = 0; n < NUMBERS; n++)
         printf("%8d", n);
     puts("");
     for (int c = 0; c < CALLS; c++) {
-        printf("%-10s", CALL[c].name);
+        printf("%-12s", CALL[c].name);
         for (int n = 0; n < NUMBERS; n++) {
             bool can = CALL[c].can >> n & 1;
             if (can || came[c][n])
@@ -137,7 +140,7 @@ uint32_t answered(void)
     uint32_t number = now.answers[0].number;
     same(!memcmp(&now.answers[0], &now.answers[1], sizeof now.answers[0]), "the answers differ");
     same(number < NUMBERS, "a number that is none");
-    for (int r = 0; r < ROOM_DEALS + (now.call != PREPARE); r++)
+    for (int r = 0; r < ROOM_DEALS + (now.call != PREPARE && now.call != DAY_PREPARE); r++)
         same(unchanged((enum room)r), "a list that is only read was written");
     came[now.call][number]++;
     return number;

@@ -3,7 +3,9 @@
 #define RANDOM_CALL_H
 #include "random.h"
 
-enum call { SPLIT, OPEN, CHECK, UNUSED_A, UNUSED_B, HOUSE, PREPARE, START, HEAR, CALLS };
+enum call {
+    SPLIT, OPEN, CHECK, UNUSED_A, UNUSED_B, HOUSE, PREPARE, DAY_PREPARE, START, DAY_START, HEAR, DAY_HEAR, CALLS
+};
 enum { GUARDS = 8 };
 
 /* What one call writes, between guard words. */

@@ -29,9 +29,9 @@ uint32_t one_of(const uint32_t *from, size_t n) { return from[below((uint32_t)n)
 
 /* ---- rooms */
 
-/* The most words of each: the longest job's needs, 64 exact curves on 16 rows, and some more. */
-static const size_t MOST[ROOMS] = {JOB_MOST,   TABLE_MOST, JOB_MOST,   TABLE_MOST,
-                                   30080 + 16, 13824 + 16, 16256 + 16, 16256 + 16};
+/* The most words of each: the needs of a day on 16 rows, which are more than any job's, and some more. */
+static const size_t MOST[ROOMS] = {JOB_MOST, TABLE_MOST, JOB_MOST, TABLE_MOST, 45148 + 16, 20748 + 16,
+                                   DAY_MOST, DAY_MOST,   DAY_MOST, DAY_MOST,   24400 + 16, 24400 + 16};
 
 static struct {
     struct words all;
@@ -71,7 +71,8 @@ bool unchanged(enum room room)
 struct words long_list(void)
 {
     size_t n = ((size_t)1 << 32) + 4, page = (size_t)sysconf(_SC_PAGESIZE);
-    uint32_t *at = mmap(NULL, n * sizeof(uint32_t), PROT_READ, MAP_PRIVATE | MAP_ANONYMOUS | MAP_NORESERVE, -1, 0);
+    size_t bytes = (n + LAMPHIEK_DAY_WORDS) * sizeof(uint32_t);
+    uint32_t *at = mmap(NULL, bytes, PROT_READ, MAP_PRIVATE | MAP_ANONYMOUS | MAP_NORESERVE, -1, 0);
     if (at == MAP_FAILED || mprotect(at, page, PROT_READ | PROT_WRITE))
         return (struct words){NULL, 0};
     at[2] = 1; /* all others stay 0: add 0 1 0, and the rows (0, 0) (1, 0) */
@@ -183,8 +184,8 @@ static int rising(const void *x, const void *y)
     return (a > b) - (a < b);
 }
 
-/* So many rows that keep the rules: counts spread, or one behind the other; values at random, falling too. */
-static size_t make_rows(uint32_t *table, uint32_t rows)
+/* Counts spread, or one behind the other; values at random, falling too. */
+size_t make_rows(uint32_t *table, uint32_t rows)
 {
     uint32_t r[TABLE_MOST / 2], next = chance(50) ? 0 : below(4096 - rows + 1);
     bool close = chance(25), distinct = false;
@@ -293,8 +294,8 @@ int64_t make_count(struct words table)
 
 static uint32_t make_orders(void) { return chance(60) ? 1 + below(3) : chance(80) ? 1 + below(12) : 1 + below(ORDERS); }
 
-/* What is lent with a job that needs so much: as many words or some more. */
-static void lend_lists(struct lent *l, const lamphiek_counts *need)
+/* As many words as are needed, or some more. */
+void lend_lists(struct lent *l, const lamphiek_counts *need)
 {
     uint32_t more = chance(60) ? 0 : below(8);
     l->a = lend(ROOM_A, NULL, need->a + more);
@@ -306,7 +307,7 @@ static void lend_lists(struct lent *l, const lamphiek_counts *need)
 struct lent make_lent(bool damaged)
 {
     uint32_t job[JOB_MOST], table[TABLE_MOST], orders = make_orders();
-    struct lent l;
+    struct lent l = {.a = {NULL, 0}};
     lamphiek_counts need;
     size_t n = make_job(job, orders, orders < 8 || chance(3)), rows = make_table(table);
     model_check(job, n, table, rows, &need);

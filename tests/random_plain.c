@@ -1,5 +1,5 @@
-/* What the registers of a run open, by 64-bit arithmetic (document 01, "Orders" and "The curve"; R-1): no shares, no
- * gates.
+/* What the registers of a run open, by 64-bit arithmetic (document 01, "Orders" and "The curve"; R-1, R-3): no shares,
+ * no gates.
  * Of the masks only their sum L is followed, and only through kinds 0 to 3 and 6, since the truncations of kinds 6 and
  * 7 depend on it; elsewhere it is not known, and then neither is what depends on it. */
 #include "random.h"
@@ -93,6 +93,18 @@ static struct value plain_order(const struct value r[LAMPHIEK_REGISTERS], const 
     case 9: return x.known == THIS ? plainly(relu(x.v)) : none;
     default: return curve(x, o[3], table);
     }
+}
+
+/* the values that the curve gives alone, added, and how many are those above the last row's count. */
+void plain_day(const int64_t x[LAMPHIEK_QUARTERS], struct words table, int64_t *mean, int64_t *above)
+{
+    int64_t sum = 0;
+    *above = 0;
+    for (int i = 0; i < LAMPHIEK_QUARTERS; i++) {
+        sum += curve(plainly(x[i]), LAMPHIEK_MODE_EXACT, table).v;
+        *above += signed_reading(table.at[table.n - 2] - x[i]) < 0;
+    }
+    *mean = floored(682 * sum, 65536);
 }
 
 void plain_job(struct value r[LAMPHIEK_REGISTERS], struct words job, struct words table)

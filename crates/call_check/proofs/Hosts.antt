@@ -11,7 +11,7 @@ use lib.Seq.{take-all}
 use Rattle.gates.specs.Costs.{Cost, cost-of}
 use Rattle.jobs.specs.Job.{Fault, job-fault, job-cost, short-a, short-b, short-deals}
 use Rattle.jobs.specs.Counts.{counted}
-use Rattle.calls.specs.Scripts.{Script, job-script}
+use Rattle.calls.specs.Scripts.{Script, script-cost}
 use Rattle.calls.specs.Lent.{lent, or-else, lists-fault, lent-fault, passed, dealer-lists-fault}
 use Rattle.calls.proofs.Faults.{Accepts, accepted-tells, or-accepted, no-host, none-passed}
 use Rattle.call_check.specs.declared.checking.Finding.{Finding}
@@ -40,18 +40,16 @@ module _ (σ : Script) (k : Cost) (M D : List ℕ) where
   unfolding dealer-lists-fault needs-of lists-fault short-a short-b short-deals
   lists-2 = rw (le-ltb (length M) 0 (omega arith))
 
-module _ (w : ℕ) (job table : List ℕ) where
-  pub of-host : (h : ℕ) (M D : List ℕ) (f : Fault) → 1 ≤ h → h < 3
-      → f ≡ or-else (job-fault w job table) (dealer-lists-fault (needs-of h (job-cost w job table)) M M D)
-      → f ≡ lent-fault (lent h (job-script w job table) M D)
-  unfolding lent-fault lists-fault job-cost
-  of-host zero M D f l u e = absurd (omega arith)
-  of-host (suc zero) M D f l u e =
-      e ∙ ap (or-else (job-fault w job table)) (lists-1 (job-script w job table) (job-cost w job table) M D)
-  of-host (suc (suc zero)) M D f l u e =
-      e ∙ ap (or-else (job-fault w job table)) (lists-2 (job-script w job table) (job-cost w job table) M D)
-  of-host (suc (suc (suc h))) M D f l u e = absurd (omega arith)
+-- the script's own fault, or the lists'
+pub of-host : (σ : Script) (h : ℕ) (M D : List ℕ) (f : Fault) → 1 ≤ h → h < 3
+    → f ≡ or-else (σ .fault) (dealer-lists-fault (needs-of h (script-cost σ)) M M D) → f ≡ lent-fault (lent h σ M D)
+unfolding lent-fault lists-fault
+of-host σ zero M D f l u e = absurd (omega arith)
+of-host σ (suc zero) M D f l u e = e ∙ ap (or-else (σ .fault)) (lists-1 σ (script-cost σ) M D)
+of-host σ (suc (suc zero)) M D f l u e = e ∙ ap (or-else (σ .fault)) (lists-2 σ (script-cost σ) M D)
+of-host σ (suc (suc (suc h))) M D f l u e = absurd (omega arith)
 
+module _ (w : ℕ) (job table : List ℕ) where
   -- no order stands after as many places as the job has words
   pub all-before : (n : ℕ) → passed n (job-cost w (take (length job * 4) job) table) ≡ passed n (job-cost w job table)
   all-before n = ap (λ (l : List ℕ). passed n (job-cost w l table)) (take-all (length job * 4) job (omega arith))

@@ -19,7 +19,7 @@ pub struct Finding {
     pub counts: Counts,
 }
 
-fn turned_down(number: u32, index: u32) -> Finding
+pub(crate) fn turned_down(number: u32, index: u32) -> Finding
     ensures { λ r. ⌜ (fault-of r ≡ (number, index)) × (counted (r .counts) ≡ cost-of 0 0 0 0) ⌝ }
 {
     Finding {
@@ -35,7 +35,7 @@ fn turned_down(number: u32, index: u32) -> Finding
 }
 
 // What a host needs of a job's counts: host 1 its words of A, host 2 its words of B and its deals, host 0 all three.
-fn needs_of(host: u32, whole: Counts) -> Counts
+pub(crate) fn needs_of(host: u32, whole: Counts) -> Counts
     ensures { λ r. ⌜ counted r ≡ needs-of host (counted whole) ⌝ }
 {
     match host {
@@ -56,7 +56,7 @@ fn needs_of(host: u32, whole: Counts) -> Counts
 }
 
 // Conditions 6 and 7.
-fn lists_fault(need: Counts, a: &[u32], b: &[u32], deals: &[u32]) -> u32
+pub(crate) fn lists_fault(need: Counts, a: &[u32], b: &[u32], deals: &[u32]) -> u32
     ensures { λ r. ⌜ r
         ≡ dealer-lists-fault (counted need) (now (a .entry)) (now (b .entry)) (now (deals .entry)) ⌝ }
 {

@@ -1,7 +1,9 @@
-// Host 0: preparation.
+// Host 0: preparation of a job or a day.
 
+mod day;
 mod preparing;
 
+pub use day::prepare_day;
 pub use preparing::prepare;
 
 // A register's two masks, for every register.
@@ -11,7 +13,7 @@ pub struct Masks {
 }
 
 // Preparation's answer: the number, 0 for none, and the order's index; the deals written, and the masks as the job
-// leaves them.
+// or the day leaves them.
 pub struct Prepared {
     pub number: u32,
     pub index: u32,

@@ -11,7 +11,7 @@ ghost use Rattle.jobs.specs.Job.{steps-of};
 ghost use Rattle.calls.specs.Scripts.{job-script};
 ghost use Rattle.calls.specs.Calls as Calls;
 ghost use Rattle.gates.specs.Steps.{Lane};
-ghost use Rattle.walks.specs.Dealers.{dealer, outset, Counts, dealing, deal-all, Room};
+ghost use Rattle.walks.specs.Dealers.{dealer, Counts, dealing, deal-all, Room};
 ghost use Rattle.dealer.specs.Answers.{answer};
 use crate::Masks;
 use crate::Prepared;
@@ -29,7 +29,7 @@ use program_fetch::piece_at;
 use word_lists::copy_front;
 
 // The registers of a lane, before the temporaries.
-fn registers(lane: [u32; 24]) -> [u32; 16]
+pub(crate) fn registers(lane: [u32; 24]) -> [u32; 16]
     ensures { λ r. ⌜ r ≡ take 16 lane ⌝ }
 {
     let mut kept = [0u32; 16];
@@ -84,27 +84,25 @@ fn deal_piece(
 }
 
 // The orders of a job, from its first to its last: an addition or subtraction at once (R-2), the others piece by piece.
-fn deal_job(
+pub(crate) fn deal_job(
     job: &[u32],
     table: &[u32],
     a: &[u32],
     b: &[u32],
+    used: Used,
     l1: &mut [u32; 24],
     l2: &mut [u32; 24],
     deals: &mut [u32],
 ) -> Used
-    requires { ⌜ Room (now a) (now b) (steps-of 32 (now job) (now table)) (outset (now l1) (now l2) (now deals)) ⌝ }
+    requires { ⌜ Room (now a) (now b) (steps-of 32 (now job) (now table))
+        (dealer used (now l1) (now l2) (now deals)) ⌝ }
     ensures { λ r.
         ⌜ dealer r (now (l1 .exit)) (now (l2 .exit)) (now (deals .exit))
         ≡ deal-all (now (a .entry)) (now (b .entry)) (steps-of 32 (now (job .entry)) (now (table .entry)))
-        (outset (now (l1 .entry)) (now (l2 .entry)) (now (deals .entry))) ⌝ }
+        (dealer used (now (l1 .entry)) (now (l2 .entry)) (now (deals .entry))) ⌝ }
 {
     let n = job.len() / 4;
-    let mut used = Used {
-        a: 0,
-        b: 0,
-        deals: 0,
-    };
+    let mut at = used;
     let mut o = 0;
     let mut gate = 0;
     while o < n {
@@ -115,7 +113,7 @@ fn deal_job(
             continue;
         }
         let piece = piece_at(order, table, gate);
-        used = deal_piece(piece, table, a, b, used, l1, l2, deals);
+        at = deal_piece(piece, table, a, b, at, l1, l2, deals);
         if piece.last {
             o += 1;
             gate = 0;
@@ -123,7 +121,7 @@ fn deal_job(
             gate += piece.end - piece.from;
         }
     }
-    used
+    at
 }
 
 // Refused, it gives back its masks and writes nothing; the job has been checked before any deal is written.
@@ -156,7 +154,12 @@ pub fn prepare(
             masks,
         };
     }
-    let used = deal_job(job, table, a, b, &mut l1, &mut l2, deals);
+    let none = Used {
+        a: 0,
+        b: 0,
+        deals: 0,
+    };
+    let used = deal_job(job, table, a, b, none, &mut l1, &mut l2, deals);
     let kept1 = registers(l1);
     let kept2 = registers(l2);
     Prepared {

@@ -30,26 +30,33 @@ pub fn deal_gate(
         (dealer used (now (l1 .entry)) (now (l2 .entry)) (now (deals .entry))))
         (now (l1 .exit)) (now (l2 .exit)) (now (deals .exit)) ⌝ }
 {
-    match shape_of(g) {
+    let shape = shape_of(g);
+    match shape {
         Shape::Local => {
             step_mask(g, 0, l1);
             step_mask(g, 0, l2);
-        }
-        Shape::Dealing { d } => {
-            let x = word_at(a, used.a);
-            let word = deal_word(g, x, l1, l2);
-            put_word(deals, used.deals, word);
-            put(l1, d, x);
-            put(l2, d, word);
-        }
-        Shape::Product { d } => {
-            put_word(deals, used.deals, deal_word(g, word_at(a, used.a), l1, l2));
-            put(l1, d, word_after(a, used.a));
-            put(l2, d, word_at(b, used.b));
+            return;
         }
         Shape::Refreshing { d } => {
             put(l1, d, word_at(a, used.a));
             put(l2, d, word_at(b, used.b));
+            return;
         }
+        Shape::Dealing { d: _ } | Shape::Product { d: _ } => {}
+    }
+    // One call for a deal and a product: the compiler inlines `deal_word` where it is called once.
+    let x = word_at(a, used.a);
+    let word = deal_word(g, x, l1, l2);
+    put_word(deals, used.deals, word);
+    match shape {
+        Shape::Dealing { d } => {
+            put(l1, d, x);
+            put(l2, d, word);
+        }
+        Shape::Product { d } => {
+            put(l1, d, word_after(a, used.a));
+            put(l2, d, word_at(b, used.b));
+        }
+        _ => {}
     }
 }

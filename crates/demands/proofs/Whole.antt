@@ -7,16 +7,16 @@ use native.Mathlib.Omega.{arith}
 use Rattle.gates.specs.Hosts.{Pair}
 use Rattle.calls.specs.Scripts.{script-cost, orders-in}
 use Rattle.calls.specs.Calls.{State}
-use Rattle.runs.specs.Runs.{Stage, Setting, staged, Spoken, ready, going, World, world, Call, lent1, lent2, preparation, held}
+use Rattle.runs.specs.Runs.{Stage, staged, Spoken, ready, going, World, world, Call, lent1, lent2, preparation, held}
 use Rattle.runs.specs.Runs.{Completes, prepares, starts1, starts2, hears1, hears2, given-out, begin, Finished, Accepted}
-use Rattle.demands.specs.Conditions.{places-from, Terms, PreparationIs, of-itself, of-lists, of-buffer, prepares-well}
+use Rattle.demands.specs.Conditions.{places-from, Terms, Single, PreparationIs, of-itself, of-lists, of-buffer, prepares-well}
 use Rattle.demands.specs.Numbers.{Told}
-use Rattle.demands.specs.Demand1.{job-terms, gate-terms, Demand1At}
+use Rattle.demands.specs.Demand1.{job-terms, gate-terms}
 use Rattle.runs.specs.Strict.{Calls, none, completes}
 use Rattle.demands.specs.Whole.{WholeRun, first-world, Whole}
 use Rattle.runs.proofs.Kept.{kept}
 use Rattle.runs.proofs.Progress.{lent1-zero, lent2-zero, start-zero}
-use Rattle.demands.proofs.Numbers.{preparation-is}
+use Rattle.demands.proofs.Numbers.{preparation-is, numbers}
 use Rattle.demands.proofs.Demand1.{demand1-at, demand1}
 use Rattle.runs.proofs.Strict.{wide-on, joined, buffer-kept, carried-with}
 
@@ -109,26 +109,25 @@ module _ (S : Stage) (E : List ℕ) where
         }) acc′ at-work in
         done-whole m b _ (d .0 .ends-in) _ (d .0 .heard1) (d .0 .heard2) (d .1) (joined S c3 (d .0 .calls)) (d .0 .finished)
 
--- ---- a job
+-- ---- where the script is what the terms say
 
-module _ (w : ℕ) (terms : (job table : List ℕ) → Terms) (d : Demand1At w terms) (S : Setting) (buf : List ℕ) where
-  abbrev JobIs : ℕ → ℕ → Type 0
-  JobIs = PreparationIs (terms (S .job) (S .table)) (S .A) (S .B) buf
+module _ (S : Stage) (T : Terms) (told : Told (S .script) T) (single : Single (T .own)) (buf : List ℕ) where
+  abbrev Told-by : ℕ → ℕ → Type 0
+  Told-by = PreparationIs T (S .A) (S .B) buf
 
-  job-prepared : JobIs (preparation (staged w S) buf (S .r1, S .r2) .number) (preparation (staged w S) buf (S .r1, S .r2) .index)
-  job-prepared = d .preparing (S .job) (S .table) (S .A) (S .B) buf (S .r1, S .r2)
+  stage-prepared : Told-by (preparation S buf (S .r1, S .r2) .number) (preparation S buf (S .r1, S .r2) .index)
+  stage-prepared = numbers .preparing (S .script) T told (S .A) (S .B) buf (S .r1, S .r2)
 
-  none-index : {n i : ℕ} → JobIs n i → n ≡ 0 → JobIs 0 0
+  none-index : {n i : ℕ} → Told-by n i → n ≡ 0 → Told-by 0 0
   none-index (of-itself q) e = absurd (omega arith)
   none-index (of-lists z h) e = absurd (omega arith)
   none-index (of-buffer z h k l) e = absurd (omega arith)
   none-index (prepares-well z h k l) e = prepares-well z h k l
 
-  accepted-job : JobIs 0 0 ↔ Accepted (staged w S) buf
-  accepted-job = (
-    λ p. accepted (staged w S) buf (S .r1, S .r2)
-        (sym (d .one-preparation (S .job) (S .table) (S .A) (S .B) buf _ _ _ _ p job-prepared .0)),
-    λ acc. none-index job-prepared (not-refused (staged w S) buf (S .r1, S .r2) acc),
+  pub accepted-told : Told-by 0 0 ↔ Accepted S buf
+  accepted-told = (
+    λ p. accepted S buf (S .r1, S .r2) (sym (numbers .one-preparation T single (S .A) (S .B) buf _ _ _ _ p stage-prepared .0)),
+    λ acc. none-index stage-prepared (not-refused S buf (S .r1, S .r2) acc),
   )
 
 pub whole : Whole
@@ -136,7 +135,10 @@ whole =
     record {
       accepted = λ S buf r e. accepted S buf r e;
       prepares = λ S buf r acc. not-refused S buf r acc;
-      accepted-job = λ S buf. accepted-job 32 job-terms demand1 S buf;
-      accepted-at = λ w S buf. accepted-job w (gate-terms w) (demand1-at w) S buf;
+      accepted-job = λ S buf.
+          accepted-told (staged 32 S) (job-terms (S .job) (S .table)) (demand1 .told (S .job) (S .table)) (demand1 .single (S .job) (S .table)) buf;
+      accepted-at = λ w S buf.
+          accepted-told (staged w S) (gate-terms w (S .job) (S .table)) (demand1-at w .told (S .job) (S .table))
+          (demand1-at w .single (S .job) (S .table)) buf;
       whole-run = λ S E buf one two p1 p2 e. whole-run S E buf one two p1 p2 e;
     }

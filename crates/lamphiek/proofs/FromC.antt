@@ -136,11 +136,18 @@ module _ (S : Setting) (buf D s : List ℕ) (l : length s ≡ 50) where
 
 -- ---- opening
 
-opens : (z : Dealer) (buf M one two : List ℕ) (x y : Side) (i : ℕ) → i < 16 → dealer-holds z ≡ masks-in M → side-state x ≡ state-in one → side-state y ≡ state-in two
-    → reconstruction 32 (six-in (share-words M one two i)) ≡ opened-now 32 16 (world z buf x y) i
-unfolding opened-now
-opens z buf M one two x y i h e f g =
-    ap (reconstruction 32) (words ∙ (λ t. six (sym e t) (registers 16 (sym f t)) (registers 16 (sym g t)) i))
+-- a register's six words in the structs are those of the lanes' first 16
+pub words-in : (M one two : List ℕ) (i : ℕ) → i < 16
+    → six-in (share-words M one two i) ≡ six (masks-in M) (registers 16 (state-in one)) (registers 16 (state-in two)) i
+words-in M one two i h =
+    λ t. record {
+      l1-of-0 = sym (getD-take 16 M i 0 h) t;
+      l2-of-0 = (sym (getD-drop 16 M i 0) ∙ sym (getD-take 16 (drop 16 M) i 0 h)) t;
+      m-of-1 = front 24 one (omega arith) t;
+      l1-of-1 = behind 24 one (omega arith) t;
+      m-of-2 = front 24 two (omega arith) t;
+      l2-of-2 = behind 24 two (omega arith) t;
+    }
   where
     -- a word of a struct is that of a lane's first n, and of its first 16
     front : (n : ℕ) (w : List ℕ) → 16 ≤ n → at w i ≡ at (take 16 (take n w)) i
@@ -149,16 +156,11 @@ opens z buf M one two x y i h e f g =
     behind : (n : ℕ) (w : List ℕ) → 16 ≤ n → at w (n + i) ≡ at (take 16 (take n (drop n w))) i
     behind n w k = sym (getD-drop n w i 0) ∙ front n (drop n w) k
 
-    words : six-in (share-words M one two i) ≡ six (masks-in M) (registers 16 (state-in one)) (registers 16 (state-in two)) i
-    words =
-        λ t. record {
-          l1-of-0 = sym (getD-take 16 M i 0 h) t;
-          l2-of-0 = (sym (getD-drop 16 M i 0) ∙ sym (getD-take 16 (drop 16 M) i 0 h)) t;
-          m-of-1 = front 24 one (omega arith) t;
-          l1-of-1 = behind 24 one (omega arith) t;
-          m-of-2 = front 24 two (omega arith) t;
-          l2-of-2 = behind 24 two (omega arith) t;
-        }
+opens : (z : Dealer) (buf M one two : List ℕ) (x y : Side) (i : ℕ) → i < 16 → dealer-holds z ≡ masks-in M → side-state x ≡ state-in one → side-state y ≡ state-in two
+    → reconstruction 32 (six-in (share-words M one two i)) ≡ opened-now 32 16 (world z buf x y) i
+unfolding opened-now
+opens z buf M one two x y i h e f g =
+    ap (reconstruction 32) (words-in M one two i h ∙ (λ t. six (sym e t) (registers 16 (sym f t)) (registers 16 (sym g t)) i))
 
 pub from-c : FromC
 from-c =

@@ -45,10 +45,18 @@ given-wide zero f σ A B D M z l =
     record { m = ap (λ (k : ℕ). length (take k (p .0))) z ∙ w .m; mask = ap (λ (k : ℕ). length (take k (p .1))) z ∙ w .mask }
 given-wide (suc n) f σ A B D M z l = masks-wide M l
 
+-- the masks of a preparation that completes, and as many words as there were
+pub masks-done : (p : Calls.Prepared) (M : List ℕ) → Wide 16 (p .masks) → p .number ≡ 0 → masks-in (masks-left p M) ≡ p .masks
+masks-done p M w z = ap masks-in (sym (is-written (p .number) (masks-out (p .masks)) M z)) ∙ masks-back (p .masks) (w .m) (w .mask)
+
+pub masks-stay : (p : Calls.Prepared) (M : List ℕ) → Wide 16 (p .masks) → length M ≡ 32 → length (masks-left p M) ≡ 32
+masks-stay p M w l =
+    written-length (p .number) 32 (masks-out (p .masks)) M (omega (arith, length-append (p .masks .0) (p .masks .1), w .m, w .mask)) l
+
 masks-by : (n : ℕ) (f : Fault) (σ : Script) (A B D M : List ℕ) → f .0 ≡ n → Wide 16 (Calls.prepared n f σ A B D (masks-in M) .masks)
     → masks-in (masks-left (Calls.prepared n f σ A B D (masks-in M)) M) ≡ Calls.prepared n f σ A B D (masks-in M) .masks
 unfolding Calls.prepared
-masks-by zero f σ A B D M e w = ap masks-in (sym (is-written 0 _ M refl)) ∙ masks-back _ (w .m) (w .mask)
+masks-by zero f σ A B D M e w = masks-done (Calls.prepared 0 f σ A B D (masks-in M)) M w refl
 masks-by (suc n) f σ A B D M e w = ap masks-in (sym (not-written (f .0) _ M (λ y. omega arith)))
 
 module _ (M J T A B D : List ℕ) (l : length M ≡ 32) where
@@ -61,27 +69,27 @@ module _ (M J T A B D : List ℕ) (l : length M ≡ 32) where
   masks-read = masks-by (dealer-fault (job-script 32 J T) A B D .0) (dealer-fault (job-script 32 J T) A B D) (job-script 32 J T) A B D M refl wide
 
   pub masks-long : length (masks-left (preparation M J T A B D) M) ≡ 32
-  masks-long = let p = preparation M J T A B D .masks in written-length (preparation M J T A B D .number) 32 (masks-out p) M (omega (arith, length-append (p .0) (p .1), wide .m, wide .mask)) l
+  masks-long = masks-stay (preparation M J T A B D) M wide l
 
 -- ---- hosts 1 and 2
 
-state-full : (s : List ℕ) → length s ≡ 50 → Full 24 (state-in s)
+pub state-full : (s : List ℕ) → length s ≡ 50 → Full 24 (state-in s)
 state-full s e = record { m = part 24 0 s (omega (arith, e)); mask = part 24 24 s (omega (arith, e)) }
 
 pub taken : (s : List ℕ) → registers-in s ≡ registers 16 (state-in s)
 taken s = λ t. (sym (take-take 16 24 s (omega arith)) t, sym (take-take 16 24 (drop 24 s) (omega arith)) t)
 
-state-long : (a : Calls.Answer) (s : List ℕ) → Full 24 (a .state) → length s ≡ 50 → length (state-left a s) ≡ 50
+pub state-long : (a : Calls.Answer) (s : List ℕ) → Full 24 (a .state) → length s ≡ 50 → length (state-left a s) ≡ 50
 state-long a s h l =
     let tail : List ℕ = a .state .order ∷ a .state .turn ∷ [] in
     written-length (a .number) 50 (state-out (a .state)) s
     (omega (arith, length-append (a .state .m) (a .state .mask ++ tail), length-append (a .state .mask) tail, h .m, h .mask)) l
 
 -- the state of an answer, where the call completes; the words as they were, where it is refused
-state-read : (a : Calls.Answer) (s : List ℕ) → Full 24 (a .state) → a .number ≡ 0 → state-in (state-left a s) ≡ a .state
+pub state-read : (a : Calls.Answer) (s : List ℕ) → Full 24 (a .state) → a .number ≡ 0 → state-in (state-left a s) ≡ a .state
 state-read a s h z = ap state-in (sym (is-written (a .number) _ s z)) ∙ state-back (a .state) (h .m) (h .mask)
 
-same-read : (a : Calls.Answer) (s : List ℕ) → a .number ≢ 0 → state-in (state-left a s) ≡ state-in s
+pub same-read : (a : Calls.Answer) (s : List ℕ) → a .number ≢ 0 → state-in (state-left a s) ≡ state-in s
 same-read a s h = ap state-in (sym (not-written (a .number) _ s h))
 
 module _ (s : List ℕ) (l : length s ≡ 50) (loan : Lent) where

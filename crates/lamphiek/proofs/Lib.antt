@@ -4,3 +4,5 @@ mod Told
 mod Lanes
 mod Left
 pub mod FromC
+mod DayLeft
+pub mod DayFromC

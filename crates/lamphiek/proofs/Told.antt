@@ -12,7 +12,8 @@ use Rattle.jobs.specs.Job.{Fault, job-fault, job-cost}
 use Rattle.jobs.specs.Answers.{Verdict, refusal, judged, check-job, need, leftover-number, leftover-part}
 use Rattle.jobs.specs.declared.Which.{Which}
 use Rattle.calls.specs.Calls as Calls
-use Rattle.lamphiek.specs.Layout.{written, answer, counts-out, masks-out}
+use Rattle.lamphiek.specs.declared.Answer.{Answer}
+use Rattle.lamphiek.specs.Layout.{written, answer, counts-out}
 use Rattle.lamphiek.specs.Checking.{checked, counts-left, unused, last}
 use Rattle.lamphiek.specs.Stepping.{prepared, masks-left}
 
@@ -71,15 +72,11 @@ part-last (suc n) J T x l = let z : length l - length l ≡ 0 = omega arith in a
 pub left-over : (J T : List ℕ) (x : Which) (l r : List ℕ) → r ≡ unused x J T l → (length r ≡ length (unused x J T l)) × (last (length r) l ≡ unused x J T l)
 left-over J T x l r e = (ap length e, ap (λ (y : List ℕ). last (length y) l) e ∙ part-last (leftover-number 32 J T x l) J T x l)
 
--- ---- preparation: X is what it is defined to answer on the words, p what the code was answered. Refused, the words are as they were; else what was put is
--- what X leaves
+-- ---- preparation: X is what it is defined to answer on the words, p what the code was answered
 
-module _ (X p : Calls.Prepared) (w : List ℕ) (same : p ≡ X) where
-  pub not-prepared : (p .number ≡ 0 → ⊥) → (prepared p ≡ prepared X) × ((p .buffer ≡ X .buffer) × (w ≡ masks-left X w))
-  not-prepared h = (ap prepared same, (ap (λ (x : Calls.Prepared). x .buffer) same, not-written (p .number) _ w h ∙ ap (λ (x : Calls.Prepared). masks-left x w) same))
-
-  pub all-prepared : (put : List ℕ) → p .number ≡ 0 → put ≡ masks-out (p .masks) → (prepared p ≡ prepared X) × ((p .buffer ≡ X .buffer) × (put ≡ masks-left X w))
-  all-prepared put z q = (
-    ap prepared same,
-    (ap (λ (x : Calls.Prepared). x .buffer) same, q ∙ is-written (p .number) _ w z ∙ ap (λ (x : Calls.Prepared). masks-left x w) same),
-  )
+pub from-dealer : (X p : Calls.Prepared) (r : Answer) (put w : List ℕ) → p ≡ X → r ≡ prepared p → put ≡ masks-left p w
+    → (r ≡ prepared X) × ((p .buffer ≡ X .buffer) × (put ≡ masks-left X w))
+from-dealer X p r put w same er ep = (
+  er ∙ ap prepared same,
+  (ap (λ (x : Calls.Prepared). x .buffer) same, ep ∙ ap (λ (x : Calls.Prepared). masks-left x w) same),
+)

@@ -3,3 +3,4 @@ pub mod Readings
 pub mod Checking
 pub mod Stepping
 pub mod FromC
+pub mod DayFromC

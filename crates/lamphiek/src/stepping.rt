@@ -1,5 +1,8 @@
 // The three hosts' calls: preparation, starting, hearing.
 ghost use mathlib.Core.Path.{_≡_};
+ghost use mathlib.Core.List.{List};
+ghost use Prim.Native.Nat.{ℕ};
+ghost use Rattle.dealer.specs.Answers as Dealer;
 ghost use Rattle.worker.specs.Answers.{answer-of};
 ghost use Rattle.lamphiek.specs.Stepping.{preparation, prepared, masks-left};
 ghost use Rattle.lamphiek.specs.Stepping.{starting, hearing, spoken, state-left};
@@ -11,6 +14,28 @@ use crate::layout::registers_in;
 use crate::layout::state_in;
 use dealer::prepare;
 use worker::start;
+
+// The dealer's answer: its masks go into the lent words, its numbers are given.
+pub(crate) fn put_prepared(masks: &mut [u32; 32], p: dealer::Prepared) -> Answer
+    ensures answer { λ r. ⌜ ((buffer : List ℕ) → r ≡ prepared (Dealer.answer p buffer)) ⌝ }
+    ensures masks { λ r.
+        ⌜ ((buffer : List ℕ) → now (masks .exit) ≡ masks-left (Dealer.answer p buffer) (now (masks .entry))) ⌝ }
+{
+    let said = Answer {
+        number: p.number,
+        index: p.index,
+        count: p.deals,
+        word: 0,
+    };
+    if p.number != 0 {
+        return said;
+    }
+    let left = p.masks;
+    let l1 = left.l1;
+    let l2 = left.l2;
+    put_masks(masks, l1, l2);
+    said
+}
 
 // Host 0 prepares: its deals are written, and its masks of the results over those of the registers. Numbers 2 to 7.
 #[no_mangle]
@@ -37,24 +62,11 @@ pub extern "C" fn lamphiek_prepare(
         (now (masks .entry)) ⌝ }
 {
     let p = prepare(job, table, a, b, deals, masks_in(masks));
-    let said = Answer {
-        number: p.number,
-        index: p.index,
-        count: p.deals,
-        word: 0,
-    };
-    if p.number != 0 {
-        return said;
-    }
-    let left = p.masks;
-    let l1 = left.l1;
-    let l2 = left.l2;
-    put_masks(masks, l1, l2);
-    said
+    put_prepared(masks, p)
 }
 
 // A worker's answer: its state goes into the lent words, its numbers are given.
-fn put_answer(state: &mut [u32; 50], a: worker::Answer) -> Answer
+pub(crate) fn put_answer(state: &mut [u32; 50], a: worker::Answer) -> Answer
     ensures answer { λ r. ⌜ r ≡ spoken (answer-of a) ⌝ }
     ensures state { λ r. ⌜ now (state .exit) ≡ state-left (answer-of a) (now (state .entry)) ⌝ }
 {

@@ -6,7 +6,7 @@ use mathlib.Core.Logic.{⊎-elim}
 use Prim.Native.Nat.{ℕ, suc, _+_, _-_, _*_, _%_, _^_, _≤_, _<_}
 use native.Mathlib.Nat.{mod-eq-of-lt, mod-add-mod, mod-mod, add-mod-right, mul-zero, mul-one}
 use native.Mathlib.Omega.{arith}
-use lib.Dec.{eqb, leb·suc-zero, lit≤}
+use lib.Dec.{eqb, leb·suc-zero}
 use lib.Pow.{pow-mono}
 use lib.IntN.{ℤ, pos, negsuc}
 use Rattle.words.specs.Words.{add, sub, neg, mul, bit, numbers}
@@ -21,7 +21,7 @@ use Rattle.tables.specs.Table.{Row}
 use Rattle.curves.specs.Curve.{relu, slope-after, coefficient, relu-word, word-sum, word-curve}
 use Rattle.programs.specs.Programs.{relu-program, row-program, rows-program, sum-program}
 use Rattle.programs.proofs.Gates.{Fits}
-use Rattle.programs.proofs.Points.{not-temporary, target, Point, after, afters, afters-append, num, keep-share, keep-num}
+use Rattle.programs.proofs.Points.{Aside, target, Point, after, afters, afters-append, num, keep-share, keep-num}
 use Rattle.programs.proofs.Targets.{at-add, at-scale, at-plus, at-const}
 use Rattle.programs.proofs.Blocks.{relu-opens, relu-keeps}
 
@@ -103,17 +103,14 @@ module _ (w : ℕ) (A B : List ℕ) (hA : Fits w A) (hB : Fits w B) (low : 2 ≤
 
   -- ---- all rows, in row order
 
-  module _ (x : ℕ) (hx : x < 16) where
-    rows-keep : (ps : List Row) (s : ℤ) (G : Pt) (i : ℕ) → i < 16 → share (run (rows-program w x s ps) G .j) i ≡ share (G .j) i
+  module _ (x : ℕ) (hx : Aside x) where
+    rows-keep : (ps : List Row) (s : ℤ) (G : Pt) (i : ℕ) → Aside i → share (run (rows-program w x s ps) G .j) i ≡ share (G .j) i
     unfolding rows-program afters
     rows-keep [] s G i hi = refl
     rows-keep (p ∷ ps) s G i hi =
         ap (λ (H : Pt). share (H .j) i) (afters-append w A B hA hB (row-program w x _ (coefficient w s p ps)) _ G)
         ∙ rows-keep ps (slope-after p ps) _ i hi
-        ∙ row-keeps x _ (coefficient w s p ps) G (not-temporary x 21 hx (lit≤ tt)) i (not-temporary i 16 hi (lit≤ tt))
-        (not-temporary i 17 hi (lit≤ tt)) (not-temporary i 18 hi (lit≤ tt))
-        (not-temporary i 19 hi (lit≤ tt)) (not-temporary i 20 hi (lit≤ tt)) (not-temporary i 21 hi (lit≤ tt))
-        (not-temporary i 22 hi (lit≤ tt)) (not-temporary i 23 hi (lit≤ tt))
+        ∙ row-keeps x _ (coefficient w s p ps) G (hx .i21) i (hi .i16) (hi .i17) (hi .i18) (hi .i19) (hi .i20) (hi .i21) (hi .i22) (hi .i23)
 
     rows-open : (ps : List Row) (s : ℤ) (G : Pt)
         → num w A B hA hB (run (rows-program w x s ps) G) 22 ≡ word-sum w s ps (num w A B hA hB G x) (num w A B hA hB G 22)
@@ -121,25 +118,22 @@ module _ (w : ℕ) (A B : List ℕ) (hA : Fits w A) (hB : Fits w B) (low : 2 ≤
     rows-open [] s G = refl
     rows-open (p ∷ ps) s G =
         let k : ℕ = coefficient w s p ps in
-        let x21 : eqb x 21 ≡ false = not-temporary x 21 hx (lit≤ tt) in
         ap (λ (H : Pt). num w A B hA hB H 22)
         (afters-append w A B hA hB (row-program w x (p .r) k) (rows-program w x (slope-after p ps) ps) G)
         ∙ rows-open ps (slope-after p ps) _
         ∙ ap₂ (word-sum w (slope-after p ps) ps)
-        (ap (value (numbers w)) (row-keeps x (p .r) k G x21 x (not-temporary x 16 hx (lit≤ tt)) (not-temporary x 17 hx (lit≤ tt))
-        (not-temporary x 18 hx (lit≤ tt))
-        (not-temporary x 19 hx (lit≤ tt)) (not-temporary x 20 hx (lit≤ tt)) x21 (not-temporary x 22 hx (lit≤ tt))
-        (not-temporary x 23 hx (lit≤ tt))))
-        (row-opens x (p .r) k G x21)
+        (ap (value (numbers w)) (row-keeps x (p .r) k G (hx .i21) x (hx .i16) (hx .i17) (hx .i18) (hx .i19) (hx .i20) (hx .i21) (hx .i22)
+        (hx .i23)))
+        (row-opens x (p .r) k G (hx .i21))
 
     -- the sum starts reduced modulo 2^w
     sum-reduced : (s : ℤ) (p : Row) (ps : List Row) (v n : ℕ) → word-sum w s (p ∷ ps) v (n % 2 ^ w) ≡ word-sum w s (p ∷ ps) v n
     unfolding word-sum add
     sum-reduced s p ps v n = ap (word-sum w (slope-after p ps) ps v) (mod-add-mod n (2 ^ w) _)
 
-    const-keeps : (n : ℕ) (G : Pt) (i : ℕ) → i < 16 → share (after w A B hA hB (Const 22 n) G .j) i ≡ share (G .j) i
+    const-keeps : (n : ℕ) (G : Pt) (i : ℕ) → Aside i → share (after w A B hA hB (Const 22 n) G .j) i ≡ share (G .j) i
     unfolding target
-    const-keeps n G i hi = keep-share w A B hA hB (Const 22 n) G i (not-temporary i 22 hi (lit≤ tt))
+    const-keeps n G i hi = keep-share w A B hA hB (Const 22 n) G i (hi .i22)
 
     -- the sum that the hosts form of what x opens
     pub sum-opens : (p : Row) (ps : List Row) (G : Pt)
@@ -151,7 +145,7 @@ module _ (w : ℕ) (A B : List ℕ) (hA : Fits w A) (hB : Fits w B) (low : 2 ≤
         (at-const w A B hA hB G 22 refl (4096 * p .c % 2 ^ w) ∙ mod-mod (4096 * p .c) (2 ^ w))
         ∙ sum-reduced (pos 0) p ps _ (4096 * p .c)
 
-    pub sum-keeps : (ps : List Row) (G : Pt) (i : ℕ) → i < 16 → share (run (sum-program w x ps) G .j) i ≡ share (G .j) i
+    pub sum-keeps : (ps : List Row) (G : Pt) (i : ℕ) → Aside i → share (run (sum-program w x ps) G .j) i ≡ share (G .j) i
     unfolding sum-program afters
     sum-keeps [] G i hi = const-keeps 0 G i hi
     sum-keeps (p ∷ ps) G i hi = rows-keep (p ∷ ps) (pos 0) _ i hi ∙ const-keeps (4096 * p .c % 2 ^ w) G i hi

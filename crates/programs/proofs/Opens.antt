@@ -5,7 +5,7 @@ use mathlib.Core.Bool.{true, false}
 use mathlib.Core.List.{List, [], _∷_, _++_}
 use Prim.Native.Nat.{ℕ, zero, suc, _≤_, _<_}
 use native.Mathlib.Omega.{arith}
-use borrow.Author.Tests.{lt-ltb, ne-eqb}
+use borrow.Author.Tests.{lt-ltb}
 use lib.Dec.{eqb, ltb, lit≤}
 use lib.ListN.{getD, length}
 use lib.Seq.{getD-set-same}
@@ -28,8 +28,8 @@ use Rattle.programs.specs.Programs.{saturation}
 use Rattle.programs.specs.Orders.{curve-program, kinds}
 use Rattle.programs.specs.Opens.{truncated, curve-value, values}
 use Rattle.programs.proofs.Gates.{Fits}
-use Rattle.programs.proofs.Points.{not-temporary, Other, other, target, Point, after, afters, afters-append, num, m-of, l1-of}
-use Rattle.programs.proofs.Points.{l2-of, keep-share}
+use Rattle.programs.proofs.Points.{not-temporary, Other, other, Aside, register, aside, target, Point, after, afters, afters-append}
+use Rattle.programs.proofs.Points.{num, m-of, l1-of, l2-of, keep-share}
 use Rattle.programs.proofs.Targets.{at-add, at-sub, at-mul, at-scale, at-plus, at-refresh}
 use Rattle.programs.proofs.Blocks.{relu-opens, relu-keeps}
 use Rattle.programs.proofs.Truncations.{mask-of, slack-opens, slack-keeps, one-bit-opens, one-bit-keeps, exact-opens, exact-keeps}
@@ -96,15 +96,12 @@ module _ (w : ℕ) (A B : List ℕ) (hA : Fits w A) (hB : Fits w B) (low : 2 ≤
       one-bit-of 12 22 22 (after w A B hA hB (Refresh 22 22) H) refl
       ∙ ap₂ (λ (v L : ℕ). one-bit w 12 (add w v L) L) (at-refresh w A B hA hB H 22 refl 22 ∙ e) (refresh-mask H 22 22 refl)
 
-  truncation-keeps : (mode : ℕ) (H : Pt) (i : ℕ) → i < 16 → share (run (truncation w mode) H .j) i ≡ share (H .j) i
+  truncation-keeps : (mode : ℕ) (H : Pt) (i : ℕ) → Aside i → share (run (truncation w mode) H .j) i ≡ share (H .j) i
   unfolding truncation afters target
-  truncation-keeps mode H i hi = go mode (other 22 i hi (not-temporary i 22 hi (lit≤ tt)))
-    where
-      go : (mode : ℕ) → Other 22 i → share (run (truncation w mode) H .j) i ≡ share (H .j) i
-      go zero o = exact-keeps w A B hA hB 12 22 22 H refl low i o
-      go (suc m) o =
-          one-bit-keeps w A B hA hB 12 22 22 (after w A B hA hB (Refresh 22 22) H) refl i o
-          ∙ keep-share w A B hA hB (Refresh 22 22) H i (o .i22)
+  truncation-keeps zero H i o = exact-keeps w A B hA hB 12 22 22 H refl low i o
+  truncation-keeps (suc m) H i o =
+      one-bit-keeps w A B hA hB 12 22 22 (after w A B hA hB (Refresh 22 22) H) refl i o
+      ∙ keep-share w A B hA hB (Refresh 22 22) H i (o .i22)
 
   module _ (x d mode : ℕ) (ps : List Row) (G : Pt) where
     -- its sum, and the sum truncated
@@ -120,10 +117,7 @@ module _ (w : ℕ) (A B : List ℕ) (hA : Fits w A) (hB : Fits w B) (low : 2 ≤
         afters-append w A B hA hB (sum-program w x ps) (truncation w mode ++ saturation w (last-count ps) x d) G
         ∙ afters-append w A B hA hB (truncation w mode) (saturation w (last-count ps) x d) summed
 
-    module _ (hx : x < 16) where
-      x21 : eqb x 21 ≡ false
-      x21 = not-temporary x 21 hx (lit≤ tt)
-
+    module _ (hx : Aside x) where
       source-kept : num w A B hA hB truncated-at x ≡ num w A B hA hB G x
       unfolding num
       source-kept = ap (value (numbers w)) (truncation-keeps mode summed x hx ∙ sum-keeps w A B hA hB low x hx ps G x hx)
@@ -134,7 +128,7 @@ module _ (w : ℕ) (A B : List ℕ) (hA : Fits w A) (hB : Fits w B) (low : 2 ≤
       unfolding curve-value
       curve-opens hd h l =
           ap (λ (H : Pt). num w A B hA hB H d) curve-parts
-          ∙ saturation-opens w A B hA hB low (last-count ps) x d truncated-at x21 hd
+          ∙ saturation-opens w A B hA hB low (last-count ps) x d truncated-at (hx .i21) hd
           ∙ ap₂ (λ (x v : ℕ). saturated w (above-last w (last-count ps) x) v) source-kept
           (truncation-opens h mode summed _ (sum-of ps l))
         where
@@ -143,17 +137,19 @@ module _ (w : ℕ) (A B : List ℕ) (hA : Fits w A) (hB : Fits w B) (low : 2 ≤
           sum-of (p ∷ qs) l = sum-opens w A B hA hB low x hx p qs G
 
       -- R-1's a, which the order leaves in slot 20
-      pub curve-leaves : d < 16 → num w A B hA hB (run (curve-program w x d ps mode) G) 20 ≡ above-last w (last-count ps) (num w A B hA hB G x)
-      curve-leaves hd =
+      pub curve-leaves : ltb d 24 ≡ true → eqb 20 d ≡ false
+          → num w A B hA hB (run (curve-program w x d ps mode) G) 20 ≡ above-last w (last-count ps) (num w A B hA hB G x)
+      curve-leaves hd d20 =
           ap (λ (H : Pt). num w A B hA hB H 20) curve-parts
-          ∙ saturation-leaves w A B hA hB low (last-count ps) x d truncated-at x21 (lt-ltb d 24 (omega arith)) (ne-eqb 20 d (λ e. omega arith))
+          ∙ saturation-leaves w A B hA hB low (last-count ps) x d truncated-at (hx .i21) hd d20
           ∙ ap (above-last w (last-count ps)) source-kept
 
-      pub curve-keeps : ltb d 24 ≡ true → (i : ℕ) → i < 16 → Other d i
+      pub curve-keeps : ltb d 24 ≡ true → (i : ℕ) → Other d i
           → share (run (curve-program w x d ps mode) G .j) i ≡ share (G .j) i
-      curve-keeps hd i hi o =
+      curve-keeps hd i o =
+          let hi = aside d i o in
           ap (λ (H : Pt). share (H .j) i) curve-parts
-          ∙ saturation-keeps w A B hA hB low (last-count ps) x d truncated-at x21 hd i o
+          ∙ saturation-keeps w A B hA hB low (last-count ps) x d truncated-at (hx .i21) hd i o
           ∙ truncation-keeps mode summed i hi ∙ sum-keeps w A B hA hB low x hx ps G i hi
 
   -- ---- every kind
@@ -196,7 +192,7 @@ module _ (w : ℕ) (A B : List ℕ) (hA : Fits w A) (hB : Fits w B) (low : 2 ≤
         (λ s. at-scale w A B hA hB G d d24 a c)
         (λ s. at-mul w A B hA hB G d d24 a c) (λ s. at-refresh w A B hA hB G d d24 a) (λ s. slack-of) (λ s. one-bit-of c a d G d24)
         (λ s. exact-of c a d G d24 (s .shift refl .0) (s .shift refl .1)) (λ s. relu-of)
-        (λ s. curve-opens a d c ps G ha d24 (s .curve refl .0) (s .curve refl .1))
+        (λ s. curve-opens a d c ps G (register a ha) d24 (s .curve refl .0) (s .curve refl .1))
 
     -- ---- no register but the target
 
@@ -224,4 +220,4 @@ module _ (w : ℕ) (A B : List ℕ) (hA : Fits w A) (hB : Fits w B) (low : 2 ≤
           (one-gate (Mul d a c) id) (one-gate (Refresh d a) id)
           (slack-keeps w A B hA hB c a d G d24 i (o .i16) (o .i17) (o .id)) (one-bit-keeps w A B hA hB c a d G d24 i o)
           (exact-keeps w A B hA hB c a d G d24 low i o)
-          relu-kept (curve-keeps a d c ps G ha d24 i hi o)
+          relu-kept (curve-keeps a d c ps G (register a ha) d24 i o)

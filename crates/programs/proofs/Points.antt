@@ -7,7 +7,7 @@ use Prim.Native.Nat.{ℕ, zero, suc, _*_, _%_, _^_, _≤_, _<_}
 use native.Mathlib.Nat.{mod-lt, lt-of-le-of-lt, le-trans, mod-le, div-le-self}
 use native.Mathlib.Omega.{arith}
 use borrow.Author.Tests.{ne-eqb}
-use lib.Dec.{T, eqb, ltb, eqb-refl, lit≤}
+use lib.Dec.{T, eqb, ltb, eqb-refl, lit≤, lit<}
 use lib.ListN.{set}
 use lib.Seq.{getD-set-other, lt-length-set}
 use lib.Bits.{xor-lt}
@@ -156,18 +156,48 @@ pub record Other (d i : ℕ) : Type 0 where
   pub i23 : eqb i 23 ≡ false
   pub id : eqb i d ≡ false
 
-pub other : (d i : ℕ) → i < 16 → eqb i d ≡ false → Other d i
-other d i h e =
+no-temporary : (d i : ℕ) → ((t : ℕ) → 16 ≤ t → t < 24 → eqb i t ≡ false) → eqb i d ≡ false → Other d i
+no-temporary d i f e =
     record {
-      i16 = not-temporary i 16 h (lit≤ tt);
-      i17 = not-temporary i 17 h (lit≤ tt);
-      i18 = not-temporary i 18 h (lit≤ tt);
-      i19 = not-temporary i 19 h (lit≤ tt);
-      i20 = not-temporary i 20 h (lit≤ tt);
-      i21 = not-temporary i 21 h (lit≤ tt);
-      i22 = not-temporary i 22 h (lit≤ tt);
-      i23 = not-temporary i 23 h (lit≤ tt);
+      i16 = f 16 (lit≤ tt) (lit< tt);
+      i17 = f 17 (lit≤ tt) (lit< tt);
+      i18 = f 18 (lit≤ tt) (lit< tt);
+      i19 = f 19 (lit≤ tt) (lit< tt);
+      i20 = f 20 (lit≤ tt) (lit< tt);
+      i21 = f 21 (lit≤ tt) (lit< tt);
+      i22 = f 22 (lit≤ tt) (lit< tt);
+      i23 = f 23 (lit≤ tt) (lit< tt);
       id = e;
+    }
+
+pub other : (d i : ℕ) → i < 16 → eqb i d ≡ false → Other d i
+other d i h e = no-temporary d i (λ t l k. not-temporary i t h l) e
+
+-- a slot that is no temporary: such are the registers, the slots behind the temporaries, and what is `Other`
+abbrev pub Aside : ℕ → Type 0
+Aside i = Other 22 i
+
+pub register : (i : ℕ) → i < 16 → Aside i
+register i h = other 22 i h (not-temporary i 22 h (lit≤ tt))
+
+pub behind : (i : ℕ) → 24 ≤ i → Aside i
+behind i h = no-temporary 22 i f (f 22 (lit≤ tt) (lit< tt))
+  where
+    f : (t : ℕ) → 16 ≤ t → t < 24 → eqb i t ≡ false
+    f t l k = ne-eqb i t (λ e. omega arith)
+
+pub aside : (d i : ℕ) → Other d i → Aside i
+aside d i o =
+    record {
+      i16 = o .i16;
+      i17 = o .i17;
+      i18 = o .i18;
+      i19 = o .i19;
+      i20 = o .i20;
+      i21 = o .i21;
+      i22 = o .i22;
+      i23 = o .i23;
+      id = o .i22;
     }
 
 -- ---- points

@@ -5,7 +5,7 @@ use mathlib.Core.Bool.{Bool, true}
 use mathlib.Core.List.{List, [], _∷_, _++_, map}
 use Prim.Native.Nat.{ℕ, zero, suc, _+_, _≤_, _<_}
 use native.Mathlib.Omega.{arith}
-use borrow.Author.Tests.{ltb-true}
+use borrow.Author.Tests.{ltb-true, lt-ltb, ne-eqb}
 use lib.Pow.{pow-pos}
 use lib.ListN.{getD, length, replicate, List·getD-map}
 use Rattle.words.specs.Words.{add, numbers}
@@ -25,7 +25,7 @@ use Rattle.programs.specs.Orders.{curve-program, kinds, program}
 use Rattle.programs.specs.Opens.{order-value}
 use Rattle.programs.specs.Costs.{program-cost}
 use Rattle.programs.proofs.Gates.{Fits}
-use Rattle.programs.proofs.Points.{Point, after, afters, num, l1-of, l2-of}
+use Rattle.programs.proofs.Points.{register, Point, after, afters, num, l1-of, l2-of}
 use Rattle.programs.proofs.Opens.{new-mask, curve-leaves, curve-mask, Sound, kind-opens}
 use Rattle.jobs.proofs.Accepted.{Good, exact-shift, curve-ruled}
 use Rattle.calls.specs.Scripts.{Orderly}
@@ -170,6 +170,7 @@ module _ (w : ℕ) (S : Stage) (tidy : Orderly (S .script)) (words : Words w S) 
       curve-leaves-a k =
           let curve : program w ps o ≡ curve-program w (o .source) (o .target) ps (o .fourth) = rw k in
           ap (λ (t : Triple). value (numbers w) (share t t-slot)) (left-is ∙ ap (λ (gs : List Gate). run gs (before q) .j) curve)
-          ∙ curve-leaves w (S .A) (S .B) (words .A) (words .B) low (o .source) (o .target) (o .fourth) ps (before q) (good .source)
-          (good .target)
+          ∙ curve-leaves w (S .A) (S .B) (words .A) (words .B) low (o .source) (o .target) (o .fourth) ps (before q)
+          (register (o .source) (good .source)) (lt-ltb (o .target) 24 (omega (arith, good .target)))
+          (ne-eqb 20 (o .target) (λ e. omega (arith, good .target)))
           ∙ ap (λ (t : Triple). above-last w (last-count ps) (value (numbers w) (share t (o .source)))) (sym (before-is q hq))

@@ -237,11 +237,11 @@ module _ (S : Stage) where
       let g = f (position (Z .n) .state) (pos-lengths A B all j₀ (n + 8) (Z .n) j₀-lengths) in
       rw (Z .is) (record { m = omega (arith, g .0); mask = omega (arith, g .1) })
 
-  one-holds : {x : Side} → OneOk x → HasSlots n (side-state x)
+  pub one-holds : {x : Side} → OneOk x → HasSlots n (side-state x)
   one-holds (wait1 h) = holds-waiting _ (S .rm) (S .r1) h (S .rm-full) (S .r1-full)
   one-holds (go1 Z) = holds-tied of1 (joint1 A B) _ _ _ (λ j h. (h .m, h .l1)) Z
 
-  two-holds : {x : Side} → TwoOk x → HasSlots n (side-state x)
+  pub two-holds : {x : Side} → TwoOk x → HasSlots n (side-state x)
   two-holds (wait2 h) = holds-waiting _ (S .rm) (S .r2) h (S .rm-full) (S .r2-full)
   two-holds (go2 Z) = holds-tied of2 (joint2 A B) _ _ _ (λ j h. (h .m, h .l2)) Z
 

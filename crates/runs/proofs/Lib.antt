@@ -18,6 +18,7 @@ pub mod Unwritten
 pub mod Standing
 pub mod Returned
 pub mod Holdings
+pub mod Behind
 pub mod InOrder
 pub mod Strict
 pub mod Buffers

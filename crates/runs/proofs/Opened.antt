@@ -21,14 +21,14 @@ use Rattle.jobs.proofs.Accepted.{Good, accepted-orders}
 use Rattle.calls.proofs.Scripts.{job-made}
 use Rattle.runs.proofs.Lists.{getD-map}
 use Rattle.runs.specs.Runs.{Setting, staged}
-use Rattle.runs.specs.Orders.{Words, share-before, share-after, value-after, Unwritten, WrittenLast, order-of, Untargeted, used-before}
-use Rattle.runs.specs.Orders.{refresh-mask, source-value, source-mask, second-value}
+use Rattle.runs.specs.Orders.{Words, share-before, share-after, value-after, Unwritten, WrittenLast, WrittenBehind}
+use Rattle.runs.specs.Orders.{order-of, Untargeted, used-before, refresh-mask, source-value, source-mask, second-value}
 use Rattle.jobs.proofs.Indices.{gates-length}
 use Rattle.runs.proofs.Chain.{job-orders, job-orderly}
 use Rattle.runs.proofs.Gated.{program-leaves, curve-leaves-a}
 use Rattle.runs.proofs.Spared.{slot-kept}
 use Rattle.runs.proofs.Written.{spares-program, front-program}
-use Rattle.runs.proofs.Unwritten.{unwritten-gates, last-gates}
+use Rattle.runs.proofs.Unwritten.{last-is-behind, unwritten-gates, last-gates}
 
 module _ (w : ℕ) (S : Setting) where
   abbrev pub gates : List (List Gate)
@@ -55,12 +55,13 @@ module _ (w : ℕ) (S : Setting) where
       (λ h. let k : q < length (orders (S .job)) = rw (gates-length w (S .job) (S .table)) at h in
       rw (gates-is q k) (spares-program w (rows (S .table)) (order-of S q) i hi (f k))))
 
-  -- no step of order q but its last writes a register
-  pub target-last : (q i : ℕ) → i < 16 → WrittenLast i q (staged w S .script .steps)
-  target-last q i hi =
-      subst (λ (ss : List Step). WrittenLast i q ss) (sym made)
+  -- no step of order q but its last writes a register, and behind that stands nothing
+  pub target-behind : (q i : ℕ) → i < 16 → WrittenBehind i q (staged w S .script .steps)
+  target-behind q i hi =
+      last-is-behind i q (staged w S .script .steps)
+      (subst (λ (ss : List Step). WrittenLast i q ss) (sym made)
       (last-gates w i q (order-of S q .target) gates
-      (λ h. rw (gates-is q (rw (gates-length w (S .job) (S .table)) at h)) (front-program w (rows (S .table)) (order-of S q) i hi)))
+      (λ h. rw (gates-is q (rw (gates-length w (S .job) (S .table)) at h)) (front-program w (rows (S .table)) (order-of S q) i hi))))
 
   pub order-keeps : (q : ℕ) → q < length (orders (S .job)) → (i : ℕ) → i < 16 → eqb i (order-of S q .target) ≡ false
       → share-after (staged w S) q i ≡ share-before (staged w S) q i

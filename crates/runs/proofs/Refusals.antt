@@ -84,7 +84,7 @@ take-fresh n l h =
     ap (λ (x : List ℕ). x ++ drop n l) (take-append-le n (take n l) (replicate 8 0) (omega arith) ∙ take-all n (take n l) (omega arith))
     ∙ take-append-drop n l
 
-turned-same : (n : ℕ) {s s′ : State} → HasSlots n s → Turned n s s′ → s′ ≡ s
+pub turned-same : (n : ℕ) {s s′ : State} → HasSlots n s → Turned n s s′ → s′ ≡ s
 unfolding given
 turned-same n {s} z (at-start loan h) =
     rw (start-state loan (registers n s) h, take-fresh n (s .m) (z .m), take-fresh n (s .mask) (z .mask))

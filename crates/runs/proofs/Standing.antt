@@ -1,5 +1,5 @@
--- Wherever a host stands, a slot that the order at hand writes with its last step, or not at all, holds what it held just before that
--- order. Assumes nothing.
+-- Wherever a host stands, a slot that the order at hand writes behind its last product or refresh, or not at all, holds what it held just
+-- before that order. Assumes nothing.
 use mathlib.Core.Path.{_≡_, refl, sym, ap, _∙_, subst}
 use mathlib.Core.List.{List, [], _∷_, _++_}
 use Prim.Native.Nat.{ℕ, zero, suc, _+_, _-_, _<_, _≤_}
@@ -14,12 +14,12 @@ use Rattle.gates.specs.Hosts.{Pair, Triple, share, of1, of2, joint1, joint2, ac
 use Rattle.calls.specs.Scripts.{ends, orders-in, Closed}
 use Rattle.calls.specs.Calls.{State}
 use Rattle.runs.specs.Runs.{Stage, Spoken, Dealer, ready, Side, going, World, world, Call, Run, side-order, order1}
-use Rattle.runs.specs.Orders.{trail, after-order, before-order, share-before, Unwritten, WrittenLast}
+use Rattle.runs.specs.Orders.{trail, after-order, before-order, share-before, Unwritten, Silent, WrittenBehind}
 use Rattle.runs.specs.Returned.{UnwrittenFrom}
 use Rattle.runs.proofs.Places.{Halted, pos, whole-pos, trail-pos, trail-length, ends-pos}
 use Rattle.runs.proofs.Ties.{joint, Tied}
 use Rattle.runs.proofs.Kept.{all, j₀, last, position, dealt-all, OneOk, wait1, go1, TwoOk, wait2, go2, Ok, ok, kept}
-use Rattle.runs.proofs.Unwritten.{act-misses, closed-from, Unended, unended, halted-unended, last-behind, never-last}
+use Rattle.runs.proofs.Unwritten.{act-misses, closed-from, halted-speaks, misses-or, behind-behind, never-behind}
 use Rattle.runs.proofs.Spared.{kept-between}
 
 module _ (A B : List ℕ) (all : List Step) (j₀ : Triple) where
@@ -31,27 +31,27 @@ module _ (A B : List ℕ) (all : List Step) (j₀ : Triple) where
   before zero t = j₀
   before (suc q) t = getD t q j₀
 
-  -- what the order at hand has still to do, and slot i while its last step is not done
+  -- what the order at hand has still to do, and slot i while a product or refresh of it is not done
   record Current (i : ℕ) (p : Conf Triple) : Type 0 where
-    pub later : (k q : ℕ) → q ≡ p .cur .order + k → WrittenLast i q all → WrittenLast i k (p .rest)
-    pub same : WrittenLast i (p .cur .order) all → Unended (p .rest)
+    pub later : (k q : ℕ) → q ≡ p .cur .order + k → WrittenBehind i q all → WrittenBehind i k (p .rest)
+    pub same : WrittenBehind i (p .cur .order) all → (Silent (p .rest) → ⊥)
         → share (p .state) i ≡ share (before (p .cur .order) (p .trail)) i
     pub count : length (p .trail) ≡ p .cur .order
 
-  here : (i : ℕ) (p : Conf Triple) → Current i p → WrittenLast i (p .cur .order) all → WrittenLast i 0 (p .rest)
+  here : (i : ℕ) (p : Conf Triple) → Current i p → WrittenBehind i (p .cur .order) all → WrittenBehind i 0 (p .rest)
   here i p z u = z .later 0 (p .cur .order) (omega arith) u
 
   module _ (i : ℕ) (ss : List Step) (c : Cursor) (j : Triple) (t : List Triple) where
     -- past a step of the order at hand
-    within : (x : Step) (c′ : Cursor) (j′ : Triple) → c′ .order ≡ c .order → ((k : ℕ) → WrittenLast i k (x ∷ ss) → WrittenLast i k ss)
-        → Unended (x ∷ ss) → (WrittenLast i 0 (x ∷ ss) → Unended ss → share j′ i ≡ share j i)
+    within : (x : Step) (c′ : Cursor) (j′ : Triple) → c′ .order ≡ c .order → ((k : ℕ) → WrittenBehind i k (x ∷ ss) → WrittenBehind i k ss)
+        → (Silent (x ∷ ss) → Silent ss) → (WrittenBehind i 0 (x ∷ ss) → (Silent ss → ⊥) → share j′ i ≡ share j i)
         → Current i (conf (x ∷ ss) c j t) → Current i (conf ss c′ j′ t)
     within x c′ j′ e f o g z =
         record {
           later = λ k q h u. f k (z .later k q (omega (arith, h, e)) u);
           same = λ u n.
-              let v : WrittenLast i (c .order) all = subst (λ (q : ℕ). WrittenLast i q all) e u in
-              g (here i (conf (x ∷ ss) c j t) z v) n ∙ z .same v o ∙ ap (λ (q : ℕ). share (before q t) i) (sym e);
+              let v : WrittenBehind i (c .order) all = subst (λ (q : ℕ). WrittenBehind i q all) e u in
+              g (here i (conf (x ∷ ss) c j t) z v) n ∙ z .same v (λ y. n (o y)) ∙ ap (λ (q : ℕ). share (before q t) i) (sym e);
           count = omega (arith, z .count, e);
         }
 
@@ -69,21 +69,21 @@ module _ (A B : List ℕ) (all : List Step) (j₀ : Triple) where
   unfolding past
   current-next i [] c j t z = z
   current-next i (local d m l ∷ ss) c j t z =
-      within i ss c j t (local d m l) _ _ refl (λ k. last-behind i k (local d m l) ss tt) tt
-      (λ u n. act-misses A B (local d m l) c j i (unended ss n (u .0))) z
+      within i ss c j t (local d m l) _ _ refl (λ k. behind-behind i k (local d m l) ss tt) (λ y. y)
+      (λ u n. act-misses A B (local d m l) c j i (misses-or (u .0) n)) z
   current-next i (deal d f ∷ ss) c j t z =
-      within i ss c j t (deal d f) _ _ refl (λ k. last-behind i k (deal d f) ss tt) tt
-      (λ u n. act-misses A B (deal d f) c j i (unended ss n (u .0))) z
+      within i ss c j t (deal d f) _ _ refl (λ k. behind-behind i k (deal d f) ss tt) (λ y. y)
+      (λ u n. act-misses A B (deal d f) c j i (misses-or (u .0) n)) z
   current-next i (exchange d e ∷ ss) c j t z =
-      within i ss c j t (exchange d e) _ _ refl (λ k. last-behind i k (exchange d e) ss tt) tt
-      (λ u n. act-misses A B (exchange d e) c j i (unended ss n (u .0))) z
+      within i ss c j t (exchange d e) _ _ refl (λ k. behind-behind i k (exchange d e) ss tt) (λ y. absurd y)
+      (λ u n. act-misses A B (exchange d e) c j i (misses-or (u .0) n)) z
   current-next i (end ∷ ss) c j t z = behind-end i ss c j t z
 
   current : (i n : ℕ) → Current i (at-n n)
   unfolding pos before
   current i zero =
       record {
-        later = λ k q h u. let e : q ≡ k = omega (arith, h) in subst (λ (x : ℕ). WrittenLast i x all) e u;
+        later = λ k q h u. let e : q ≡ k = omega (arith, h) in subst (λ (x : ℕ). WrittenBehind i x all) e u;
         same = λ u n. refl;
         count = refl;
       }
@@ -131,8 +131,8 @@ module _ (S : Stage) where
       let l : q < length (point n .trail) = omega (arith, trail-length (act A B) (all S) (j₀ S) n, e) in
       sym (ap (λ (u : List Triple). getD u q (j₀ S)) (r .1) ∙ List·getD-append (point n .trail) (r .0) (j₀ S) q l)
 
-  -- slot i at position n, where the order at hand has still a step to do
-  stands-at : (n i : ℕ) → Unended (point n .rest) → WrittenLast i (point n .cur .order) (all S)
+  -- slot i at position n, where the order at hand has still a product or refresh to do, or no end
+  stands-at : (n i : ℕ) → (Silent (point n .rest) → ⊥) → WrittenBehind i (point n .cur .order) (all S)
       → share (point n .state) i ≡ share-before S (point n .cur .order) i
   stands-at n i o u = current A B (all S) (j₀ S) i n .same u o ∙ ap (λ (x : Triple). share x i) (before-is n _ refl)
 
@@ -143,7 +143,8 @@ module _ (S : Stage) where
   pub stands-since : (p i n : ℕ) → Halted (point n .rest) → UnwrittenFrom S p i → p ≤ point n .cur .order
       → share (point n .state) i ≡ share-before S p i
   stands-since p i n o u h =
-      stands-at n i (halted-unended (point n .rest) o) (never-last i (point n .cur .order) (all S) (u (point n .cur .order) h)) ∙ kept-between S p i (point n .cur .order) h (inside n) (λ q a b. u q a)
+      stands-at n i (halted-speaks (point n .rest) o) (never-behind i (point n .cur .order) (all S) (u (point n .cur .order) h))
+      ∙ kept-between S p i (point n .cur .order) h (inside n) (λ q a b. u q a)
 
   -- the orders that a host is past are the script's
   pub order1-inside : {x : Side} → OneOk S x → side-order x ≤ orders-in (S .script)
@@ -165,16 +166,16 @@ module _ (S : Stage) where
     order-is : s .order ≡ point (Z .n) .cur .order
     order-is = ap (λ (x : State). x .order) (Z .is)
 
-    tied-stands : WrittenLast i (s .order) (all S) → share (point (Z .n) .state) i ≡ share-before S (s .order) i
+    tied-stands : WrittenBehind i (s .order) (all S) → share (point (Z .n) .state) i ≡ share-before S (s .order) i
     tied-stands u =
-        stands-at (Z .n) i (halted-unended (point (Z .n) .rest) (Z .halts)) (subst (λ (q : ℕ). WrittenLast i q (all S)) order-is u)
+        stands-at (Z .n) i (halted-speaks (point (Z .n) .rest) (Z .halts)) (subst (λ (q : ℕ). WrittenBehind i q (all S)) order-is u)
         ∙ ap (λ (q : ℕ). share-before S q i) (sym order-is)
 
   -- ---- host by host
 
   pub stands1 : {cs : List Call} {z : Dealer} {buf : List ℕ} {s : State} {t : List Pair} {said : List Spoken} {two : Side}
       → Run S cs (world z buf (going s t said) two)
-      → (i : ℕ) → WrittenLast i (s .order) (all S)
+      → (i : ℕ) → WrittenBehind i (s .order) (all S)
       → (at (s .m) i ≡ share-before S (s .order) i .m) × (at (s .mask) i ≡ share-before S (s .order) i .l1)
   stands1 {s = s} {t = t} {said = said} r i u = go (kept S r)
     where
@@ -188,7 +189,7 @@ module _ (S : Stage) where
 
   pub stands2 : {cs : List Call} {z : Dealer} {buf : List ℕ} {one : Side} {s : State} {t : List Pair} {said : List Spoken}
       → Run S cs (world z buf one (going s t said))
-      → (i : ℕ) → WrittenLast i (s .order) (all S)
+      → (i : ℕ) → WrittenBehind i (s .order) (all S)
       → (at (s .m) i ≡ share-before S (s .order) i .m) × (at (s .mask) i ≡ share-before S (s .order) i .l2)
   stands2 {s = s} {t = t} {said = said} r i u = go (kept S r)
     where
@@ -229,7 +230,7 @@ module _ (S : Stage) where
       let n : ℕ = length (all S) in
       let u : Unwritten i (point n .cur .order) (all S) = closed-from i (all S) shut (point n .cur .order) (omega (arith, last-order)) in
       ap (λ (p : Conf Triple). share (p .state) i) (last-is A B (all S) (j₀ S))
-      ∙ stands-at n i (halted-unended (point n .rest) last-halts) (never-last i (point n .cur .order) (all S) u)
+      ∙ stands-at n i (halted-speaks (point n .rest) last-halts) (never-behind i (point n .cur .order) (all S) u)
       ∙ ap (λ (q : ℕ). share-before S q i) last-order
 
   pub stands0 : {cs : List Call} {r : Pair} {t : List Pair} {buf : List ℕ} {one two : Side} → Closed (all S)

@@ -1,7 +1,9 @@
--- Steps and gates that do not write a slot, from an order on, or write it as the last of an order alone. Assumes nothing.
+-- Steps and gates that do not write a slot, from an order on, or write it as the last of an order alone, or only behind the last product or
+-- refresh of an order. Assumes nothing.
 use mathlib.Core.Path.{_≡_, refl}
 use mathlib.Core.Bool.{false}
-use mathlib.Core.List.{List, [], _∷_}
+use mathlib.Core.Logic.{_⊎_, inl, inr}
+use mathlib.Core.List.{List, [], _∷_, _++_}
 use Prim.Native.Nat.{ℕ, zero, suc, _≤_, _<_}
 use native.Mathlib.Omega.{arith}
 use lib.Dec.{eqb}
@@ -13,7 +15,7 @@ use Rattle.gates.specs.Hosts.{Triple, share, act}
 use Rattle.programs.proofs.Points.{target}
 use Rattle.gates.proofs.GateSteps.{OfGate, of-gate}
 use Rattle.calls.specs.Scripts.{ends, Closed}
-use Rattle.runs.specs.Orders.{Unwritten, GoingOn, WrittenLast}
+use Rattle.runs.specs.Orders.{Unwritten, GoingOn, WrittenLast, Silent, WrittenBehind}
 use Rattle.runs.proofs.Spared.{other-slot}
 use Rattle.runs.proofs.Places.{Halted}
 use Rattle.runs.proofs.Written.{Spares, none, also, SparesFront, none-in-front, alone, in-front}
@@ -58,28 +60,6 @@ unwritten-behind i q end ss o u = absurd o
 
 -- ---- steps of which only an order's last may write slot i
 
--- not at the end of an order
-abbrev pub Unended : List Step → Type 0
-Unended [] = Unit
-Unended (local d m l ∷ ss) = Unit
-Unended (deal d f ∷ ss) = Unit
-Unended (exchange d e ∷ ss) = Unit
-Unended (end ∷ ss) = ⊥
-
-pub unended : {P : Type 0} (ss : List Step) → Unended ss → GoingOn ss P → P
-unended [] n p = p
-unended (local d m l ∷ ss) n p = p
-unended (deal d f ∷ ss) n p = p
-unended (exchange d e ∷ ss) n p = p
-unended (end ∷ ss) n p = absurd n
-
-pub halted-unended : (ss : List Step) → Halted ss → Unended ss
-halted-unended [] h = tt
-halted-unended (local d m l ∷ ss) h = absurd h
-halted-unended (deal d f ∷ ss) h = absurd h
-halted-unended (exchange d e ∷ ss) h = tt
-halted-unended (end ∷ ss) h = absurd h
-
 going-on : {P : Type 0} (ss : List Step) → P → GoingOn ss P
 going-on [] p = p
 going-on (local d m l ∷ ss) p = p
@@ -96,17 +76,58 @@ last-behind i (suc q) (deal d f) ss o u = u
 last-behind i (suc q) (exchange d e) ss o u = u
 last-behind i q end ss o u = absurd o
 
+-- ---- steps of which only those behind an order's last product or refresh may write slot i
+
+pub halted-speaks : (ss : List Step) → Halted ss → Silent ss → ⊥
+halted-speaks [] h n = n
+halted-speaks (local d m l ∷ ss) h n = h
+halted-speaks (deal d f ∷ ss) h n = h
+halted-speaks (exchange d e ∷ ss) h n = n
+halted-speaks (end ∷ ss) h n = h
+
+pub misses-or : {P Q : Type 0} → P ⊎ Q → (Q → ⊥) → P
+misses-or (inl p) n = p
+misses-or (inr q) n = absurd (n q)
+
+pub behind-behind : (i q : ℕ) (x : Step) (ss : List Step) → OfGate x → WrittenBehind i q (x ∷ ss) → WrittenBehind i q ss
+behind-behind i zero (local d m l) ss o u = u .1
+behind-behind i zero (deal d f) ss o u = u .1
+behind-behind i zero (exchange d e) ss o u = u .1
+behind-behind i (suc q) (local d m l) ss o u = u
+behind-behind i (suc q) (deal d f) ss o u = u
+behind-behind i (suc q) (exchange d e) ss o u = u
+behind-behind i q end ss o u = absurd o
+
 -- a slot that is never written
-pub never-last : (i q : ℕ) (ss : List Step) → Unwritten i q ss → WrittenLast i q ss
-never-last i q [] u = tt
-never-last i zero (local d m l ∷ ss) u = (going-on ss (u .0), never-last i zero ss (u .1))
-never-last i zero (deal d f ∷ ss) u = (going-on ss (u .0), never-last i zero ss (u .1))
-never-last i zero (exchange d e ∷ ss) u = (going-on ss (u .0), never-last i zero ss (u .1))
-never-last i zero (end ∷ ss) u = tt
-never-last i (suc q) (local d m l ∷ ss) u = never-last i (suc q) ss u
-never-last i (suc q) (deal d f ∷ ss) u = never-last i (suc q) ss u
-never-last i (suc q) (exchange d e ∷ ss) u = never-last i (suc q) ss u
-never-last i (suc q) (end ∷ ss) u = never-last i q ss u
+pub never-behind : (i q : ℕ) (ss : List Step) → Unwritten i q ss → WrittenBehind i q ss
+never-behind i q [] u = tt
+never-behind i zero (local d m l ∷ ss) u = (inl (u .0), never-behind i zero ss (u .1))
+never-behind i zero (deal d f ∷ ss) u = (inl (u .0), never-behind i zero ss (u .1))
+never-behind i zero (exchange d e ∷ ss) u = (inl (u .0), never-behind i zero ss (u .1))
+never-behind i zero (end ∷ ss) u = tt
+never-behind i (suc q) (local d m l ∷ ss) u = never-behind i (suc q) ss u
+never-behind i (suc q) (deal d f ∷ ss) u = never-behind i (suc q) ss u
+never-behind i (suc q) (exchange d e ∷ ss) u = never-behind i (suc q) ss u
+never-behind i (suc q) (end ∷ ss) u = never-behind i q ss u
+
+-- behind an order's last step stands nothing
+or-ends : {P : Type 0} (ss : List Step) → GoingOn ss P → P ⊎ Silent ss
+or-ends [] p = inl p
+or-ends (local d m l ∷ ss) p = inl p
+or-ends (deal d f ∷ ss) p = inl p
+or-ends (exchange d e ∷ ss) p = inl p
+or-ends (end ∷ ss) p = inr tt
+
+pub last-is-behind : (i q : ℕ) (ss : List Step) → WrittenLast i q ss → WrittenBehind i q ss
+last-is-behind i q [] u = tt
+last-is-behind i zero (local d m l ∷ ss) u = (or-ends ss (u .0), last-is-behind i zero ss (u .1))
+last-is-behind i zero (deal d f ∷ ss) u = (or-ends ss (u .0), last-is-behind i zero ss (u .1))
+last-is-behind i zero (exchange d e ∷ ss) u = (or-ends ss (u .0), last-is-behind i zero ss (u .1))
+last-is-behind i zero (end ∷ ss) u = tt
+last-is-behind i (suc q) (local d m l ∷ ss) u = last-is-behind i (suc q) ss u
+last-is-behind i (suc q) (deal d f ∷ ss) u = last-is-behind i (suc q) ss u
+last-is-behind i (suc q) (exchange d e ∷ ss) u = last-is-behind i (suc q) ss u
+last-is-behind i (suc q) (end ∷ ss) u = last-is-behind i q ss u
 
 -- ---- lists of gates
 
@@ -196,3 +217,42 @@ unfolding job-steps
 last-gates w i p d [] f = tt
 last-gates w i zero d (o ∷ os) f = last-order w i o (job-steps w os) d (f (omega arith))
 last-gates w i (suc p) d (o ∷ os) f = skip-order-last w i p o (job-steps w os) (last-gates w i p d os (λ h. f (omega arith)))
+
+-- ---- gates of which only those behind an order's last product or refresh may write slot i
+
+behind-step : (i : ℕ) (x : Step) (ss : List Step) → OfGate x → Misses i x → WrittenBehind i 0 ss → WrittenBehind i 0 (x ∷ ss)
+behind-step i (local d m l) ss o h u = (inl h, u)
+behind-step i (deal d f) ss o h u = (inl h, u)
+behind-step i (exchange d e) ss o h u = (inl h, u)
+behind-step i end ss o h u = absurd o
+
+pub then-behind : (w i : ℕ) (gs hs : List Gate) (ss : List Step) → Spares i gs → WrittenBehind i 0 (order-steps w hs ss)
+    → WrittenBehind i 0 (order-steps w (gs ++ hs) ss)
+unfolding order-steps
+then-behind w i [] hs ss none u = u
+then-behind w i (g ∷ gs) hs ss (also e p) u =
+    behind-step i (meaning w g) (order-steps w (gs ++ hs) ss) (of-gate w g) (gate-misses w i g e) (then-behind w i gs hs ss p u)
+
+pub front-behind : (w i d : ℕ) (gs : List Gate) (ss : List Step) → SparesFront i d gs → WrittenBehind i 0 (order-steps w gs ss)
+front-behind w i d gs ss p = last-is-behind i 0 (order-steps w gs ss) (last-order w i gs ss d p)
+
+skip-behind : (w i k : ℕ) (g : Gate) (ss : List Step) → WrittenBehind i (suc k) ss → WrittenBehind i (suc k) (meaning w g ∷ ss)
+skip-behind w i k g ss h = go (meaning w g) (of-gate w g)
+  where
+    go : (y : Step) → OfGate y → WrittenBehind i (suc k) (y ∷ ss)
+    go (local d m l) o = h
+    go (deal d f) o = h
+    go (exchange d e) o = h
+    go end o = absurd o
+
+skip-order-behind : (w i k : ℕ) (gs : List Gate) (ss : List Step) → WrittenBehind i k ss → WrittenBehind i (suc k) (order-steps w gs ss)
+unfolding order-steps
+skip-order-behind w i k [] ss h = h
+skip-order-behind w i k (g ∷ gs) ss h = skip-behind w i k g (order-steps w gs ss) (skip-order-behind w i k gs ss h)
+
+pub behind-gates : (w i p : ℕ) (os : List (List Gate))
+    → (p < length os → (ss : List Step) → WrittenBehind i 0 (order-steps w (getD os p []) ss)) → WrittenBehind i p (job-steps w os)
+unfolding job-steps
+behind-gates w i p [] f = tt
+behind-gates w i zero (o ∷ os) f = f (omega arith) (job-steps w os)
+behind-gates w i (suc p) (o ∷ os) f = skip-order-behind w i p o (job-steps w os) (behind-gates w i p os (λ h. f (omega arith)))

@@ -4,7 +4,7 @@ use mathlib.Core.Bool.{false}
 use mathlib.Core.List.{List, [], _∷_, _++_}
 use Prim.Native.Nat.{ℕ, zero, suc, _-_, _^_, _<_}
 use native.Mathlib.Omega.{arith}
-use lib.Dec.{eqb, lit≤}
+use lib.Dec.{eqb}
 use lib.ListN.{getD}
 use lib.IntN.{ℤ, pos}
 use Rattle.words.specs.Words.{neg}
@@ -17,14 +17,14 @@ use Rattle.programs.specs.Programs.{update-gates, rounds, adder, to-number, sig
 use Rattle.programs.specs.Programs.{one-bit-program, exact-program, row-program, rows-program, sum-program, truncation}
 use Rattle.programs.specs.Programs.{saturation-head, saturation-end, saturation}
 use Rattle.programs.specs.Orders.{curve-program, kinds, program}
-use Rattle.programs.proofs.Points.{target, not-temporary, Other, other}
+use Rattle.programs.proofs.Points.{target, Other, register}
 
 -- no gate writes slot i
 pub data Spares (i : ℕ) : List Gate → Type 0 where
   none : Spares i []
   also : {g : Gate} {gs : List Gate} → eqb i (target g) ≡ false → Spares i gs → Spares i (g ∷ gs)
 
-spares-append : (i : ℕ) (gs hs : List Gate) → Spares i gs → Spares i hs → Spares i (gs ++ hs)
+pub spares-append : (i : ℕ) (gs hs : List Gate) → Spares i gs → Spares i hs → Spares i (gs ++ hs)
 spares-append i [] hs none q = q
 spares-append i (g ∷ gs) hs (also e p) q = also e (spares-append i gs hs p q)
 
@@ -92,7 +92,7 @@ module _ (i : ℕ) (o : Other 22 i) (w : ℕ) where
       in-front (o .i21) (in-front (o .i16) (in-front (o .i17) (in-front (o .i18) (in-front (o .i19) (in-front (o .i20)
       (in-front (o .i20) (in-front (o .i17) (in-front (o .i17) (in-front (o .i17) (in-front (o .i18) (in-front (o .i18) (alone refl))))))))))))
 
-  front-exact : (k x d : ℕ) → SparesFront i d (exact-program w k x d)
+  pub front-exact : (k x d : ℕ) → SparesFront i d (exact-program w k x d)
   unfolding exact-program target
   front-exact k x d =
       let first : List Gate =
@@ -136,7 +136,7 @@ module _ (i : ℕ) (o : Other 22 i) (w : ℕ) where
   spares-truncation zero = spared i 22 (exact-program w 12 22 22) (o .i22) (front-exact 12 22 22)
   spares-truncation (suc m) = also (o .i22) (spared i 22 (one-bit-program w 12 22 22) (o .i22) (front-one-bit 12 22 22))
 
-  front-curve : (x d : ℕ) (ps : List Row) (mode : ℕ) → SparesFront i d (curve-program w x d ps mode)
+  pub front-curve : (x d : ℕ) (ps : List Row) (mode : ℕ) → SparesFront i d (curve-program w x d ps mode)
   unfolding curve-program saturation saturation-head saturation-end target
   front-curve x d ps mode =
       then-front i d (sum-program w x ps) _ (spares-sum x ps)
@@ -156,7 +156,7 @@ pub front-program : (w : ℕ) (ps : List Row) (o : Order) (i : ℕ) → i < 16 �
 unfolding program
 front-program w ps o i h =
     front-at i (o .target) (kinds w ps (o .target) (o .source) (o .fourth)) (o .kind)
-    (front-kinds i (other 22 i h (not-temporary i 22 h (lit≤ tt))) w ps (o .target) (o .source) (o .fourth))
+    (front-kinds i (register i h) w ps (o .target) (o .source) (o .fourth))
 
 -- an order of kinds 0 to 5 has one gate, so that this holds of every slot, the temporaries too
 pub front-alone : (w : ℕ) (ps : List Row) (o : Order) (i : ℕ) → o .kind < 6 → SparesFront i (o .target) (program w ps o)

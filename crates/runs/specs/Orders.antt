@@ -2,6 +2,7 @@
 -- mask of a curve's refresh. Assumes nothing.
 use mathlib.Core.Path.{_≡_}
 use mathlib.Core.Bool.{false}
+use mathlib.Core.Logic.{_⊎_}
 use mathlib.Core.List.{List, [], _∷_}
 use Prim.Native.Nat.{ℕ, zero, suc, _+_, _^_, _<_}
 use lib.Dec.{eqb}
@@ -96,6 +97,28 @@ WrittenLast i (suc q) (local d m l ∷ ss) = WrittenLast i (suc q) ss
 WrittenLast i (suc q) (deal d f ∷ ss) = WrittenLast i (suc q) ss
 WrittenLast i (suc q) (exchange d e ∷ ss) = WrittenLast i (suc q) ss
 WrittenLast i (suc q) (end ∷ ss) = WrittenLast i q ss
+
+-- the order ends, and no product or refresh stands before its end
+abbrev pub Silent : List Step → Type 0
+Silent [] = ⊥
+Silent (local d m l ∷ ss) = Silent ss
+Silent (deal d f ∷ ss) = Silent ss
+Silent (exchange d e ∷ ss) = ⊥
+Silent (end ∷ ss) = Unit
+
+-- "Between two exchanges of an order a state's registers are those before the order.": no step of order q that a
+-- product or refresh of the order stands behind has slot i as its target; and no step at all, where the order does not
+-- end
+abbrev pub WrittenBehind : (i q : ℕ) → List Step → Type 0
+WrittenBehind i q [] = Unit
+WrittenBehind i zero (local d m l ∷ ss) = ((eqb i d ≡ false) ⊎ Silent ss) × WrittenBehind i zero ss
+WrittenBehind i zero (deal d f ∷ ss) = ((eqb i d ≡ false) ⊎ Silent ss) × WrittenBehind i zero ss
+WrittenBehind i zero (exchange d e ∷ ss) = ((eqb i d ≡ false) ⊎ Silent ss) × WrittenBehind i zero ss
+WrittenBehind i zero (end ∷ ss) = Unit
+WrittenBehind i (suc q) (local d m l ∷ ss) = WrittenBehind i (suc q) ss
+WrittenBehind i (suc q) (deal d f ∷ ss) = WrittenBehind i (suc q) ss
+WrittenBehind i (suc q) (exchange d e ∷ ss) = WrittenBehind i (suc q) ss
+WrittenBehind i (suc q) (end ∷ ss) = WrittenBehind i q ss
 
 -- the sum of the two mask words that stand behind the counts k and all that the gates gs use
 abbrev pub mask-behind : (w : ℕ) (A B : List ℕ) → Cost → List Gate → ℕ

@@ -1,3 +1,5 @@
 pub mod Jobs
 pub mod Pieces
 pub mod Places
+pub mod Days
+pub mod DayCalls

@@ -32,7 +32,7 @@ use worker_gate::Reach;
 use worker_gate::meet;
 
 // Conditions 8 and 9 past the last order: the end is the number of orders and 0.
-fn end_fault(order: usize, n: usize, turn: u32) -> u32
+pub(crate) fn end_fault(order: usize, n: usize, turn: u32) -> u32
     ensures { λ r. ⌜ r ≡ cond (eqb order n && eqb turn 0) 9 8 ⌝ }
 {
     if order == n {
@@ -45,7 +45,7 @@ fn end_fault(order: usize, n: usize, turn: u32) -> u32
 }
 
 // The place in an order, with what the orders before use.
-fn reach_of(used: Counts, gate: usize, a: usize, dealt: usize) -> Reach
+pub(crate) fn reach_of(used: Counts, gate: usize, a: usize, dealt: usize) -> Reach
     requires { ⌜ (used .a + a < 2 ^ 30) × (used .deals + dealt < 2 ^ 30) ⌝ }
     ensures { λ r. ⌜ (r .gate ≡ gate) × (r .a ≡ used .a + a) × (r .deals ≡ used .deals + dealt) ⌝ }
 {
@@ -57,7 +57,7 @@ fn reach_of(used: Counts, gate: usize, a: usize, dealt: usize) -> Reach
 }
 
 // The other's word is heard at the product or refresh where the state stands, with b words spoken before it.
-fn resume(
+pub(crate) fn resume(
     host: u32,
     job: &[u32],
     table: &[u32],

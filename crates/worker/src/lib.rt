@@ -1,9 +1,11 @@
-// Starting and hearing: hosts 1 and 2 stepped word by word through a job's gates.
+// Starting and hearing: hosts 1 and 2 stepped word by word through the gates of a job, or of a day.
 mod answering;
+mod day;
 mod hearing;
 mod starting;
 mod walk;
 
+pub use day::start_day;
 pub use starting::start;
 
 // A host's registers: masked values and the host's own masks.

@@ -41,7 +41,7 @@ pub(crate) struct Halt {
     pub turn: u32,
 }
 
-fn halted(spoken: u32, word: u32, order: u32, turn: u32) -> Halt
+pub(crate) fn halted(spoken: u32, word: u32, order: u32, turn: u32) -> Halt
     ensures { λ r. ⌜ ((m mask : Lane) →
         going-on (r .spoken) (r .word) m mask (r .order) (r .turn) ≡ going-on spoken word m mask order turn) ⌝ }
 {

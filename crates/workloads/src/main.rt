@@ -1,6 +1,9 @@
-// Workloads for `bench/run`: standard input is the workload's digit, the orders of its job in two digits, and how
-// often; printed is a sum over what came out, which bench.c prints too. Its functions promise nothing but that they end
-// and stay within their bounds.
+// Workloads for `bench/run`: standard input is the workload's digit, the orders of its job in two digits (of a day the
+// quarter), and how often; printed is a sum over what came out, which bench.c prints too. Its functions promise nothing
+// but that they end and stay within their bounds.
+mod day;
+
+use day::summed_day;
 use dealer::Masks;
 use dealer::prepare;
 use sample_masks::fill;
@@ -162,13 +165,16 @@ fn sum_orders() -> [u32; 256] {
     job
 }
 
-// The sum over n turns of a workload on the first orders of a job, on lists as long as any job needs.
+// The sum over n turns of a workload on the first orders of a job, on lists as long as any job needs, or of a day.
 fn summed(w: u8, count: u32, n: u32) -> u32 {
     let mut a = [0u32; 30080];
     fill(&mut a, 2654435769, 1);
     let mut b = [0u32; 13824];
     fill(&mut b, 2246822519, 1);
     let mut deals = [0u32; 16256];
+    if w == b'9' {
+        return summed_day(count, &a, &b, &mut deals, n);
+    }
     let words = (count % 65 * 4) as usize;
     let all_curves = curve_orders();
     let all_sums = sum_orders();

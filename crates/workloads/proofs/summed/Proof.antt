@@ -24,6 +24,21 @@ slice-aggregate-fill-2 c = search needs
 fill-requires-2 : tie.Need-fill-requires-2 Inv-loop μ-loop
 fill-requires-2 c κs = search needs
 
+slice-aggregate-summed-day : tie.Need-slice-aggregate-summed-day Inv-loop μ-loop
+slice-aggregate-summed-day c = search needs
+
+slice-aggregate-summed-day-2 : tie.Need-slice-aggregate-summed-day-2 Inv-loop μ-loop
+slice-aggregate-summed-day-2 c = search needs
+
+slice-aggregate-summed-day-3 : tie.Need-slice-aggregate-summed-day-3 Inv-loop μ-loop
+slice-aggregate-summed-day-3 c = search needs
+
+summed-day-requires : tie.Need-summed-day-requires Inv-loop μ-loop
+summed-day-requires c κs = search needs
+
+returns : tie.Need-returns Inv-loop μ-loop
+returns c = search needs
+
 mul-words : tie.Need-mul-words Inv-loop μ-loop
 mul-words c = search needs
 
@@ -72,8 +87,8 @@ loop-less c = search needs
 loop-again : tie.Need-loop-again Inv-loop μ-loop
 loop-again c = search needs
 
-returns : tie.Need-returns Inv-loop μ-loop
-returns c = search needs
+returns-2 : tie.Need-returns-2 Inv-loop μ-loop
+returns-2 c = search needs
 
 pub summed-spec : {M : Type 1} → statement M
 summed-spec =
@@ -85,6 +100,11 @@ summed-spec =
     fill-requires
     slice-aggregate-fill-2
     fill-requires-2
+    slice-aggregate-summed-day
+    slice-aggregate-summed-day-2
+    slice-aggregate-summed-day-3
+    summed-day-requires
+    returns
     mul-words
     cast-words
     curve-orders-requires
@@ -101,4 +121,4 @@ summed-spec =
     add-i
     loop-less
     loop-again
-    returns)
+    returns-2)

@@ -2,6 +2,7 @@ use mathlib.Core.Path.{_∙_}
 use mathlib.Core.Logic.{⊎-elim}
 use native.Mathlib.Omega.{arith}
 use borrow.Author.Needs.{needs}
+use Rattle.jobs.specs.Job.{job-cost}
 use Rattle.call_check.proofs.Hosts.{of-host, other-host, none-counted}
 use Rattle.call_check.proofs.checking.check_lent.Statement.{statement}
 use Rattle.call_check.proofs.checking.check_lent.Tie as tie
@@ -13,8 +14,9 @@ turned-down-requires : tie.Need-turned-down-requires
 turned-down-requires c κs = search needs
 
 returns : tie.Need-returns
+unfolding job-cost
 returns c =
-    (of-host 32 _ _ _ _ _ _ (c .before .before .if1 .left) (c .before .if2 .taken) (c .check-job .ensures .0), c .check-job .ensures .1)
+    (of-host _ _ _ _ _ (c .before .before .if1 .left) (c .before .if2 .taken) (c .check-job .ensures .0), c .check-job .ensures .1)
 
 returns-2 : tie.Need-returns-2
 returns-2 c =

@@ -5,7 +5,7 @@ use borrow.Author.Needs.{needs}
 use denote.Ref.{now}
 use lib.ListN.{length}
 use Rattle.jobs.specs.Job.{steps-of}
-use Rattle.walks.specs.Dealers.{dealer, outset}
+use Rattle.walks.specs.Dealers.{dealer}
 use Rattle.walks.proofs.Preparing.{Midway}
 use Rattle.job_add.proofs.Here.{here}
 use Rattle.program_fetch.proofs.Stands.{piece-stands}
@@ -16,19 +16,19 @@ use Rattle.dealer.proofs.preparing.deal_job.Statement.{statement}
 use Rattle.dealer.proofs.preparing.deal_job.Tie as tie
 
 abbrev Inv-loop : tie.InvT-loop
-Inv-loop job table a b l1₀ l2₀ deals₀ n used₀ o₀ gate₀ l1 l2 deals used o gate =
+Inv-loop job table a b l1₀ l2₀ deals₀ n at₀ o₀ gate₀ l1 l2 deals at o gate =
     (n ≡ length job / 4)
-    × Midway a b (steps-of 32 job table) (left 32 a b job table o gate) (outset l1₀ l2₀ deals₀) (dealer used l1 l2 deals)
+    × Midway a b (steps-of 32 job table) (left 32 a b job table o gate) (dealer at₀ l1₀ l2₀ deals₀) (dealer at l1 l2 deals)
 
 abbrev μ-loop : tie.MeasureT-loop
-μ-loop job table a b l1₀ l2₀ deals₀ n used₀ o₀ gate₀ l1 l2 deals used o gate = length (left 32 a b job table o gate)
+μ-loop job table a b l1₀ l2₀ deals₀ n at₀ o₀ gate₀ l1 l2 deals at o gate = length (left 32 a b job table o gate)
 
 loop-holds : tie.Need-loop-holds Inv-loop μ-loop
 loop-holds c =
     let e = c .before .before .before .before .before in
     let s = e .args in (
       refl,
-      job-begins 32 (now (s .a)) (now (s .b)) (now (s .job)) (now (s .table)) (outset (now (s .l1)) (now (s .l2)) (now (s .deals)))
+      job-begins 32 (now (s .a)) (now (s .b)) (now (s .job)) (now (s .table)) (dealer (s .used) (now (s .l1)) (now (s .l2)) (now (s .deals)))
           (e .pre),
     )
 
@@ -47,7 +47,7 @@ deal-piece-requires c κs =
       piece-stands (p .piece-at .ensures) .end,
       piece-room 32 (now (s .a)) (now (s .b)) (now (s .job)) (now (s .table)) (l .o) (l .gate) n _ (p .before .before .before .order-at .ensures)
           _ (piece-stands (p .piece-at .ensures))
-          (outset (now (s .l1)) (now (s .l2)) (now (s .deals))) (dealer (l .used) (l .l1) (l .l2) (l .deals)) (l .inv .1),
+          (dealer (s .used) (now (s .l1)) (now (s .l2)) (now (s .deals))) (dealer (l .at) (l .l1) (l .l2) (l .deals)) (l .inv .1),
     )
 
 -- ---- behind an addition or subtraction
@@ -84,7 +84,7 @@ loop-again c =
     let k = here _ _ (sym (t .if1 .taken) ∙ t .before .adds-here .ensures) in (
       l .inv .0,
       added-done 32 (now (s .a)) (now (s .b)) (now (s .job)) (now (s .table)) (l .o) (l .gate) n _ (q .order-at .ensures) (k .0) (k .1)
-          (outset (now (s .l1)) (now (s .l2)) (now (s .deals))) (l .used) (l .l1) (l .l2) (l .deals) (l .inv .1)
+          (dealer (s .used) (now (s .l1)) (now (s .l2)) (now (s .deals))) (l .at) (l .l1) (l .l2) (l .deals) (l .inv .1)
           _ _ (c .add-in-place .ensures .0) (c .add-in-place .ensures .1),
     )
 
@@ -114,7 +114,7 @@ loop-again-2 c =
       l .inv .0,
       order-done 32 (now (s .a)) (now (s .b)) (now (s .job)) (now (s .table)) (l .o) (l .gate) n _ (p .before .before .before .order-at .ensures)
           _ (piece-stands (p .piece-at .ensures))
-          (outset (now (s .l1)) (now (s .l2)) (now (s .deals))) (dealer (l .used) (l .l1) (l .l2) (l .deals)) (l .inv .1)
+          (dealer (s .used) (now (s .l1)) (now (s .l2)) (now (s .deals))) (dealer (l .at) (l .l1) (l .l2) (l .deals)) (l .inv .1)
           _ (c .before .before .before .deal-piece .ensures) (c .if2 .taken),
     )
 
@@ -134,7 +134,7 @@ add-gate c =
     let n : l .o < length (now (s .job)) / 4 = omega (arith, p .before .before .before .before .loop-test .taken, l .inv .0) in
     let within = still-within 32 _ _ (l .gate) _ (piece-stands (p .piece-at .ensures)) (c .before .if2 .left) in
     let few =
-    few-gates (now (s .a)) (now (s .b)) (now (s .job)) (now (s .table)) (outset (now (s .l1)) (now (s .l2)) (now (s .deals)))
+    few-gates (now (s .a)) (now (s .b)) (now (s .job)) (now (s .table)) (dealer (s .used) (now (s .l1)) (now (s .l2)) (now (s .deals)))
     (e .pre) (l .o) n _ (p .before .before .before .order-at .ensures) in
     omega (arith, within, few, e .good .1 .1 .0)
 
@@ -156,7 +156,7 @@ loop-again-3 c =
       l .inv .0,
       piece-done 32 (now (s .a)) (now (s .b)) (now (s .job)) (now (s .table)) (l .o) (l .gate) n _ (p .before .before .before .order-at .ensures)
           _ (piece-stands (p .piece-at .ensures))
-          (outset (now (s .l1)) (now (s .l2)) (now (s .deals))) (dealer (l .used) (l .l1) (l .l2) (l .deals)) (l .inv .1)
+          (dealer (s .used) (now (s .l1)) (now (s .l2)) (now (s .deals))) (dealer (l .at) (l .l1) (l .l2) (l .deals)) (l .inv .1)
           _ (c .before .before .before .before .deal-piece .ensures) (c .before .if2 .left),
     )
 
@@ -168,8 +168,8 @@ returns c =
     let s = c .before .before .before .before .before .before .before .args in
     let l = c .before .loop in
     job-done 32 (now (s .a)) (now (s .b)) (now (s .job)) (now (s .table)) (l .o) (l .gate)
-    (outset (now (s .l1)) (now (s .l2)) (now (s .deals)))
-    (dealer (l .used) (l .l1) (l .l2) (l .deals)) (l .inv .1) (omega (arith, c .loop-test .left, l .inv .0))
+    (dealer (s .used) (now (s .l1)) (now (s .l2)) (now (s .deals)))
+    (dealer (l .at) (l .l1) (l .l2) (l .deals)) (l .inv .1) (omega (arith, c .loop-test .left, l .inv .0))
 
 pub deal-job-spec : {M : Type 1} → statement M
 deal-job-spec =

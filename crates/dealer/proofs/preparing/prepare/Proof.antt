@@ -1,4 +1,4 @@
-use mathlib.Core.Path.{_≡_, sym, ap, _∙_}
+use mathlib.Core.Path.{sym, ap, _∙_}
 use native.Mathlib.Omega.{arith}
 use denote.Ref.{now}
 use Rattle.gates.specs.Costs.{Cost}
@@ -58,9 +58,9 @@ registers-requires c κs = search needs
 registers-requires-2 : tie.Need-registers-requires-2
 registers-requires-2 c κs = search needs
 
-cast-t32 : tie.Need-cast-t32
+cast-t33 : tie.Need-cast-t33
 unfolding job-cost
-cast-t32 c =
+cast-t33 c =
     let j = c .before .before .before .before .before in
     let f = j .before .before .before .before in
     let d = f .before .before in
@@ -109,6 +109,6 @@ prepare-spec =
     deal-job-requires
     registers-requires
     registers-requires-2
-    cast-t32
+    cast-t33
     same-length-2
     returns-2)

@@ -1,0 +1,12 @@
+pub mod Lists
+pub mod Numbers
+pub mod Behind
+pub mod Calls
+pub mod Programs
+pub mod Values
+pub mod Sums
+pub mod Opened
+pub mod Holdings
+pub mod DayRuns
+pub mod Back
+pub mod Returned

@@ -1,0 +1,7 @@
+pub mod Settings
+pub mod Numbers
+pub mod Opened
+pub mod Calls
+pub mod Runs
+pub mod Returned
+pub mod Holdings

@@ -1,0 +1,14 @@
+pub mod Quarters
+pub mod Moved
+pub mod Outcomes
+pub mod Lanes
+pub mod Parts
+pub mod Walked
+pub mod Orders
+pub mod Counts
+pub mod Sought
+pub mod Heard
+pub mod Places
+pub mod Own
+pub mod Dealt
+pub mod Accepted

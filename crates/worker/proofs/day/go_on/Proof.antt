@@ -1,0 +1,148 @@
+use mathlib.Core.Path.{_≡_, sym, subst, _∙_}
+use mathlib.Core.List.{List}
+use Prim.Native.Nat.{ℕ}
+use native.Mathlib.Omega.{arith}
+use lib.ListN.{length}
+use denote.Ref.{now}
+use Rattle.jobs.specs.Counts.{counted}
+use Rattle.worker.specs.Jobs.{Sized, Standing}
+use Rattle.worker.proofs.Days.{sized-own, halts-in, long-left, ends-day, next-order}
+use borrow.Author.Needs.{needs}
+use Rattle.worker.proofs.day.go_on.Statement.{statement}
+use Rattle.worker.proofs.day.go_on.Tie as tie
+
+take-share-requires : tie.Need-take-share-requires
+take-share-requires c κs = search needs
+
+order-words-requires : tie.Need-order-words-requires
+order-words-requires c κs = search needs
+
+slice-aggregate-resume : tie.Need-slice-aggregate-resume
+slice-aggregate-resume c = search needs
+
+resume-requires : tie.Need-resume-requires
+resume-requires c κs =
+    let ow = c .before .before .before in
+    let s = ow .before .before .before .before .before .before .before .before in
+    let T = now (s .args .table) in
+    let p = s .pre .1 in
+    let e = sym (ow .order-words .ensures) in (
+      subst (λ (J : List ℕ). Sized 32 J T) e (sized-own T (s .args .order) (s .pre .0 .ruled)),
+      subst (λ (J : List ℕ). Standing 32 J T 0 (s .args .at .gate)) e (p .standing),
+      p .few-gates,
+      p .few-turns,
+      p .few-a,
+      p .few-deals,
+      p .few-b,
+    )
+
+halted-requires : tie.Need-halted-requires
+halted-requires c κs = search needs
+
+returns : tie.Need-returns
+returns c =
+    let rs = c .before .before .before in
+    let ow = rs .before .before .before .before in
+    let ts = ow .before in
+    let s = ts .before .before .before .before .before .before .before in
+    let a = s .args in
+    let w : (k l : ℕ) → _ = λ k l.
+    halts-in (a .host) (now (a .masks)) (now (a .deals)) (now (a .table)) (now (a .shares)) (counted (a .curve)) (s .pre .0) (a .order)
+    (s .pre .1 .in-day) k l (now (a .m)) (now (a .mask)) _ _ (s .pre .2) (s .pre .3) (ts .take-share .ensures .0) (ts .take-share .ensures .1)
+    (a .turn) (a .at .gate) (a .at .a) (a .b) (a .at .deals) (s .pre .1) (a .heard) _ (ow .order-words .ensures) _ (rs .resume .ensures)
+    (c .before .if1 .taken) in
+    (w 0 0 .1, λ k l. c .halted .ensures _ _ ∙ w k l .0)
+
+-- the lanes that are left are as long as before
+long-left-of : (c : tie.After-leave) → (length (c .leave .last .1 .0) ≡ 24) × (length (c .leave .last .1 .1 .0) ≡ 24)
+long-left-of c =
+    let el = c .before .before .before in
+    let rs = el .before .before in
+    let ow = rs .before .before .before .before in
+    let ts = ow .before in
+    let s = ts .before .before .before .before .before .before .before in
+    let a = s .args in
+    long-left (a .host) (now (a .masks)) (now (a .deals)) (now (a .table)) (now (a .shares)) (counted (a .curve)) (s .pre .0) (a .order)
+    (s .pre .1 .in-day) 0 0 (now (a .m)) (now (a .mask)) _ _ (s .pre .2) (s .pre .3) (ts .take-share .ensures .0) (ts .take-share .ensures .1)
+    (a .turn) (a .at .gate) (a .at .a) (a .b) (a .at .deals) (s .pre .1) (a .heard) _ (ow .order-words .ensures) _ (rs .resume .ensures)
+    (el .if1 .left) _ _ (c .leave .ensures .0) (c .leave .ensures .1)
+
+leave-requires : tie.Need-leave-requires
+leave-requires c κs = search needs
+
+add-halted : tie.Need-add-halted
+add-halted c = search needs
+
+halted-requires-2 : tie.Need-halted-requires-2
+halted-requires-2 c κs = search needs
+
+returns-2 : tie.Need-returns-2
+returns-2 c =
+    let lv = c .before .before in
+    let el = lv .before .before .before in
+    let rs = el .before .before in
+    let ow = rs .before .before .before .before in
+    let ts = ow .before in
+    let s = ts .before .before .before .before .before .before .before in
+    let a = s .args in (
+      long-left-of lv,
+      λ k l. c .halted2 .ensures _ _
+          ∙ ends-day (a .host) (now (a .masks)) (now (a .deals)) (now (a .table)) (now (a .shares)) (counted (a .curve)) (s .pre .0) (a .order)
+          (s .pre .1 .in-day) k l (now (a .m)) (now (a .mask)) _ _ (s .pre .2) (s .pre .3) (ts .take-share .ensures .0) (ts .take-share .ensures .1)
+          (a .turn) (a .at .gate) (a .at .a) (a .b) (a .at .deals) (s .pre .1) (a .heard) _ (ow .order-words .ensures) _ (rs .resume .ensures)
+          (el .if1 .left) _ _ (lv .leave .ensures .0) (lv .leave .ensures .1) (c .before .if2 .taken),
+    )
+
+add-begin : tie.Need-add-begin
+add-begin c =
+    let rs = c .before .before .before .before .before .before .before .before in
+    let ow = rs .before .before .before .before in
+    let ts = ow .before in
+    let s = ts .before .before .before .before .before .before .before in
+    omega (arith, s .pre .1 .in-day)
+
+begin-requires : tie.Need-begin-requires
+begin-requires c κs =
+    let el = c .before .before in
+    let lv = el .before in
+    let rs = lv .before .before .before .before .before in
+    let ow = rs .before .before .before .before in
+    let ts = ow .before in
+    let s = ts .before .before .before .before .before .before .before in
+    (s .pre .0, omega (arith, s .pre .1 .in-day, el .if2 .left), long-left-of lv .0, long-left-of lv .1)
+
+returns-3 : tie.Need-returns-3
+returns-3 c =
+    let e2 = c .before .before .before in
+    let lv = e2 .before in
+    let el = lv .before .before .before in
+    let rs = el .before .before in
+    let ow = rs .before .before .before .before in
+    let ts = ow .before in
+    let s = ts .before .before .before .before .before .before .before in
+    let a = s .args in (
+      c .begin .ensures .0,
+      λ k l. c .begin .ensures .1 k l
+          ∙ next-order (a .host) (now (a .masks)) (now (a .deals)) (now (a .table)) (now (a .shares)) (counted (a .curve)) (s .pre .0) (a .order)
+          (s .pre .1 .in-day) k l (now (a .m)) (now (a .mask)) _ _ (s .pre .2) (s .pre .3) (ts .take-share .ensures .0) (ts .take-share .ensures .1)
+          (a .turn) (a .at .gate) (a .at .a) (a .b) (a .at .deals) (s .pre .1) (a .heard) _ (ow .order-words .ensures) _ (rs .resume .ensures)
+          (el .if1 .left) _ _ (lv .leave .ensures .0) (lv .leave .ensures .1) (omega (arith, s .pre .1 .in-day, e2 .if2 .left)),
+    )
+
+pub go-on-spec : {M : Type 1} → statement M
+go-on-spec =
+    tie.close
+    (tie.spec
+    take-share-requires
+    order-words-requires
+    slice-aggregate-resume
+    resume-requires
+    halted-requires
+    returns
+    leave-requires
+    add-halted
+    halted-requires-2
+    returns-2
+    add-begin
+    begin-requires
+    returns-3)

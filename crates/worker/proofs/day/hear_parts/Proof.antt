@@ -1,0 +1,194 @@
+use mathlib.Core.Path.{sym, ap, _∙_}
+use Prim.Native.Nat.{_+_}
+use native.Mathlib.Omega.{arith}
+use denote.Ref.{now}
+use Rattle.jobs.specs.Job.{Fault}
+use Rattle.jobs.specs.Counts.{counted}
+use Rattle.calls.specs.Calls.{refused}
+use Rattle.worker.specs.Answers.{state-with}
+use Rattle.worker.specs.Days.{DayLent, DayPlace}
+use Rattle.worker.proofs.Days.{lent-few, none-placed, placed-day, place-at}
+use Rattle.worker.proofs.DayCalls.{day-lent, hear-turned, hear-past, hear-nowhere}
+use borrow.Author.Needs.{needs}
+use Rattle.worker.proofs.day.hear_parts.Statement.{statement}
+use Rattle.worker.proofs.day.hear_parts.Tie as tie
+
+check-day-lent-requires : tie.Need-check-day-lent-requires
+check-day-lent-requires c κs = search needs
+
+state-requires : tie.Need-state-requires
+state-requires c κs = search needs
+
+refused-requires : tie.Need-refused-requires
+refused-requires c κs = search needs
+
+returns : tie.Need-returns
+returns c =
+    let t = c .before in
+    let th = t .before in
+    let cd = th .before .before in
+    let s = cd .before .before .before .before .before in
+    let a = s .args in
+    c .refused .ensures ∙ ap (refused _) (t .state .ensures)
+    ∙ hear-turned (a .host) (now (a .table)) (now (a .shares)) (now (a .masks)) (now (a .deals)) _ _ (cd .check-day-lent .ensures .0) (state-with (a .m) (a .mask) (a .order) (a .turn))
+    (omega (arith, s .good)) (omega (arith, s .good)) (a .heard) (th .if1 .taken)
+
+cast-end-fault : tie.Need-cast-end-fault
+cast-end-fault c = search needs
+
+add-end-fault : tie.Need-add-end-fault
+add-end-fault c = search needs
+
+end-fault-requires : tie.Need-end-fault-requires
+end-fault-requires c κs = search needs
+
+state-requires-2 : tie.Need-state-requires-2
+state-requires-2 c κs = search needs
+
+refused-requires-2 : tie.Need-refused-requires-2
+refused-requires-2 c κs = search needs
+
+returns-2 : tie.Need-returns-2
+returns-2 c =
+    let t = c .before in
+    let ef = t .before in
+    let th = ef .before in
+    let el = th .before in
+    let cd = el .before .before in
+    let s = cd .before .before .before .before .before in
+    let a = s .args in
+    c .refused2 .ensures ∙ ap (refused _) (t .state2 .ensures)
+    ∙ hear-past (a .host) (now (a .table)) (now (a .shares)) (now (a .masks)) (now (a .deals)) _ _ (cd .check-day-lent .ensures .0) (state-with (a .m) (a .mask) (a .order) (a .turn))
+    (omega (arith, s .good)) (omega (arith, s .good)) (a .heard) (el .if1 .left) _ (omega (arith, th .if2 .taken)) (ef .end-fault .ensures)
+
+-- what is lent has passed its checks
+lent-there : (c : tie.Else2)
+    → let cd = c .before .before .before in
+    let a = cd .before .before .before .before .before .args in
+    DayLent (now (a .table)) (now (a .shares)) (counted (cd .check-day-lent .result .counts))
+lent-there c =
+    let el = c .before in
+    let cd = el .before .before in
+    let a = cd .before .before .before .before .before .args in
+    day-lent (a .host) (now (a .table)) (now (a .shares)) (now (a .masks)) (now (a .deals)) _ _ (cd .check-day-lent .ensures .0) (el .if1 .left) _
+    (cd .check-day-lent .ensures .1)
+
+order-words-requires : tie.Need-order-words-requires
+order-words-requires c κs = search needs
+
+slice-aggregate-order-at : tie.Need-slice-aggregate-order-at
+slice-aggregate-order-at c = search needs
+
+order-at-requires : tie.Need-order-at-requires
+order-at-requires c κs = search needs
+
+seek-requires : tie.Need-seek-requires
+seek-requires c κs = search needs
+
+enum-known-gate : tie.Need-enum-known-gate
+enum-known-gate c = search needs
+
+enum-told : tie.Need-enum-told
+enum-told c = search needs
+
+state-requires-3 : tie.Need-state-requires-3
+state-requires-3 c κs = search needs
+
+refused-requires-3 : tie.Need-refused-requires-3
+refused-requires-3 c κs = search needs
+
+returns-3 : tie.Need-returns-3
+returns-3 c =
+    let t = c .before in
+    let et = t .before in
+    let sk = et .before .before in
+    let oa = sk .before in
+    let ow = oa .before .before in
+    let e2 = ow .before in
+    let el = e2 .before in
+    let cd = el .before .before in
+    let s = cd .before .before .before .before .before in
+    let a = s .args in
+    c .refused3 .ensures ∙ ap (refused _) (t .state3 .ensures)
+    ∙ hear-nowhere (a .host) (now (a .table)) (now (a .shares)) (now (a .masks)) (now (a .deals)) _ _ (cd .check-day-lent .ensures .0) (state-with (a .m) (a .mask) (a .order) (a .turn))
+    (omega (arith, s .good)) (omega (arith, s .good)) (a .heard) (el .if1 .left)
+    (none-placed (now (a .table)) (lent-there e2 .ruled) (a .order) (a .turn) (omega (arith, e2 .if2 .left)) _ (ow .order-words .ensures) _
+    (oa .order-at .ensures) _ (sk .seek .ensures .is) (et .enum-told .given .1))
+
+used-before-requires : tie.Need-used-before-requires
+used-before-requires c κs =
+    let e2 = c .before .before .before .before .before .before .before in
+    (lent-few _ _ _ (lent-there e2), omega (arith, e2 .if2 .left))
+
+-- the place that was found, with what the orders before it use
+placed : (c : tie.After-used-before)
+    → let kt = c .before in
+    let f = kt .before .gate .given .0 in
+    let e2 = kt .before .before .before .before .before .before .before in
+    let a = e2 .before .before .before .before .before .before .before .before .args in
+    let u = c .used-before .result in
+    DayPlace (now (a .table)) (a .order) (a .turn) (f .0) (u .a + f .1 .0) (u .b + a .turn) (u .deals + f .1 .1 .0)
+placed c =
+    let kt = c .before in
+    let sk = kt .before .before .before in
+    let oa = sk .before in
+    let ow = oa .before .before in
+    let e2 = ow .before in
+    let cd = e2 .before .before .before in
+    let a = cd .before .before .before .before .before .args in
+    let L = lent-there e2 in
+    placed-day (now (a .table)) (L .ruled) (a .order) (a .turn) (omega (arith, e2 .if2 .left)) _ (ow .order-words .ensures) _
+    (oa .order-at .ensures) _ (sk .seek .ensures .is) _ _ _ (kt .before .gate .given .1) (counted (cd .check-day-lent .result .counts))
+    (counted (c .used-before .result)) (L .counts) (c .used-before .ensures)
+
+reach-of-requires : tie.Need-reach-of-requires
+reach-of-requires c κs = (placed c .few-a, placed c .few-deals)
+
+cast-b : tie.Need-cast-b
+cast-b c = search needs
+
+add-b : tie.Need-add-b
+add-b c = omega (arith, placed (c .before .before) .few-b)
+
+hear-there-requires : tie.Need-hear-there-requires
+hear-there-requires c κs =
+    let ro = c .before in
+    let ub = ro .before in
+    let e2 = ub .before .before .before .before .before .before .before .before in
+    let el = e2 .before in
+    let cd = el .before .before in
+    let r = ro .reach-of .ensures in
+    (lent-there e2, place-at _ _ _ _ _ _ _ _ _ _ (placed ub) (r .0) (r .1) (r .2), ap (λ (f : Fault). f .0) (sym (cd .check-day-lent .ensures .0)) ∙ el .if1 .left)
+
+returns-4 : tie.Need-returns-4
+returns-4 c = search needs
+
+pub hear-parts-spec : {M : Type 1} → statement M
+hear-parts-spec =
+    tie.close
+    (tie.spec
+    check-day-lent-requires
+    state-requires
+    refused-requires
+    returns
+    cast-end-fault
+    add-end-fault
+    end-fault-requires
+    state-requires-2
+    refused-requires-2
+    returns-2
+    order-words-requires
+    slice-aggregate-order-at
+    order-at-requires
+    seek-requires
+    enum-known-gate
+    enum-told
+    state-requires-3
+    refused-requires-3
+    returns-3
+    used-before-requires
+    reach-of-requires
+    cast-b
+    add-b
+    hear-there-requires
+    returns-4)

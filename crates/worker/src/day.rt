@@ -1,0 +1,346 @@
+// Starting and hearing of a day (R-3). Each order of a day is walked as one order of a job, with the share of its
+// quarter in a slot of the lanes; what stood there is put back before a call answers.
+ghost use mathlib.Core.Path.{_≡_};
+ghost use Prim.Native.Nat.{ℕ, _+_, _≤_, _<_};
+ghost use lib.ListN.{length, drop};
+ghost use Rattle.tables.specs.Table.{rows};
+ghost use Rattle.gates.specs.Meaning.{job-steps};
+ghost use Rattle.gates.specs.Steps.{origin};
+ghost use Rattle.programs.specs.Sizes.{times-cost};
+ghost use Rattle.jobs.specs.Counts.{counted};
+ghost use Rattle.calls.specs.Calls as Calls;
+ghost use Rattle.calls.specs.Lent.{lent, lent-fault, worker-with};
+ghost use Rattle.calls.specs.Places.{seek};
+ghost use Rattle.walks.specs.Workers.{cursor};
+ghost use Rattle.walks.specs.Halts.{going-on, reported};
+ghost use Rattle.days.specs.Day.{day-gates, day-steps, day-script};
+ghost use Rattle.days.specs.DayCalls.{day-start, day-hear};
+ghost use Rattle.days.specs.Orders.{within, first-tail, second-tail};
+ghost use Rattle.worker.specs.Answers.{answer-of, state-of, state-with};
+ghost use Rattle.worker.specs.Days.{DayLent, DayPlace, few-counts};
+use crate::Answer;
+use crate::State;
+use crate::answering::answered;
+use crate::answering::refused;
+use crate::hearing::end_fault;
+use crate::hearing::reach_of;
+use crate::hearing::resume;
+use crate::walk::Halt;
+use crate::walk::advance;
+use crate::walk::halted;
+use call_check::check_day_lent;
+use day_order::QUARTERS;
+use day_order::SHARE_SLOT;
+use day_order::enter;
+use day_order::leave;
+use day_order::order_words;
+use day_order::take_share;
+use job_order::order_at;
+use jobs::Counts;
+use program_seek::seek;
+use programs::Sought;
+use word_lists::at;
+use word_lists::put;
+use worker_gate::Reach;
+
+// What the orders before one use, each of them a curve.
+fn used_before(curve: Counts, order: u32) -> Counts
+    requires { ⌜ few-counts (counted curve) × (order ≤ 96) ⌝ }
+    ensures { λ r. ⌜ counted r ≡ times-cost order (counted curve) ⌝ }
+{
+    Counts {
+        deals: curve.deals * order,
+        words: curve.words * order,
+        a: curve.a * order,
+        b: curve.b * order,
+    }
+}
+
+// From the first gate of an order to its first product, on the lanes in place.
+fn begin(
+    host: u32,
+    table: &[u32],
+    shares: &[u32],
+    masks: &[u32],
+    deals: &[u32],
+    m: &mut [u32; 24],
+    mask: &mut [u32; 24],
+    order: u32,
+    curve: Counts,
+) -> Halt
+    requires { ⌜ DayLent (now table) (now shares) (counted curve) × (order ≤ 96)
+        × (length (now m) ≡ 24) × (length (now mask) ≡ 24) ⌝ }
+    ensures long { λ r. ⌜ (length (now (m .exit)) ≡ 24) × (length (now (mask .exit)) ≡ 24) ⌝ }
+    ensures halt { λ r.
+        ⌜ ((k l : ℕ)
+        → going-on (r .spoken) (r .word) (within k (first-tail (now (shares .entry))) (now (m .exit)))
+        (within l (second-tail (now (shares .entry))) (now (mask .exit))) (r .order) (r .turn)
+        ≡ reported (worker-with host (now (masks .entry)) (now (deals .entry)))
+        (job-steps 32 (drop order (day-gates 32 (rows (now (table .entry))))))
+        (cursor order 0 (times-cost order (counted curve) .a) (times-cost order (counted curve) .b)
+        (times-cost order (counted curve) .deals)) (
+          within k (first-tail (now (shares .entry))) (now (m .entry)),
+          within l (second-tail (now (shares .entry))) (now (mask .entry)),
+        )) ⌝ }
+{
+    take_share(shares, order, m, mask);
+    enter(order, m, mask);
+    let used = used_before(curve, order);
+    let from = Reach {
+        gate: 0,
+        a: used.a as usize,
+        deals: used.deals as usize,
+    };
+    let job = order_words(order);
+    let h = advance(
+        host,
+        &job,
+        table,
+        masks,
+        deals,
+        m,
+        mask,
+        0,
+        0,
+        from,
+        used.b as usize,
+    );
+    halted(h.spoken, h.word, order, h.turn)
+}
+
+// The other's word is heard at a product of an order. Where the order ends behind it, the next one begins.
+fn go_on(
+    host: u32,
+    table: &[u32],
+    shares: &[u32],
+    masks: &[u32],
+    deals: &[u32],
+    m: &mut [u32; 24],
+    mask: &mut [u32; 24],
+    order: u32,
+    turn: u32,
+    heard: u32,
+    at: Reach,
+    b: usize,
+    curve: Counts,
+) -> Halt
+    requires { ⌜ DayLent (now table) (now shares) (counted curve)
+        × DayPlace (now table) order turn (at .gate) (at .a) b (at .deals)
+        × (length (now m) ≡ 24) × (length (now mask) ≡ 24) ⌝ }
+    ensures long { λ r. ⌜ (length (now (m .exit)) ≡ 24) × (length (now (mask .exit)) ≡ 24) ⌝ }
+    ensures halt { λ r.
+        ⌜ ((k l : ℕ)
+        → going-on (r .spoken) (r .word) (within k (first-tail (now (shares .entry))) (now (m .exit)))
+        (within l (second-tail (now (shares .entry))) (now (mask .exit))) (r .order) (r .turn)
+        ≡ Calls.report (worker-with host (now (masks .entry)) (now (deals .entry)))
+        (Calls.hear-walk (worker-with host (now (masks .entry)) (now (deals .entry)))
+        (state-with (within k (first-tail (now (shares .entry))) (now (m .entry)))
+        (within l (second-tail (now (shares .entry))) (now (mask .entry))) order turn) heard
+        (seek order turn (day-steps 32 (now (table .entry))) origin))) ⌝ }
+{
+    take_share(shares, order, m, mask);
+    let job = order_words(order);
+    let h = resume(
+        host,
+        &job,
+        table,
+        masks,
+        deals,
+        m,
+        mask,
+        0,
+        turn,
+        heard,
+        at,
+        b,
+    );
+    if h.order == 0 {
+        return halted(h.spoken, h.word, order, h.turn);
+    }
+    leave(order, m, mask);
+    if order == QUARTERS {
+        return halted(h.spoken, 0, order + 1, 0);
+    }
+    begin(host, table, shares, masks, deals, m, mask, order + 1, curve)
+}
+
+// Checks 1, 12, 5, 6 and 7 come first, and a refusal gives a state of zeros.
+pub fn start_day(host: u32, table: &[u32], shares: &[u32], masks: &[u32], deals: &[u32]) -> Answer
+    ensures { λ r.
+        ⌜ answer-of r
+        ≡ day-start 32 host (now (table .entry)) (now (shares .entry)) (now (masks .entry)) (now (deals .entry)) ⌝ }
+{
+    let mut m = [0u32; 24];
+    let mut mask = [0u32; 24];
+    let lent = check_day_lent(host, table, shares, masks, deals);
+    if lent.number != 0 {
+        let nothing = State {
+            m,
+            mask,
+            order: 0,
+            turn: 0,
+        };
+        return refused(lent.number, lent.index, nothing);
+    }
+    let h = begin(
+        host,
+        table,
+        shares,
+        masks,
+        deals,
+        &mut m,
+        &mut mask,
+        0,
+        lent.counts,
+    );
+    put(&mut m, SHARE_SLOT, 0);
+    put(&mut mask, SHARE_SLOT, 0);
+    answered(h.spoken, h.word, m, mask, h.order, h.turn)
+}
+
+fn state(m: [u32; 24], mask: [u32; 24], order: u32, turn: u32) -> State
+    ensures { λ r. ⌜ state-of r ≡ state-with m mask order turn ⌝ }
+{
+    State {
+        m,
+        mask,
+        order,
+        turn,
+    }
+}
+
+// From the product or refresh where a state stands; the word that stood in the share's slot is put back.
+fn hear_there(
+    host: u32,
+    table: &[u32],
+    shares: &[u32],
+    masks: &[u32],
+    deals: &[u32],
+    m: [u32; 24],
+    mask: [u32; 24],
+    order: u32,
+    turn: u32,
+    heard: u32,
+    place: Reach,
+    b: usize,
+    curve: Counts,
+) -> Answer
+    requires { ⌜ DayLent (now table) (now shares) (counted curve)
+        × DayPlace (now table) order turn (place .gate) (place .a) b (place .deals)
+        × (lent-fault (lent host (day-script 32 (now table) (length (now shares))) (now masks) (now deals)) .0 ≡ 0) ⌝ }
+    ensures { λ r.
+        ⌜ answer-of r
+        ≡ day-hear 32 host (now (table .entry)) (now (shares .entry)) (now (masks .entry)) (now (deals .entry))
+        (state-with m mask order turn) heard ⌝ }
+{
+    let mut m = m;
+    let mut mask = mask;
+    let first = at(&m, SHARE_SLOT);
+    let second = at(&mask, SHARE_SLOT);
+    let h = go_on(
+        host,
+        table,
+        shares,
+        masks,
+        deals,
+        &mut m,
+        &mut mask,
+        order,
+        turn,
+        heard,
+        place,
+        b,
+        curve,
+    );
+    put(&mut m, SHARE_SLOT, first);
+    put(&mut mask, SHARE_SLOT, second);
+    answered(h.spoken, h.word, m, mask, h.order, h.turn)
+}
+
+// Hearing, by the parts of a state.
+fn hear_parts(
+    host: u32,
+    table: &[u32],
+    shares: &[u32],
+    masks: &[u32],
+    deals: &[u32],
+    m: [u32; 24],
+    mask: [u32; 24],
+    order: u32,
+    turn: u32,
+    heard: u32,
+) -> Answer
+    ensures { λ r.
+        ⌜ answer-of r
+        ≡ day-hear 32 host (now (table .entry)) (now (shares .entry)) (now (masks .entry)) (now (deals .entry))
+        (state-with m mask order turn) heard ⌝ }
+{
+    let lent = check_day_lent(host, table, shares, masks, deals);
+    if lent.number != 0 {
+        return refused(lent.number, lent.index, state(m, mask, order, turn));
+    }
+    if QUARTERS < order {
+        let number = end_fault(order as usize, QUARTERS as usize + 1, turn);
+        return refused(number, 0, state(m, mask, order, turn));
+    }
+    let job = order_words(order);
+    let Sought::Found {
+        gate,
+        a,
+        deals: dealt,
+    } = seek(order_at(&job, 0), table, turn)
+    else {
+        return refused(8, 0, state(m, mask, order, turn));
+    };
+    let used = used_before(lent.counts, order);
+    let place = reach_of(used, gate, a, dealt);
+    let b = used.b as usize + turn as usize;
+    hear_there(
+        host,
+        table,
+        shares,
+        masks,
+        deals,
+        m,
+        mask,
+        order,
+        turn,
+        heard,
+        place,
+        b,
+        lent.counts,
+    )
+}
+
+impl State {
+    // Checks 1, 12, 5, 6 and 7 come first, then 8 and 9; a refusal gives the state back.
+    pub fn hear_day(
+        self,
+        host: u32,
+        table: &[u32],
+        shares: &[u32],
+        masks: &[u32],
+        deals: &[u32],
+        heard: u32,
+    ) -> Answer
+        ensures { λ r.
+            ⌜ answer-of r
+            ≡ day-hear 32 host (now (table .entry)) (now (shares .entry)) (now (masks .entry)) (now (deals .entry))
+            (state-of self) heard ⌝ }
+    {
+        let m = self.m;
+        let mask = self.mask;
+        hear_parts(
+            host,
+            table,
+            shares,
+            masks,
+            deals,
+            m,
+            mask,
+            self.order,
+            self.turn,
+            heard,
+        )
+    }
+}

@@ -1,0 +1,205 @@
+/* A day of the house table, the three hosts in one process: daysheet <READINGS
+ *
+ * Reads the 96 quarter-hour readings of a day from standard input, one to a line (an optional minus and 1 to 10 digits;
+ * the last line may lack its newline), and prints what the plant room opens, and what the day used:
+ *
+ *     mean 1265
+ *     above the last row 2 of 96 quarters
+ *     deals 13648
+ *     words 23064
+ *
+ * A quarter above the table's last count is no reading; it enters the mean as -1. A line that is no reading, or is out
+ * of the range that can be split (11), is named on standard error, and so is one that is missing or too many: then
+ * nothing is run and nothing printed. Exit status: 0, or 1 where that or something else went wrong. */
+#include <inttypes.h>
+#include <stdio.h>
+#include <stdlib.h>
+
+#include "lamphiek.h"
+
+/* Mask lists that anybody can work out, for trials alone: word j, from j = 1, is FACTOR * j. The first 96 words of each
+ * split the readings, and the day's lists begin behind them. Real lists are drawn at random, and never used twice. */
+static const uint32_t FACTOR_A = 2654435769u, FACTOR_B = 2246822519u;
+
+enum { LINE_BYTES = 64 }; /* at most */
+enum { END = LAMPHIEK_QUARTERS + 1 }; /* the order of the end: the quarters and the mean are done */
+
+struct day {
+    uint32_t table[LAMPHIEK_HOUSE_WORDS];
+    uint32_t shares[3][LAMPHIEK_DAY_WORDS]; /* what hosts 0, 1 and 2 got of the readings */
+    uint32_t *a, *b, *deals;
+    lamphiek_counts counts;
+    lamphiek_masks masks;
+    lamphiek_state one, two;
+    uint32_t dealt, spoken;
+};
+
+static void stop(const char *why)
+{
+    fprintf(stderr, "daysheet: %s\n", why);
+    exit(1);
+}
+
+static void stop_if(uint32_t number, const char *what)
+{
+    if (number) {
+        fprintf(stderr, "daysheet: %s is refused with %" PRIu32 "\n", what, number);
+        exit(1);
+    }
+}
+
+static void stop_at(int line, const char *why)
+{
+    fprintf(stderr, "daysheet: line %d: %s\n", line, why);
+    exit(1);
+}
+
+/* ---- controller */
+
+/* The next line without its newline: how many bytes, or -1 where the input ends. A longer one is cut behind one byte
+ * more than it may have. */
+static int next_line(char line[LINE_BYTES + 1])
+{
+    int n = 0, c = getchar(), ended = c == EOF;
+    for (; c != EOF && c != '\n'; c = getchar())
+        if (n <= LINE_BYTES)
+            line[n++] = (char)c;
+    if (ferror(stdin))
+        stop("the input cannot be read");
+    return ended ? -1 : n;
+}
+
+static int is_reading(const char *line, int n, int64_t *reading)
+{
+    int minus = n > 0 && line[0] == '-';
+    *reading = 0;
+    for (int i = minus; i < n; i++) {
+        if (line[i] < '0' || line[i] > '9' || i - minus == 10)
+            return 0;
+        *reading = 10 * *reading + (line[i] - '0');
+    }
+    *reading = minus ? -*reading : *reading;
+    return n > minus;
+}
+
+/* Splits a quarter's reading, and gives each host its share. */
+static uint32_t split(struct day *d, uint32_t quarter, int64_t reading)
+{
+    lamphiek_shares s = {{0, 0}, {0, 0}, {0, 0}};
+    uint32_t number = lamphiek_split(reading, FACTOR_A * (quarter + 1), FACTOR_B * (quarter + 1), &s);
+    uint32_t *first[3] = {d->shares[0] + 2 * quarter, d->shares[1] + 2 * quarter, d->shares[2] + 2 * quarter};
+    first[0][0] = s.host0.l1, first[0][1] = s.host0.l2;
+    first[1][0] = s.host1.m, first[1][1] = s.host1.l;
+    first[2][0] = s.host2.m, first[2][1] = s.host2.l;
+    return number;
+}
+
+static void read_day(struct day *d)
+{
+    char line[LINE_BYTES + 1];
+    int64_t reading;
+    for (int i = 1; i <= LAMPHIEK_QUARTERS; i++) {
+        int n = next_line(line);
+        if (n < 0)
+            stop_at(i, "missing, a day has 96 readings");
+        if (n > LINE_BYTES)
+            stop_at(i, "longer than 64 bytes");
+        if (!is_reading(line, n, &reading))
+            stop_at(i, "not a reading (an optional minus and 1 to 10 digits)");
+        if (split(d, (uint32_t)i - 1, reading))
+            stop_at(i, "refused with 11, the reading is outside -1073741824 to 1073741823");
+    }
+    if (next_line(line) >= 0)
+        stop_at(LAMPHIEK_QUARTERS + 1, "too many, a day has 96 readings");
+}
+
+/* ---- hosts */
+
+static uint32_t *room_or_stop(size_t words)
+{
+    uint32_t *room = calloc(words, sizeof *room);
+    if (!room)
+        stop("no room for a list");
+    return room;
+}
+
+static uint32_t *sample_list(uint32_t words, uint32_t factor)
+{
+    uint32_t *list = room_or_stop(words);
+    for (uint32_t i = 0; i < words; i++)
+        list[i] = factor * (LAMPHIEK_QUARTERS + 1 + i);
+    return list;
+}
+
+/* What a day uses: 96 exact curves, and the mean's exact truncation. */
+static void count(struct day *d)
+{
+    static const uint32_t curve[LAMPHIEK_ORDER_WORDS] = {LAMPHIEK_CURVE, 0, 0, LAMPHIEK_MODE_EXACT};
+    static const uint32_t mean[LAMPHIEK_ORDER_WORDS] = {LAMPHIEK_EXACT, 0, 0, 16};
+    const uint32_t n = LAMPHIEK_QUARTERS;
+    lamphiek_counts q = {0, 0, 0, 0}, m = {0, 0, 0, 0};
+    stop_if(lamphiek_check(curve, LAMPHIEK_ORDER_WORDS, d->table, LAMPHIEK_HOUSE_WORDS, &q).number, "the table");
+    stop_if(lamphiek_check(mean, LAMPHIEK_ORDER_WORDS, d->table, LAMPHIEK_HOUSE_WORDS, &m).number, "the mean");
+    d->counts = (lamphiek_counts){n * q.deals + m.deals, n * q.words + m.words, n * q.a + m.a, n * q.b + m.b};
+}
+
+static void prepare(struct day *d)
+{
+    lamphiek_answer p =
+        lamphiek_day_prepare(&d->masks, d->table, LAMPHIEK_HOUSE_WORDS, d->shares[0], LAMPHIEK_DAY_WORDS, d->a,
+                             d->counts.a, d->b, d->counts.b, d->deals, d->counts.deals);
+    stop_if(p.number, "the preparation");
+    d->dealt = p.count;
+}
+
+/* Hosts 1 and 2, each hearing what the other spoke, until the end. */
+static void work(struct day *d)
+{
+    lamphiek_answer from1 = lamphiek_day_start(&d->one, 1, d->table, LAMPHIEK_HOUSE_WORDS, d->shares[1],
+                                               LAMPHIEK_DAY_WORDS, d->a, d->counts.a, NULL, 0);
+    lamphiek_answer from2 = lamphiek_day_start(&d->two, 2, d->table, LAMPHIEK_HOUSE_WORDS, d->shares[2],
+                                               LAMPHIEK_DAY_WORDS, d->b, d->counts.b, d->deals, d->dealt);
+    while (!from1.number && !from2.number && d->one.order < END) {
+        uint32_t word1 = from1.word, word2 = from2.word;
+        from1 = lamphiek_day_hear(&d->one, 1, d->table, LAMPHIEK_HOUSE_WORDS, d->shares[1], LAMPHIEK_DAY_WORDS, d->a,
+                                  d->counts.a, NULL, 0, word2);
+        from2 = lamphiek_day_hear(&d->two, 2, d->table, LAMPHIEK_HOUSE_WORDS, d->shares[2], LAMPHIEK_DAY_WORDS, d->b,
+                                  d->counts.b, d->deals, d->dealt, word1);
+    }
+    stop_if(from1.number, "host 1");
+    stop_if(from2.number, "host 2");
+    d->spoken = from1.count + from2.count;
+}
+
+/* ---- plant room */
+
+static int64_t opened(const struct day *d, int i)
+{
+    lamphiek_shares s = {
+        {d->masks.l1[i], d->masks.l2[i]}, {d->one.m[i], d->one.mask[i]}, {d->two.m[i], d->two.mask[i]}};
+    int64_t value = 0;
+    stop_if(lamphiek_open(&s, &value), "the opening");
+    return value;
+}
+
+int main(void)
+{
+    static struct day d;
+    lamphiek_house(d.table);
+    read_day(&d);
+    count(&d);
+    d.a = sample_list(d.counts.a, FACTOR_A);
+    d.b = sample_list(d.counts.b, FACTOR_B);
+    d.deals = room_or_stop(d.counts.deals);
+    prepare(&d);
+    work(&d);
+    free(d.a);
+    free(d.b);
+    free(d.deals);
+    if (d.dealt != d.counts.deals || d.spoken != d.counts.words)
+        stop("the counts disagree");
+    int64_t mean = opened(&d, 0), above = opened(&d, 1);
+    printf("mean %" PRId64 "\nabove the last row %" PRId64 " of %d quarters\n", mean, above, LAMPHIEK_QUARTERS);
+    printf("deals %" PRIu32 "\nwords %" PRIu32 "\n", d.dealt, d.spoken);
+    return fflush(stdout) || ferror(stdout) ? 1 : 0;
+}

@@ -1,0 +1,51 @@
+/* The parts of the border test: what calls are lent and how their answers are judged, jobs (border.c) and days
+ * (border_day.c). */
+#ifndef BORDER_H
+#define BORDER_H
+#include "lamphiek.h"
+
+enum { A_WORDS = 262, B_WORDS = 120, DEALS = 142 };                 /* an exact curve on the house table */
+enum { DAY_A_WORDS = 25180, DAY_B_WORDS = 11532, DAY_DEALS = 13648 }; /* a day on it */
+enum { PLACES = 8, DAY_PLACES = 11 };
+enum call { SPLIT, OPEN, CHECK, UNUSED_A, UNUSED_B, PREPARE, START, HEAR, DAY_PREPARE, DAY_START, DAY_HEAR, CALLS };
+
+/* What refused calls are lent to write: read only. */
+struct sealed {
+    lamphiek_shares shares;
+    int64_t value;
+    lamphiek_counts counts;
+    lamphiek_masks masks;
+    lamphiek_state state, end, elsewhere[PLACES], day_end, day_elsewhere[DAY_PLACES];
+    uint32_t deals[DAY_DEALS];
+};
+extern const struct sealed *sealed;
+
+#define WRITABLE(type, place) ((type *)(uintptr_t)&sealed->place)
+
+struct list { const uint32_t *at; size_t n; };
+
+/* What calls are lent to read: a job's calls the job, a day's calls the shares. */
+struct given { struct list job, shares, table, a, b, deals; };
+
+#define LIST(l) (l).at, (l).n
+#define LISTS(g, host) LIST((host) == 1 ? (g).a : (g).b), LIST((g).deals)
+
+void expect(int holds, const char *file, int line, const char *what);
+#define EXPECT(test) expect(test, __FILE__, __LINE__, #test)
+
+/* The call answered with this number and index, and nothing else. */
+void is(enum call call, lamphiek_answer r, uint32_t number, uint32_t index, const char *file, int line);
+#define IS(call, answer, number, index) is(call, answer, number, index, __FILE__, __LINE__)
+#define BARE(number) ((lamphiek_answer){number, 0, 0, 0})
+
+/* Pages that end with these n words, or zeros, and cannot be written, behind which nothing can be read. */
+struct list fenced(const uint32_t *words, size_t n);
+/* The same without its first word; and no list. */
+struct list shorter(struct list l);
+static const struct list NONE = {NULL, 0};
+
+/* ---- border_day.c */
+void seal_days(struct sealed *s);
+void refuse_days(struct list table);
+void complete_day(struct list table);
+#endif

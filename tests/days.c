@@ -1,0 +1,96 @@
+/* Days to try, and what they open by 64-bit arithmetic (document 01, "The curve"; R-1, R-3): no shares, no gates.
+ *
+ *   days make K    writes the 96 readings of day K, from 0, a line each; status 1 where there is no such day
+ *   days sheet     reads 96 readings and writes what examples/daysheet.c must print */
+#include <inttypes.h>
+#include <stdio.h>
+#include <stdlib.h>
+#include <string.h>
+
+enum { ROWS = 8, QUARTERS = 96 };
+
+static const int64_t HOUSE[ROWS][2] = {{200, 0},     {456, 250},   {712, 520},   {1224, 1100},
+                                       {1736, 1720}, {2760, 3100}, {3272, 3850}, {3572, 4250}};
+static const int64_t LEAST = -1073741824, MOST = 1073741823, LAST = 3572;
+
+static int64_t floored(int64_t x, int64_t by)
+{
+    return x / by - (x % by < 0);
+}
+
+static int64_t over(int64_t x, int64_t r)
+{
+    return x > r ? x - r : 0;
+}
+
+static int64_t value(int64_t x)
+{
+    int64_t y = 4096 * HOUSE[0][1];
+    for (int i = 0; i + 1 < ROWS; i++) {
+        int64_t width = HOUSE[i + 1][0] - HOUSE[i][0], rise = HOUSE[i + 1][1] - HOUSE[i][1];
+        y += floored(rise * 4096, width) * (over(x, HOUSE[i][0]) - over(x, HOUSE[i + 1][0]));
+    }
+    return x > LAST ? -1 : floored(y, 4096);
+}
+
+static int sheet(void)
+{
+    int64_t sum = 0, above = 0, x;
+    for (int i = 0; i < QUARTERS; i++) {
+        if (scanf("%" SCNd64, &x) != 1)
+            return 2;
+        sum += value(x);
+        above += x > LAST;
+    }
+    printf("mean %" PRId64 "\nabove the last row %" PRId64 " of %d quarters\n", floored(682 * sum, 65536), above,
+           QUARTERS);
+    /* the costs of an exact curve with R-1 and of kind 8: document 01's table, a row more or fewer being a kind 9 */
+    int deals = 14 * ROWS + 16 + 14, words = 24 * ROWS + 24 + 24;
+    printf("deals %d\nwords %d\n", QUARTERS * deals + 16, QUARTERS * words + 24);
+    return 0;
+}
+
+/* Any reading, most often one of the table's counts; the same ones at every time. */
+static int64_t any(uint64_t day, uint64_t quarter)
+{
+    uint64_t z = (day * QUARTERS + quarter + 1) * 0x9e3779b97f4a7c15u;
+    z = (z ^ z >> 30) * 0xbf58476d1ce4e5b9u;
+    z ^= z >> 27;
+    switch (z >> 8 & 7) {
+    case 0: return LEAST + (int64_t)(z >> 33);
+    case 1: return LAST + (int64_t)(z >> 32) % 3 - 1;
+    case 2: return 0 - (int64_t)((z >> 32) % 5000);
+    default: return (int64_t)((z >> 32) % 4096);
+    }
+}
+
+static int make(int day)
+{
+    for (int i = 0; i < QUARTERS; i++) {
+        int64_t x;
+        switch (day) {
+        case 0: x = LEAST; break;
+        case 1: x = LAST; break;
+        case 2: x = LAST + 1; break;                        /* the sum is -96 */
+        case 3: x = MOST; break;
+        case 4: x = i == 40 ? LAST + 1 : 200; break;        /* the sum is -1 */
+        case 5: x = i < 95 ? MOST : 202; break;             /* the sum is -94 */
+        case 6: x = i < 48 ? LAST + i % 2 : 300 + 34 * i; break;
+        case 7: x = HOUSE[i / 3 % ROWS][0] + i % 3 - 1; break; /* each count, one below, one above */
+        case 8: x = 3572 - 37 * i; break;
+        default:
+            if (day >= 20)
+                return 1;
+            x = any((uint64_t)day, (uint64_t)i);
+        }
+        printf("%" PRId64 "\n", x);
+    }
+    return 0;
+}
+
+int main(int argc, char **argv)
+{
+    if (argc == 3 && !strcmp(argv[1], "make"))
+        return make(atoi(argv[2]));
+    return argc == 2 && !strcmp(argv[1], "sheet") ? sheet() : 2;
+}
