@@ -153,7 +153,7 @@ static uint32_t once(int w, size_t orders, uint32_t x)
 
 /* ---- the rehearsal */
 
-enum { LINE_A = 262, LINE_B = 120, LINE_DEALS = 142 }; /* an exact curve on the house table */
+enum { LINE_A = 241, LINE_B = 120, LINE_DEALS = 121 }; /* an exact curve on the house table */
 
 static char out[1 << 16];
 static size_t out_n;

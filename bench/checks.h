@@ -12,8 +12,8 @@ enum { MEAN_FACTOR = 682, MEAN_SHIFT = 16 }; /* a day's mean: floor(682 * sum / 
 
 struct cost { u32 deals, a, b; };
 
-static const struct cost COST[10] = {{0, 0, 0}, {0, 0, 0}, {0, 0, 0},  {0, 0, 0},    {1, 2, 1},
-                                     {0, 1, 1}, {1, 1, 0}, {3, 4, 1}, {16, 28, 12}, {14, 26, 12}};
+static const struct cost COST[10] = {{0, 0, 0}, {0, 0, 0}, {0, 0, 0}, {0, 0, 0},    {1, 2, 1},
+                                     {0, 1, 1}, {1, 1, 0}, {2, 3, 1}, {13, 25, 12}, {12, 24, 12}};
 /* the fourth word: least, and how many values from there (0: any) */
 static const u32 LEAST[10] = {0, 0, 0, 0, 0, 0, 1, 1, 1, 0};
 static const u32 VALUES[10] = {16, 16, 0, 0, 16, 1, 31, 30, 31, 1};
@@ -34,11 +34,11 @@ static inline int keeps_rules(struct list t)
 /* Of a curve: a kind 9 for each row, and as much once more behind the truncation. */
 static inline struct cost exact_curve(u32 rows)
 {
-    return (struct cost){14 * rows + 30, 26 * rows + 54, 12 * rows + 24};
+    return (struct cost){12 * rows + 25, 24 * rows + 49, 12 * rows + 24};
 }
 static inline struct cost one_bit_curve(u32 rows)
 {
-    return (struct cost){14 * rows + 17, 26 * rows + 31, 12 * rows + 14};
+    return (struct cost){12 * rows + 14, 24 * rows + 28, 12 * rows + 14};
 }
 
 struct checked { u32 number, index; struct cost whole, before; };

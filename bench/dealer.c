@@ -47,18 +47,12 @@ static inline struct pair and(struct dealer *p, struct pair x, struct pair y)
     return fresh(p);
 }
 
-/* A product of a known value with a dealt one: the known one has no masks. */
-static inline struct pair known_product(struct dealer *p)
-{
-    *p->d++ = 0 - *p->a++;
-    return fresh(p);
-}
+/* A product of a known value with a dealt one: the known one has no masks, so there is nothing to deal. */
+static inline struct pair known_product(struct dealer *p) { return fresh(p); }
 
 static inline struct pair adder(struct dealer *p, struct pair x, struct pair *first)
 {
-    struct pair n = deal_bits(p, 0 - sum(x)), pp = n, g;
-    *p->d++ = *p->a++; /* known bits: no masks */
-    g = fresh(p);
+    struct pair n = deal_bits(p, 0 - sum(x)), pp = n, g = known_product(p);
     for (u32 d = 1; d <= 16; d *= 2) {
         struct pair t = and(p, pp, pup(g, d));
         if (d < 16)

@@ -1,11 +1,12 @@
-/* Document 01's engine, with, written by hand in C: the same calls and obligations as the proved engine. */
+/* Document 01's engine, with R-1, R-3 and R-4, written by hand in C: the same calls and obligations as the proved
+ * engine. */
 #ifndef ENGINE_H
 #define ENGINE_H
 #include <stddef.h>
 #include <stdint.h>
 
 /* What the longest job needs: 64 exact curves on 16 rows. A day on the house table needs less. */
-enum { MOST_A = 30080, MOST_B = 13824, MOST_DEALS = 16256 };
+enum { MOST_A = 27712, MOST_B = 13824, MOST_DEALS = 13888 };
 
 enum { QUARTERS = 96, MEAN = QUARTERS, DAY_END, DAY_WORDS = 2 * QUARTERS }; /* a day's orders, and its list */
 
@@ -43,8 +44,8 @@ void hear_day_at(struct answer *r, uint32_t host, const struct day *day, uint32_
 
 extern const uint32_t house[16];
 
-/* Workload 9 of bench.c, library.c and the crate workloads: by S a whole day, the hearing of a job of one curve, or else
- * one hearing in quarter S; both at this turn. */
+/* Workload 9 of bench.c, library.c and the crate workloads: by S a whole day, the hearing of a job of one curve, or
+ * else one hearing in quarter S; both at this turn. */
 enum { WHOLE_DAY = DAY_END, JOB_HEARING, DAY_TURN = 60 };
 
 /* Its day, as each host's list: 40 times the quarter, so that the last ones are above the house table's last row. */

@@ -23,7 +23,7 @@ static inline u32 deal(struct walk *w)
     return w->host == 1 ? w->masks[i] : w->deals[j];
 }
 
-/* g1 or g2 of a product */
+/* g1 or g2 of a product; one with a known value has none, and takes of the lists what a refresh takes */
 static inline u32 part(const struct walk *w) { return w->host == 1 ? w->masks[w->a] : w->deals[w->k]; }
 static inline u32 product_mask(const struct walk *w) { return w->masks[w->host == 1 ? w->a + 1 : w->b]; }
 static inline u32 refresh_mask(const struct walk *w) { return w->masks[w->host == 1 ? w->a : w->b]; }
@@ -43,8 +43,8 @@ static inline u32 and_word(const struct walk *w, struct share x, struct share y)
 }
 
 /* A known value times a dealt one, both kept in one share. */
-static inline u32 mul_known(const struct walk *w, struct share q) { return part(w) + product_mask(w) - q.m * q.l; }
-static inline u32 and_known(const struct walk *w, struct share q) { return part(w) ^ product_mask(w) ^ (q.m & q.l); }
+static inline u32 mul_known(const struct walk *w, struct share q) { return refresh_mask(w) - q.m * q.l; }
+static inline u32 and_known(const struct walk *w, struct share q) { return refresh_mask(w) ^ (q.m & q.l); }
 
 static inline u32 refresh_word(const struct walk *w, struct share x)
 {
@@ -52,11 +52,18 @@ static inline u32 refresh_word(const struct walk *w, struct share x)
     return w->host == 1 ? own + x.m : own;
 }
 
-/* A product's new share, of the two words' sum. */
+/* A product's new share, of the two words' sum; and that of a refresh, or of a product with a known value. */
 static inline struct share met(struct walk *w, u32 sum)
 {
     struct share v = {sum, product_mask(w)};
     past_product(w);
+    return v;
+}
+
+static inline struct share refreshed(struct walk *w, u32 sum)
+{
+    struct share v = {sum, refresh_mask(w)};
+    past_refresh(w);
     return v;
 }
 #endif

@@ -8,7 +8,7 @@
  * end; the truncation's sum; the curve's sum, then what its truncation gives */
 enum { FIRST = 16, PP, GG, BIT, FACTOR, SUM, CURVE };
 
-/* the adder's ten products: turns 0 to 9 */
+/* the adder's ten products: turns 0 to 9, the first with the known m */
 
 static inline void adder_begin(struct state *s, struct walk *w, u32 m)
 {
@@ -135,17 +135,23 @@ static inline void curve_begin(struct state *s, struct walk *w, struct share x, 
     adder_begin(s, w, row_source(x, t, 0).m);
 }
 
-/* Words of A, and deals, before a turn of kind 9 (a sign and a product) and of kind 8. */
+/* Whether a turn of kind 9 (a sign and a product), or of kind 8, is a product with a known value: the adder's first,
+ * and those that make bits numbers. */
+static inline u32 sign_known(u32 turn) { return turn == 0 || turn == 10; }
+static inline u32 exact_known(u32 turn) { return turn == 0 || turn >= 10; }
+
+/* Words of A, and deals, before a turn of theirs. A product takes two words and a deal; so does one with a known value
+ * together with the deal before it. Kind 8 begins with a deal. */
 static inline void sign_place(struct walk *w, u32 turn)
 {
-    w->a += turn < 10 ? 1 + 2 * turn : 2 * turn + 2;
-    w->k += turn < 10 ? 1 + turn : turn + 2;
+    w->a += 2 * turn + sign_known(turn);
+    w->k += turn + sign_known(turn);
 }
 
 static inline void exact_place(struct walk *w, u32 turn)
 {
-    w->a += turn < 10 ? 2 + 2 * turn : turn == 10 ? 23 : 26;
-    w->k += turn < 10 ? 2 + turn : turn == 10 ? 13 : 15;
+    w->a += 1 + 2 * turn + exact_known(turn);
+    w->k += 1 + turn + exact_known(turn);
 }
 
 static inline int said(struct answer *r, const struct walk *w, u32 word)
@@ -162,8 +168,8 @@ static inline __attribute__((always_inline)) int sign_turn(struct answer *r, str
 {
     struct state *s = &r->state;
     sign_place(w, turn);
-    u32 own = sign_word(s, w, x, turn);
-    *v = met(w, turn < 10 ? own ^ heard : own + heard);
+    u32 own = sign_word(s, w, x, turn), sum = turn < 10 ? own ^ heard : own + heard;
+    *v = sign_known(turn) ? refreshed(w, sum) : met(w, sum);
     if (sign_heard(s, w, f, turn, *v))
         return 1;
     return said(r, w, sign_word(s, w, x, turn + 1));
@@ -174,8 +180,8 @@ static inline __attribute__((always_inline)) int exact_turn(struct answer *r, st
 {
     struct state *s = &r->state;
     exact_place(w, turn);
-    u32 own = exact_word(s, w, turn);
-    *v = met(w, turn < 10 ? own ^ heard : own + heard);
+    u32 own = exact_word(s, w, turn), sum = turn < 10 ? own ^ heard : own + heard;
+    *v = exact_known(turn) ? refreshed(w, sum) : met(w, sum);
     if (exact_heard(s, w, k, turn, v))
         return 1;
     return said(r, w, exact_word(s, w, turn + 1));
@@ -185,7 +191,7 @@ static inline int one_bit_turn(struct answer *r, struct walk *w, u32 k, u32 hear
 {
     w->a += 2;
     w->k += 2;
-    *v = one_bit_end(&r->state, k, met(w, mul_known(w, get(&r->state, BIT)) + heard));
+    *v = one_bit_end(&r->state, k, refreshed(w, mul_known(w, get(&r->state, BIT)) + heard));
     return 1;
 }
 
@@ -196,8 +202,8 @@ static inline __attribute__((always_inline)) int row_turn(struct answer *r, stru
     struct state *s = &r->state;
     struct share v;
     u32 row = turn / 12;
-    w->a += 26 * row;
-    w->k += 14 * row;
+    w->a += 24 * row;
+    w->k += 12 * row;
     if (!sign_turn(r, w, row_source(x, t, row), ONE_LESS_SIGN, turn % 12, heard, &v))
         return 0;
     struct share sum = add(get(s, CURVE), scale(v, change(t, row)));
@@ -222,8 +228,7 @@ static inline __attribute__((always_inline)) int curve_truncation_turn(struct an
         if (!exact_turn(r, w, 12, turn, heard, &v))
             return 0;
     } else if (turn == 0) {
-        v = (struct share){refresh_word(w, get(s, CURVE)) + heard, refresh_mask(w)};
-        past_refresh(w);
+        v = refreshed(w, refresh_word(w, get(s, CURVE)) + heard);
         one_bit_begin(s, w, v, 12);
         return said(r, w, mul_known(w, get(s, BIT)));
     } else {
@@ -242,14 +247,14 @@ static inline __attribute__((always_inline)) int curve_turn(struct answer *r, st
     u32 rows = t.n / 2;
     if (turn < 12 * rows)
         return row_turn(r, w, x, mode, t, turn, heard);
-    w->a += 26 * rows;
-    w->k += 14 * rows;
+    w->a += 24 * rows;
+    w->k += 12 * rows;
     turn -= 12 * rows;
     u32 truncated = mode ? 2 : 12;
     if (turn < truncated)
         return curve_truncation_turn(r, w, x, mode, t, turn, heard);
-    w->a += mode ? 5 : 28;
-    w->k += mode ? 3 : 16;
+    w->a += mode ? 4 : 25;
+    w->k += mode ? 2 : 13;
     struct share value = get(&r->state, CURVE), over = {value.m + 1, value.l};
     if (!sign_turn(r, w, over, SIGN, turn - truncated, heard, v))
         return 0;

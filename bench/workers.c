@@ -79,10 +79,7 @@ static inline __attribute__((always_inline)) void hear_in(struct answer *r, u32 
     int done = 1;
     switch (o[0]) {
     case 4: v = met(&w, mul_word(&w, get(s, o[2]), get(s, o[3])) + heard); break;
-    case 5:
-        v = (struct share){refresh_word(&w, get(s, o[2])) + heard, refresh_mask(&w)};
-        past_refresh(&w);
-        break;
+    case 5: v = refreshed(&w, refresh_word(&w, get(s, o[2])) + heard); break;
     case 7: done = one_bit_turn(r, &w, o[3], heard, &v); break;
     case 8: done = exact_turn(r, &w, o[3], turn, heard, &v); break;
     case 9: done = sign_turn(r, &w, get(s, o[2]), ONE_LESS_SIGN, turn, heard, &v); break;

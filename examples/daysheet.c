@@ -5,7 +5,7 @@
  *
  *     mean 1265
  *     above the last row 2 of 96 quarters
- *     deals 13648
+ *     deals 11629
  *     words 23064
  *
  * A quarter above the table's last count is no reading; it enters the mean as -1. A line that is no reading, or is out

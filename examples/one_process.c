@@ -1,7 +1,7 @@
 /* The three hosts in one process: one_process E|S READING
  *
  * Puts a reading through the house table (E: exact mode, S: one-bit mode) and prints mode, reading, value, deals, and
- * words spoken by both workers, as ./rehearse does: "E 202 1 142 240"; or "refused 11". */
+ * words spoken by both workers, as ./rehearse does: "E 202 1 121 240"; or "refused 11". */
 #include <inttypes.h>
 #include <stdio.h>
 #include <stdlib.h>

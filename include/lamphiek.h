@@ -1,5 +1,5 @@
-/* Lamphiek: a masked calibration engine for three hosts (docs/01-scope.md, and of docs/02-change-requests.md R-1, R-2
- * and R-3), for C11, C++11 and later.
+/* Lamphiek: a masked calibration engine for three hosts (docs/01-scope.md, and of docs/02-change-requests.md R-1 to
+ * R-4), for C11, C++11 and later.
  *
  * No call allocates, blocks, or keeps anything between calls: what a call reads and writes is lent to it for that call
  * alone. Words are uint32_t, and arithmetic on them is modulo 2^32.
@@ -203,8 +203,8 @@ lamphiek_answer lamphiek_hear(lamphiek_state *state, uint32_t host, const uint32
  * where a table's values fall to 0 it may be -1 with none.
  *
  * shares: the host's 96 shares in day order, two words each: host 0 l1, l2; hosts 1 and 2 m, l. A day uses what 96
- * exact curves and one LAMPHIEK_EXACT use (lamphiek_check counts either): on the house table 13,648 deals, 23,064 words
- * spoken, 25,180 words of list A and 11,532 of list B. lamphiek_unused_a and _b have no form for a day: the words that
+ * exact curves and one LAMPHIEK_EXACT use (lamphiek_check counts either): on the house table 11,629 deals, 23,064 words
+ * spoken, 23,161 words of list A and 11,532 of list B. lamphiek_unused_a and _b have no form for a day: the words that
  * it leaves are those behind these counts. The index is always 0. */
 
 /* Host 0: prepares a day, as lamphiek_prepare a job. The masks are only written. Numbers 12, then 5 to 7. */

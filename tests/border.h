@@ -4,8 +4,8 @@
 #define BORDER_H
 #include "lamphiek.h"
 
-enum { A_WORDS = 262, B_WORDS = 120, DEALS = 142 };                 /* an exact curve on the house table */
-enum { DAY_A_WORDS = 25180, DAY_B_WORDS = 11532, DAY_DEALS = 13648 }; /* a day on it */
+enum { A_WORDS = 241, B_WORDS = 120, DEALS = 121 };                   /* an exact curve on the house table */
+enum { DAY_A_WORDS = 23161, DAY_B_WORDS = 11532, DAY_DEALS = 11629 }; /* a day on it */
 enum { PLACES = 8, DAY_PLACES = 11 };
 enum call { SPLIT, OPEN, CHECK, UNUSED_A, UNUSED_B, PREPARE, START, HEAR, DAY_PREPARE, DAY_START, DAY_HEAR, CALLS };
 

@@ -44,9 +44,9 @@ static int sheet(void)
     }
     printf("mean %" PRId64 "\nabove the last row %" PRId64 " of %d quarters\n", floored(682 * sum, 65536), above,
            QUARTERS);
-    /* the costs of an exact curve with R-1 and of kind 8: document 01's table, a row more or fewer being a kind 9 */
-    int deals = 14 * ROWS + 16 + 14, words = 24 * ROWS + 24 + 24;
-    printf("deals %d\nwords %d\n", QUARTERS * deals + 16, QUARTERS * words + 24);
+    /* the costs of an exact curve with R-1 and of kind 8, with R-4's deals: a row more or fewer is a kind 9 */
+    int deals = 12 * ROWS + 13 + 12, words = 24 * ROWS + 24 + 24;
+    printf("deals %d\nwords %d\n", QUARTERS * deals + 13, QUARTERS * words + 24);
     return 0;
 }
 

@@ -10,3 +10,4 @@ pub mod Holdings
 pub mod DayRuns
 pub mod Back
 pub mod Returned
+pub mod KnownSides

@@ -81,7 +81,7 @@ split-reading S q x l1 l2 r h1 h2 e =
     ap (λ (p : ℕ × ℤ). p .1)
     (sym (share-opens 32 (quarter-share S q)) ∙ ap (reconstruction 32) (sym e) ∙ round-trip 32 x l1 l2 (lit≤ tt) r h1 h2 .1)
 
-house-counts : day-cost 8 ≡ cost-of 13648 23064 25180 11532
+house-counts : day-cost 8 ≡ cost-of 11629 23064 23161 11532
 unfolding day-of times-cost kind-cost kind-costs curve-cost plus
 house-counts = refl
 

@@ -5,3 +5,4 @@ pub mod Calls
 pub mod Runs
 pub mod Returned
 pub mod Holdings
+pub mod KnownSides

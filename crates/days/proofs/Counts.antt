@@ -34,7 +34,7 @@ quarter-cost q ps =
     ∙ cost-path (omega arith) (omega arith) (omega arith) (omega arith)
 
 -- nor does the product with a constant
-mean-cost : program-cost 32 (mean-program 32) ≡ cost-of 16 24 28 12
+mean-cost : program-cost 32 (mean-program 32) ≡ cost-of 13 24 25 12
 unfolding mean-program program kinds kind-cost kind-costs program-cost order-steps meaning cost step-cost plus
 mean-cost =
     cost-after 32 (Scale acc-slot 0 682 ∷ []) (exact-program 32 16 acc-slot 0)

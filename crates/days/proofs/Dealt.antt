@@ -12,7 +12,7 @@ use Rattle.words.specs.Words.{mul}
 use Rattle.tables.specs.Table.{rows}
 use Rattle.gates.specs.Gates.{Gate, Add, Scale}
 use Rattle.gates.specs.declared.Used.{Used}
-use Rattle.gates.specs.Steps.{Lane, at, Step, end, part2}
+use Rattle.gates.specs.Steps.{Lane, at, product, refresh, known-product, Step, end, part2}
 use Rattle.gates.specs.Meaning.{meaning, job-steps}
 use Rattle.gates.specs.Costs.{Cost, plus, step-cost, cost}
 use Rattle.gates.specs.Hosts.{on-mask}
@@ -28,7 +28,7 @@ use Rattle.days.specs.Day.{day-gates, day-steps}
 use Rattle.days.specs.Orders.{own-order, order-words, with-share, entered, summed, counted, left}
 use Rattle.days.specs.Orders.{front, back, within, first-tail, second-tail}
 use Rattle.days.proofs.Quarters.{day-gates-count}
-use Rattle.days.proofs.Moved.{moved, Ready, Embeds, Same, same-local, same-deal, same-product, same-refresh, same-gate}
+use Rattle.days.proofs.Moved.{moved, moved-exchange, Ready, Embeds, Same, same-local, same-deal, same-exchange, same-gate}
 use Rattle.days.proofs.Moved.{still-ready, put-same}
 use Rattle.days.proofs.Lanes.{place, embeds, takes, any-share, first-word, second-word, first-short, second-short}
 use Rattle.days.proofs.Walked.{steps-are}
@@ -63,16 +63,17 @@ module _ (A B : List ℕ) (ρ : ℕ → ℕ) (x₁ x₂ : ℕ) (e₁ e₂ : Lane
 
   step-alike : {d : ℕ} {x y : Step} → Same ρ d x y → eqb 15 d ≡ false → (s : Dealer) → Held s
       → (dealing A B y (larger s) ≡ larger (dealing A B x s)) × Held (dealing A B x s)
-  unfolding dealing shape on-mask dealt-word part2
+  unfolding dealing shape on-mask dealt-word part2 moved-exchange
   step-alike {d = d} (same-local p q) t s r =
       written s r d t _ _ _ _ _ _ _ _ _ (q x₁ e₁ E₁ (s .l1) (r .0)) (q x₂ e₂ E₂ (s .l2) (r .1)) refl
   step-alike {d = d} (same-deal p) t s r =
       let e = p x₁ x₂ e₁ e₂ E₁ E₂ (at A (s .a)) (s .l1) (s .l2) (r .0) (r .1) in
       written s r d t _ _ _ _ _ _ _ _ _ refl e (ap (set (s .buffer) (s .deals)) e)
-  step-alike {d = d} (same-product O i j) t s r =
+  step-alike {d = d} (same-exchange (product O i j)) t s r =
       written s r d t _ _ _ _ _ _ _ _ _ refl refl
       (rw (E₁ .seen (s .l1) (r .0) i, E₁ .seen (s .l1) (r .0) j, E₂ .seen (s .l2) (r .1) i, E₂ .seen (s .l2) (r .1) j))
-  step-alike {d = d} (same-refresh O i) t s r = written s r d t _ _ _ _ _ _ _ _ _ refl refl refl
+  step-alike {d = d} (same-exchange (refresh O i)) t s r = written s r d t _ _ _ _ _ _ _ _ _ refl refl refl
+  step-alike {d = d} (same-exchange (known-product O i j)) t s r = written s r d t _ _ _ _ _ _ _ _ _ refl refl refl
 
   pub gates-alike : (w : ℕ) (gs : List Gate) → Spares 15 gs → (s : Dealer) → Held s
       → (deal-all A B (map (meaning w) (map (moved ρ) gs)) (larger s) ≡ larger (deal-all A B (map (meaning w) gs) s))
@@ -86,11 +87,12 @@ module _ (A B : List ℕ) (ρ : ℕ → ℕ) (x₁ x₂ : ℕ) (e₁ e₂ : Lane
 
 -- a moved gate uses as much
 same-cost : {ρ : ℕ → ℕ} {d : ℕ} {x y : Step} → Same ρ d x y → step-cost y ≡ step-cost x
-unfolding step-cost
+unfolding step-cost moved-exchange
 same-cost (same-local p q) = refl
 same-cost (same-deal p) = refl
-same-cost (same-product O i j) = refl
-same-cost (same-refresh O i) = refl
+same-cost (same-exchange (product O i j)) = refl
+same-cost (same-exchange (refresh O i)) = refl
+same-cost (same-exchange (known-product O i j)) = refl
 
 moved-cost : (ρ : ℕ → ℕ) (w : ℕ) (gs : List Gate) → cost (map (meaning w) (map (moved ρ) gs)) ≡ cost (map (meaning w) gs)
 unfolding cost

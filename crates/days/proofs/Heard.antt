@@ -7,7 +7,7 @@ use Prim.Native.Nat.{ℕ, zero, suc, _≤_}
 use lib.Dec.{eqb}
 use lib.ListN.{length, drop, set}
 use Rattle.gates.specs.Gates.{Gate}
-use Rattle.gates.specs.Steps.{Lane, at, product, refresh, Step, exchange, end, meet, new-at, past-deal, Cursor, past}
+use Rattle.gates.specs.Steps.{Lane, at, Exchange, product, refresh, known-product, Step, exchange, end, meet, new-at, past-deal, Cursor, past}
 use Rattle.gates.specs.Meaning.{meaning, order-steps}
 use Rattle.gates.specs.Walk.{Exchanging, far}
 use Rattle.gates.specs.Hosts.{Pair}
@@ -22,13 +22,13 @@ use Rattle.calls.specs.Calls.{State, Answer, word-at, report, hear-walk}
 use Rattle.walks.specs.Workers.{cursor, first-at, new-mask, sum-of, heard-at}
 use Rattle.walks.specs.Halts.{reported}
 use Rattle.walks.proofs.Halts.{past-exchange, walk-on}
-use Rattle.walks.proofs.Workers.{heard-as, heard-any}
+use Rattle.walks.proofs.Workers.{heard-by, heard-as, heard-any}
 use Rattle.runs.proofs.Written.{Spares, none, also}
 use Rattle.days.specs.Orders.{within}
-use Rattle.days.proofs.Moved.{moved, Ready, Embeds, Same, same-local, same-deal, same-product, same-refresh, same-gate}
+use Rattle.days.proofs.Moved.{moved, moved-exchange, Ready, Embeds, Same, same-local, same-deal, same-exchange, same-gate}
 use Rattle.days.proofs.Moved.{still-ready, put-same}
 use Rattle.days.proofs.Lanes.{place, embeds}
-use Rattle.days.proofs.Outcomes.{says-product, says-refresh}
+use Rattle.days.proofs.Outcomes.{says-same}
 use Rattle.days.proofs.Walked.{steps-are, day-from, Held, Walked, walked}
 
 -- ---- one exchange
@@ -53,39 +53,48 @@ module _ (h : ℕ) (M D : List ℕ) (ρ : ℕ → ℕ) (x₁ x₂ : ℕ) (e₁ e
     (still-ready ρ x₁ (s .0) (r .0) d p t, still-ready ρ x₂ (s .1) (r .1) d q t),
   )
 
+  -- an exchange, with the sum of the two words and the new mask
+  heard-of : (d : ℕ) → eqb 15 d ≡ false → (a b n : ℕ) (s : Pair) → Both s → (v : ℕ) (e : Exchange) (sum new : ℕ)
+      → let own : ℕ = W .say e (cursor 0 0 a b n) s in
+      heard-by (shape (exchange d e)) (sum-of h (exchange d e) own v) (new-mask h M (exchange d e) a b) s
+      ≡ (set (s .0) d sum, set (s .1) d new)
+      → heard-by (shape (exchange (ρ d) (moved-exchange ρ e))) (sum-of h (exchange (ρ d) (moved-exchange ρ e)) own v)
+      (new-mask h M (exchange (ρ d) (moved-exchange ρ e)) a b) (big s)
+      ≡ (set (e₁ (s .0)) (ρ d) sum, set (e₂ (s .1)) (ρ d) new)
+      → (heard-at W (exchange (ρ d) (moved-exchange ρ e)) (cursor 0 0 a b n) (big s) v
+      ≡ big (heard-at W (exchange d e) (cursor 0 0 a b n) s v))
+      × Both (heard-at W (exchange d e) (cursor 0 0 a b n) s v)
+  unfolding word-at
+  heard-of d t a b n s r v e sum new p q =
+      let own : ℕ = W .say e (cursor 0 0 a b n) s in
+      let here = heard-as M D 0 0 a b n s h (exchange d e) own v refl ∙ p in
+      let there = heard-as M D 0 0 a b n (big s) h (exchange (ρ d) (moved-exchange ρ e)) own v
+      (sym (says-same h M D ρ x₁ x₂ e₁ e₂ E₁ E₂ (cursor 0 0 a b n) s r e)) ∙ q in
+      let k = written d sum new s r t in
+      (there ∙ k .0 ∙ ap big (sym here), subst Both (sym here) (k .1))
+
   pub heard-alike : {d : ℕ} {y z : Step} → Same ρ d y z → Exchanging (y ∷ []) → eqb 15 d ≡ false → (a b n : ℕ) (s : Pair) → Both s → (v : ℕ)
       → (heard-at W z (cursor 0 0 a b n) (big s) v ≡ big (heard-at W y (cursor 0 0 a b n) s v)) × Both (heard-at W y (cursor 0 0 a b n) s v)
-  unfolding word-at shape sum-of met meet new-mask first-at new-at
+  unfolding shape sum-of met meet new-mask first-at new-at moved-exchange
   heard-alike (same-local p q) x t a b n s r v = absurd x
   heard-alike (same-deal p) x t a b n s r v = absurd x
-  heard-alike {d = d} (same-product O i j) x t a b n s r v =
-      let own : ℕ = W .say (product O i j) (cursor 0 0 a b n) s in
-      let here = heard-as M D 0 0 a b n s h (exchange d (product O i j)) own v refl in
-      let there = heard-as M D 0 0 a b n (big s) h (exchange (ρ d) (product O (ρ i) (ρ j))) own v
-      (sym (says-product h M D ρ x₁ x₂ e₁ e₂ E₁ E₂ (cursor 0 0 a b n) s r O i j)) in
-      let k = written d _ _ s r t in
-      (there ∙ k .0 ∙ ap big (sym here), subst Both (sym here) (k .1))
-  heard-alike {d = d} (same-refresh O i) x t a b n s r v =
-      let own : ℕ = W .say (refresh O i) (cursor 0 0 a b n) s in
-      let here = heard-as M D 0 0 a b n s h (exchange d (refresh O i)) own v refl in
-      let there = heard-as M D 0 0 a b n (big s) h (exchange (ρ d) (refresh O (ρ i))) own v
-      (sym (says-refresh h M D ρ x₁ x₂ e₁ e₂ E₁ E₂ (cursor 0 0 a b n) s r O i)) in
-      let k = written d _ _ s r t in
-      (there ∙ k .0 ∙ ap big (sym here), subst Both (sym here) (k .1))
+  heard-alike {d = d} (same-exchange (product O i j)) x t a b n s r v = heard-of d t a b n s r v (product O i j) _ _ refl refl
+  heard-alike {d = d} (same-exchange (refresh O i)) x t a b n s r v = heard-of d t a b n s r v (refresh O i) _ _ refl refl
+  heard-alike {d = d} (same-exchange (known-product O i j)) x t a b n s r v = heard-of d t a b n s r v (known-product O i j) _ _ refl refl
 
 -- the same is used there, and the moved step is an exchange too
 past-same : {ρ : ℕ → ℕ} {d : ℕ} {y z : Step} → Same ρ d y z → (c : Cursor) → past z c ≡ past y c
-unfolding past new-at past-deal
+unfolding past new-at past-deal moved-exchange
 past-same (same-local p q) c = refl
 past-same (same-deal p) c = refl
-past-same (same-product O i j) c = refl
-past-same (same-refresh O i) c = refl
+past-same (same-exchange (product O i j)) c = refl
+past-same (same-exchange (refresh O i)) c = refl
+past-same (same-exchange (known-product O i j)) c = refl
 
 pub speaks-same : {ρ : ℕ → ℕ} {d : ℕ} {y z : Step} → Same ρ d y z → Exchanging (y ∷ []) → Exchanging (z ∷ [])
 speaks-same (same-local p q) x = absurd x
 speaks-same (same-deal p) x = absurd x
-speaks-same (same-product O i j) x = tt
-speaks-same (same-refresh O i) x = tt
+speaks-same (same-exchange e) x = tt
 
 drop-spares : (i : ℕ) (gs : List Gate) → Spares 15 gs → Spares 15 (drop i gs)
 drop-spares zero gs p = p

@@ -8,11 +8,10 @@ use lib.Dec.{eqb}
 use lib.Bits.{bitXor}
 use lib.ListN.{length, set, length-set}
 use lib.Seq.{getD-set-other}
-use Rattle.words.specs.Ring.{Ops}
 use Rattle.words.specs.Words.{add, sub, neg, mul, bit, shl, numbers, bits}
 use Rattle.shares.specs.Gates as Shares
-use Rattle.gates.specs.Gates.{Gate, Add, Sub, Xor, Mul, And, Refresh, Scale, Plus, Up, Bit, Const, Public, Deal, DealBits}
-use Rattle.gates.specs.Steps.{Lane, at, product, refresh, Step, local, deal, exchange}
+use Rattle.gates.specs.Gates.{Gate, Add, Sub, Xor, Mul, And, Refresh, MulKnown, AndKnown, Scale, Plus, Up, Bit, Const, Public, Deal, DealBits}
+use Rattle.gates.specs.Steps.{Lane, at, Exchange, product, refresh, known-product, Step, local, deal, exchange}
 use Rattle.gates.specs.Meaning.{part, dealt-of, meaning}
 use Rattle.programs.proofs.Points.{target}
 
@@ -23,6 +22,8 @@ moved ρ (Xor d a b) = Xor (ρ d) (ρ a) (ρ b)
 moved ρ (Mul d a b) = Mul (ρ d) (ρ a) (ρ b)
 moved ρ (And d a b) = And (ρ d) (ρ a) (ρ b)
 moved ρ (Refresh d a) = Refresh (ρ d) (ρ a)
+moved ρ (MulKnown d a b) = MulKnown (ρ d) (ρ a) (ρ b)
+moved ρ (AndKnown d a b) = AndKnown (ρ d) (ρ a) (ρ b)
 moved ρ (Scale d a n) = Scale (ρ d) (ρ a) n
 moved ρ (Plus d a n) = Plus (ρ d) (ρ a) n
 moved ρ (Up d a n) = Up (ρ d) (ρ a) n
@@ -31,6 +32,11 @@ moved ρ (Const d n) = Const (ρ d) n
 moved ρ (Public d a f) = Public (ρ d) (ρ a) f
 moved ρ (Deal d a f) = Deal (ρ d) (ρ a) f
 moved ρ (DealBits d a) = DealBits (ρ d) (ρ a)
+
+unfoldable pub moved-exchange : (ℕ → ℕ) → Exchange → Exchange
+moved-exchange ρ (product O a b) = product O (ρ a) (ρ b)
+moved-exchange ρ (refresh O a) = refresh O (ρ a)
+moved-exchange ρ (known-product O a b) = known-product O (ρ a) (ρ b)
 
 -- a lane of the code, which holds x in its slot 15
 pub record Ready (x : ℕ) (c : Lane) : Type 0 where
@@ -55,8 +61,7 @@ Word2 ρ f f′ =
 pub data Same (ρ : ℕ → ℕ) (d : ℕ) : Step → Step → Type 0 where
   same-local : {m l m′ l′ : Lane → ℕ} → Word ρ m m′ → Word ρ l l′ → Same ρ d (local d m l) (local (ρ d) m′ l′)
   same-deal : {f f′ : ℕ → Lane → Lane → ℕ} → Word2 ρ f f′ → Same ρ d (deal d f) (deal (ρ d) f′)
-  same-product : (O : Ops ℕ) (a b : ℕ) → Same ρ d (exchange d (product O a b)) (exchange (ρ d) (product O (ρ a) (ρ b)))
-  same-refresh : (O : Ops ℕ) (a : ℕ) → Same ρ d (exchange d (refresh O a)) (exchange (ρ d) (refresh O (ρ a)))
+  same-exchange : (e : Exchange) → Same ρ d (exchange d e) (exchange (ρ d) (moved-exchange ρ e))
 
 module _ (ρ : ℕ → ℕ) where
   -- a word of one slot, of two slots
@@ -74,13 +79,15 @@ module _ (ρ : ℕ → ℕ) where
   masks f a x y e e′ E E′ v c c′ r r′ = ap₂ (f v) (E .seen c r a) (E′ .seen c′ r′ a)
 
   pub same-gate : (w : ℕ) (g : Gate) → Same ρ (target g) (meaning w g) (meaning w (moved ρ g))
-  unfolding meaning moved target
+  unfolding meaning moved moved-exchange target
   same-gate w (Add d a b) = same-local (two (add w) a b) (two (add w) a b)
   same-gate w (Sub d a b) = same-local (two (sub w) a b) (two (sub w) a b)
   same-gate w (Xor d a b) = same-local (two bitXor a b) (two bitXor a b)
-  same-gate w (Mul d a b) = same-product (numbers w) a b
-  same-gate w (And d a b) = same-product (bits w) a b
-  same-gate w (Refresh d a) = same-refresh (numbers w) a
+  same-gate w (Mul d a b) = same-exchange (product (numbers w) a b)
+  same-gate w (And d a b) = same-exchange (product (bits w) a b)
+  same-gate w (Refresh d a) = same-exchange (refresh (numbers w) a)
+  same-gate w (MulKnown d a b) = same-exchange (known-product (numbers w) a b)
+  same-gate w (AndKnown d a b) = same-exchange (known-product (bits w) a b)
   same-gate w (Scale d a n) = same-local (one (λ x. mul w x n) a) (one (λ x. mul w x n) a)
   same-gate w (Plus d a n) = same-local (one (λ x. add w x n) a) (one (λ x. x) a)
   same-gate w (Up d a n) = same-local (one (shl w n) a) (one (shl w n) a)

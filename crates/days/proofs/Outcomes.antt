@@ -6,9 +6,8 @@ use mathlib.Core.List.{List, [], _∷_, _++_, map}
 use Prim.Native.Nat.{ℕ, suc}
 use lib.Dec.{eqb}
 use lib.ListN.{set}
-use Rattle.words.specs.Ring.{Ops}
 use Rattle.gates.specs.Gates.{Gate}
-use Rattle.gates.specs.Steps.{Lane, Exchange, product, refresh, Step, local, deal, exchange, end, say1, say2, new-at, Cursor, past}
+use Rattle.gates.specs.Steps.{Lane, Exchange, product, refresh, known-product, Step, local, deal, exchange, end, say1, say2, new-at, Cursor, past}
 use Rattle.gates.specs.Meaning.{meaning}
 use Rattle.gates.specs.Costs.{step-cost}
 use Rattle.gates.specs.Walk.{far}
@@ -21,7 +20,7 @@ use Rattle.walks.specs.Halts.{going-on, reported}
 use Rattle.walks.proofs.Halts.{passes, stops}
 use Rattle.walks.proofs.Workers.{acts}
 use Rattle.runs.proofs.Written.{Spares, none, also}
-use Rattle.days.proofs.Moved.{moved, Ready, Embeds, Same, same-local, same-deal, same-product, same-refresh, same-gate}
+use Rattle.days.proofs.Moved.{moved, moved-exchange, Ready, Embeds, Same, same-local, same-deal, same-exchange, same-gate}
 use Rattle.days.proofs.Moved.{still-ready, put-same}
 
 -- at a product or refresh, with the word spoken there; or behind the last gate, with so many words of A and deals used
@@ -141,23 +140,20 @@ module _ (h : ℕ) (M D : List ℕ) (ρ : ℕ → ℕ) (x₁ x₂ : ℕ) (e₁ e
 
   -- the same word is spoken
   module _ (c : Cursor) (s : Pair) (r : Ready2 s) where
-    pub says-product : (O : Ops ℕ) (a b : ℕ) → W .say (product O (ρ a) (ρ b)) c (larger s) ≡ W .say (product O a b) c s
-    unfolding worker-with word-of1 word-of2 say1 say2 new-at
-    says-product O a b = go (eqb h 1)
+    pub says-same : (e : Exchange) → W .say (moved-exchange ρ e) c (larger s) ≡ W .say e c s
+    unfolding worker-with word-of1 word-of2 say1 say2 new-at moved-exchange
+    says-same e = go (eqb h 1) e
       where
-        go : (t : Bool) → cond {A = Worker} t (worker1 M) (worker2 M D) .say (product O (ρ a) (ρ b)) c (larger s)
-            ≡ cond {A = Worker} t (worker1 M) (worker2 M D) .say (product O a b) c s
-        go true = rw (E₁ .seen (s .0) (r .0) a, E₁ .seen (s .0) (r .0) b, E₂ .seen (s .1) (r .1) a, E₂ .seen (s .1) (r .1) b)
-        go false = rw (E₁ .seen (s .0) (r .0) a, E₁ .seen (s .0) (r .0) b, E₂ .seen (s .1) (r .1) a, E₂ .seen (s .1) (r .1) b)
-
-    pub says-refresh : (O : Ops ℕ) (a : ℕ) → W .say (refresh O (ρ a)) c (larger s) ≡ W .say (refresh O a) c s
-    unfolding worker-with word-of1 word-of2 say1 say2 new-at
-    says-refresh O a = go (eqb h 1)
-      where
-        go : (t : Bool) → cond {A = Worker} t (worker1 M) (worker2 M D) .say (refresh O (ρ a)) c (larger s)
-            ≡ cond {A = Worker} t (worker1 M) (worker2 M D) .say (refresh O a) c s
-        go true = rw (E₁ .seen (s .0) (r .0) a, E₂ .seen (s .1) (r .1) a)
-        go false = rw (E₂ .seen (s .1) (r .1) a)
+        go : (t : Bool) (e : Exchange) → cond {A = Worker} t (worker1 M) (worker2 M D) .say (moved-exchange ρ e) c (larger s)
+            ≡ cond {A = Worker} t (worker1 M) (worker2 M D) .say e c s
+        go true (product O a b) =
+            rw (E₁ .seen (s .0) (r .0) a, E₁ .seen (s .0) (r .0) b, E₂ .seen (s .1) (r .1) a, E₂ .seen (s .1) (r .1) b)
+        go false (product O a b) =
+            rw (E₁ .seen (s .0) (r .0) a, E₁ .seen (s .0) (r .0) b, E₂ .seen (s .1) (r .1) a, E₂ .seen (s .1) (r .1) b)
+        go true (refresh O a) = rw (E₁ .seen (s .0) (r .0) a, E₂ .seen (s .1) (r .1) a)
+        go false (refresh O a) = rw (E₂ .seen (s .1) (r .1) a)
+        go true (known-product O a b) = rw (E₁ .seen (s .0) (r .0) a, E₁ .seen (s .0) (r .0) b, E₂ .seen (s .1) (r .1) b)
+        go false (known-product O a b) = rw (E₁ .seen (s .0) (r .0) a, E₂ .seen (s .1) (r .1) b)
 
   -- the walks end alike, and slot 15 still holds what it held
   abbrev Alike : List Step → List Step → (a b n : ℕ) → Pair → Type 0
@@ -184,10 +180,8 @@ module _ (h : ℕ) (M D : List ℕ) (ρ : ℕ → ℕ) (x₁ x₂ : ℕ) (e₁ e
       ∙ ap₂ {C = Pair} (λ (v z : Lane). (v, z)) (put-same ρ x₁ (s .0) (r .0) d 0 t e₁ E₁ 0 refl)
       (put-same ρ x₂ (s .1) (r .1) d k t e₂ E₂ k refl) in
       rw (acts-deal h M D d f (cursor 0 0 a b n) s, e) (ih (suc a) (suc n) u ru)
-  step-alike xs ys a b n s r t (same-product O i j) ih =
-      (ap (λ (v : ℕ). halts v (larger s)) (says-product (cursor 0 0 a b n) s r O i j), r)
-  step-alike xs ys a b n s r t (same-refresh O i) ih =
-      (ap (λ (v : ℕ). halts v (larger s)) (says-refresh (cursor 0 0 a b n) s r O i), r)
+  step-alike xs ys a b n s r t (same-exchange e) ih =
+      (ap (λ (v : ℕ). halts v (larger s)) (says-same (cursor 0 0 a b n) s r e), r)
 
   pub gates-alike : (w : ℕ) (gs : List Gate) → Spares 15 gs → (a b n : ℕ) (s : Pair) → Ready2 s
       → Alike (map (meaning w) gs) (map (meaning w) (map (moved ρ) gs)) a b n s

@@ -5,7 +5,7 @@ use Prim.Native.Nat.{ℕ, _+_, _-_, _*_, _%_, _^_}
 use lib.IntN.{ℤ, pos}
 use Rattle.words.specs.Words.{neg}
 use Rattle.truncations.specs.Adder.{Update, generate, propagate, distances, updates}
-use Rattle.gates.specs.Gates.{Field, OfNegated, Gate, Add, Sub, Xor, Mul, And, Scale, Plus, Up, Bit, Const, Public, Deal, DealBits}
+use Rattle.gates.specs.Gates.{Field, OfNegated, Gate, Add, Sub, Xor, Mul, And, AndKnown, Scale, Plus, Up, Bit, Const, Public, Deal, DealBits}
 use Rattle.tables.specs.Table.{Row}
 use Rattle.curves.specs.Curve.{slope-after, coefficient, last-count}
 use Rattle.programs.specs.Programs.{update-gates, rounds, adder, to-number, sign-program, relu-program, exact-program, row-program}
@@ -35,7 +35,7 @@ module _ (w q : ℕ) where
   of-adder : to (adder w 21) ≡ adder w 21
   unfolding adder moved place
   of-adder =
-      both (DealBits 16 21 ∷ Public 17 21 (Field 0 w) ∷ And 18 17 16 ∷ Xor 17 17 16 ∷ Bit 16 17 (w - 1) ∷ []) (rounds (updates (distances w)))
+      both (DealBits 16 21 ∷ Public 17 21 (Field 0 w) ∷ AndKnown 18 17 16 ∷ Xor 17 17 16 ∷ Bit 16 17 (w - 1) ∷ []) (rounds (updates (distances w)))
       _ _ refl (of-rounds (updates (distances w)))
 
   of-number : to (to-number w) ≡ to-number w

@@ -9,10 +9,10 @@ use lib.Dec.{ltb}
 use lib.ListN.{length, getD}
 use Rattle.tables.specs.Table.{Row}
 use Rattle.gates.specs.Gates.{Gate, Add, Scale}
-use Rattle.gates.specs.Steps.{Step}
+use Rattle.gates.specs.Steps.{product, refresh, known-product, Step}
 use Rattle.gates.specs.Meaning.{meaning}
 use Rattle.gates.specs.declared.Shape.{Shape}
-use Rattle.gates.specs.declared.Shape.the-variants.{Local, Dealing, Product, Refreshing}
+use Rattle.gates.specs.declared.Shape.the-variants.{Local, Dealing, Product, Undealt}
 use Rattle.gates.specs.Speech.{shape}
 use Rattle.programs.specs.Orders.{program}
 use Rattle.programs.specs.declared.Sought.{Sought}
@@ -20,7 +20,7 @@ use Rattle.programs.specs.declared.Sought.the-variants.{Found, Nowhere}
 use Rattle.programs.specs.Seek.{sought-at, sought}
 use Rattle.days.specs.Day.{day-gates}
 use Rattle.days.specs.Orders.{own-order, front, back}
-use Rattle.days.proofs.Moved.{moved, Same, same-local, same-deal, same-product, same-refresh, same-gate}
+use Rattle.days.proofs.Moved.{moved, moved-exchange, Same, same-local, same-deal, same-exchange, same-gate}
 use Rattle.days.proofs.Lanes.{place}
 use Rattle.days.proofs.Orders.{order-is}
 
@@ -37,8 +37,8 @@ at-shift Local x i a n go ih = ih x (suc i) a n
 at-shift (Dealing d) x i a n go ih = ih x (suc i) (suc a) (suc n)
 at-shift (Product d) zero i a n go ih = refl
 at-shift (Product d) (suc x) i a n go ih = ih x (suc i) (2 + a) (suc n)
-at-shift (Refreshing d) zero i a n go ih = refl
-at-shift (Refreshing d) (suc x) i a n go ih = ih x (suc i) (suc a) n
+at-shift (Undealt d) zero i a n go ih = refl
+at-shift (Undealt d) (suc x) i a n go ih = ih x (suc i) (suc a) n
 
 shift : (w : ℕ) (gs : List Gate) (x i a n : ℕ) → sought w gs x (suc i) a n ≡ one-on (sought w gs x i a n)
 unfolding sought one-on
@@ -50,13 +50,15 @@ shift w (g ∷ gs) x i a n = at-shift (shape (meaning w g)) x i a n (sought w gs
 module _ (ρ : ℕ → ℕ) (w : ℕ) (bs : List Gate) (free : (x i a n : ℕ) → sought w bs x i a n ≡ Nowhere) where
   at-same : {d : ℕ} {y z : Step} → Same ρ d y z → (x i a n : ℕ) (go go′ : ℕ → ℕ → ℕ → ℕ → Sought)
       → ((x i a n : ℕ) → go′ x i a n ≡ go x i a n) → sought-at (shape z) x i a n go′ ≡ sought-at (shape y) x i a n go
-  unfolding sought-at shape
+  unfolding sought-at shape moved-exchange
   at-same (same-local p q) x i a n go go′ ih = ih x (suc i) a n
   at-same (same-deal p) x i a n go go′ ih = ih x (suc i) (suc a) (suc n)
-  at-same (same-product O j k) zero i a n go go′ ih = refl
-  at-same (same-product O j k) (suc x) i a n go go′ ih = ih x (suc i) (2 + a) (suc n)
-  at-same (same-refresh O j) zero i a n go go′ ih = refl
-  at-same (same-refresh O j) (suc x) i a n go go′ ih = ih x (suc i) (suc a) n
+  at-same (same-exchange (product O j k)) zero i a n go go′ ih = refl
+  at-same (same-exchange (product O j k)) (suc x) i a n go go′ ih = ih x (suc i) (2 + a) (suc n)
+  at-same (same-exchange (refresh O j)) zero i a n go go′ ih = refl
+  at-same (same-exchange (refresh O j)) (suc x) i a n go go′ ih = ih x (suc i) (suc a) n
+  at-same (same-exchange (known-product O j k)) zero i a n go go′ ih = refl
+  at-same (same-exchange (known-product O j k)) (suc x) i a n go go′ ih = ih x (suc i) (suc a) n
 
   sought-moved : (gs : List Gate) (x i a n : ℕ) → sought w (map (moved ρ) gs ++ bs) x i a n ≡ sought w gs x i a n
   unfolding sought

@@ -13,8 +13,8 @@ use word_lists::word_after;
 use word_lists::word_at;
 
 // What host 0 writes at a gate, with so many words and deals used before it: the masks of its slot, the first from A,
-// and the deal. A product's new masks come from A after g1, and from B. Host 2 knows a deal's second mask from the deal
-// alone.
+// and the deal. A product's new masks come from A after g1, and from B; those of a refresh and of a product with a
+// known value are the next words of both, and there is no deal. Host 2 knows a deal's second mask from the deal alone.
 pub fn deal_gate(
     g: GateCode,
     a: &[u32],
@@ -37,7 +37,7 @@ pub fn deal_gate(
             step_mask(g, 0, l2);
             return;
         }
-        Shape::Refreshing { d } => {
+        Shape::Undealt { d } => {
             put(l1, d, word_at(a, used.a));
             put(l2, d, word_at(b, used.b));
             return;

@@ -8,7 +8,7 @@ use Prim.Native.Nat.{ℕ, suc, _+_, _<_}
 use native.Mathlib.Omega.{arith}
 use borrow.Author.Tests.{eqb-true, eqb-false}
 use lib.Dec.{eqb}
-use Rattle.gates.specs.Gates.{Gate, Add, Sub, Xor, Mul, And, Refresh, Scale, Plus, Up, Bit, Const, Public, Deal, DealBits}
+use Rattle.gates.specs.Gates.{Gate, Add, Sub, Xor, Mul, And, Refresh, MulKnown, AndKnown, Scale, Plus, Up, Bit, Const, Public, Deal, DealBits}
 use Rattle.gates.specs.Steps.{Exchange, Step, local, deal, exchange, end, Cursor, past}
 use Rattle.gates.specs.Meaning.{meaning, order-steps, job-steps}
 use Rattle.calls.specs.Scripts.{ends, Closed}
@@ -107,6 +107,8 @@ gate-placed w o x (Xor d a b) ss = refl
 gate-placed w o x (Mul d a b) ss = refl
 gate-placed w o x (And d a b) ss = refl
 gate-placed w o x (Refresh d a) ss = refl
+gate-placed w o x (MulKnown d a b) ss = refl
+gate-placed w o x (AndKnown d a b) ss = refl
 gate-placed w o x (Scale d a n) ss = refl
 gate-placed w o x (Plus d a n) ss = refl
 gate-placed w o x (Up d a n) ss = refl

@@ -9,8 +9,8 @@ use lib.Dec.{eqb}
 use lib.ListN.{length}
 use Rattle.gates.specs.Steps.{Step, local, deal, exchange, end}
 use Rattle.gates.specs.Costs.{Cost}
-use Rattle.gates.specs.Gates.{Gate, Add, Sub, Xor, Mul, And, Refresh, Scale, Plus, Up, Bit, Const, Public, Deal}
-use Rattle.gates.specs.Gates.{DealBits}
+use Rattle.gates.specs.Gates.{Gate, Add, Sub, Xor, Mul, And, Refresh, MulKnown, AndKnown, Scale, Plus, Up, Bit, Const}
+use Rattle.gates.specs.Gates.{Public, Deal, DealBits}
 use Rattle.runs.specs.Runs.{Among}
 
 -- ---- places: "(order, and which of its products and refreshes, both from 0; the end is the number of orders and 0)"
@@ -34,6 +34,8 @@ speaks (Xor d a b) = false
 speaks (Mul d a b) = true
 speaks (And d a b) = true
 speaks (Refresh d a) = true
+speaks (MulKnown d a b) = true
+speaks (AndKnown d a b) = true
 speaks (Scale d a n) = false
 speaks (Plus d a n) = false
 speaks (Up d a n) = false

@@ -6,7 +6,7 @@ use crate::refusals::Case;
 use crate::refusals::in_call;
 use crate::refusals::refused;
 
-// At 0 one kind 9: 26 words of A, 12 of B, 14 deals, 12 products. At 4 a bad order. At 8 three orders of which only the
+// At 0 one kind 9: 24 words of A, 12 of B, 12 deals, 12 products. At 4 a bad order. At 8 three orders of which only the
 // second has a product, and only one.
 const JOBS: [u32; 20] = [9, 0, 1, 0, 11, 16, 0, 0, 0, 1, 2, 3, 4, 5, 6, 7, 6, 1, 1, 4];
 
@@ -279,18 +279,18 @@ fn lent(
 // One word short: eight calls of number 6, four of number 7.
 pub(crate) fn short(number: u32, i: u32) -> u32 {
     match i {
-        0 => lent(6, number, 25, 512, 512, 0, 0),
-        1 => lent(6, number, 512, 11, 13, 0, 0),
-        2 => lent(0, number, 25, 0, 512, 0, 0),
-        3 => lent(2, number, 25, 0, 512, 0, 3),
+        0 => lent(6, number, 23, 512, 512, 0, 0),
+        1 => lent(6, number, 512, 11, 11, 0, 0),
+        2 => lent(0, number, 23, 0, 512, 0, 0),
+        3 => lent(2, number, 23, 0, 512, 0, 3),
         4 => lent(1, number, 11, 0, 11, 0, 0),
         5 => lent(3, number, 11, 0, 11, 0, 3),
-        6 => lent(4, number, 25, 0, 0, 0, 0),
+        6 => lent(4, number, 23, 0, 0, 0, 0),
         7 => lent(5, number, 11, 0, 0, 0, 0),
-        8 => lent(6, number, 512, 512, 13, 0, 0),
-        9 => lent(1, number, 512, 0, 13, 0, 0),
-        10 => lent(3, number, 512, 0, 13, 0, 3),
-        _ => lent(3, number, 512, 0, 13, 9, 9),
+        8 => lent(6, number, 512, 512, 11, 0, 0),
+        9 => lent(1, number, 512, 0, 11, 0, 0),
+        10 => lent(3, number, 512, 0, 11, 0, 3),
+        _ => lent(3, number, 512, 0, 11, 9, 9),
     }
 }
 

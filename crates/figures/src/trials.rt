@@ -45,12 +45,12 @@ fn value(c: Trial, r: u32) -> u32 {
 }
 
 // -1 above the last row, else the floor of Y / 4096. The one-bit curve, mode 1, adds a carry under the mask sum of its
-// refresh: each row's kind 9 uses 26 words of A and 12 of B before that.
+// refresh: each row's kind 9 uses 24 words of A and 12 of B before that.
 fn curve_value(c: Trial, curve: Curve) -> u32 {
     if curve.above {
         return 4294967295;
     }
-    let l1 = word(word(c.seed, 4), product(curve.rows, 26));
+    let l1 = word(word(c.seed, 4), product(curve.rows, 24));
     let l2 = word(word(c.seed, 5), product(curve.rows, 12));
     let carried = carry(curve.sum, wrapping_add_u32(l1, l2), 12);
     wrapping_add_u32(floor_shift(curve.sum, 12), product(c.fourth, carried))
@@ -81,18 +81,19 @@ fn plain_value(c: Trial, curve: Curve) -> u32 {
 // Deals, and words spoken by both hosts.
 struct Cost(u32, u32);
 
-// Document 01's table of costs. Here 10 is what the exact curve has after its rows, a kind 8, and 11 what the one-bit
-// curve has, the kinds 5 and 7; then each has a sign made a number and a product, which cost what kind 9 does.
+// Document 01's table of costs, as R-4 leaves it. Here 10 is what the exact curve has after its rows, a kind 8, and 11
+// what the one-bit curve has, the kinds 5 and 7; then each has a sign made a number and a product, which cost what
+// kind 9 does.
 fn due_cost(kind: u32) -> Cost {
     match kind {
         4 => Cost(1, 2),
         5 => Cost(0, 2),
         6 => Cost(1, 0),
-        7 => Cost(3, 2),
-        8 => Cost(16, 24),
-        9 => Cost(14, 24),
-        10 => Cost(30, 48),
-        11 => Cost(17, 28),
+        7 => Cost(2, 2),
+        8 => Cost(13, 24),
+        9 => Cost(12, 24),
+        10 => Cost(25, 48),
+        11 => Cost(14, 28),
         _ => Cost(0, 0),
     }
 }
@@ -128,7 +129,7 @@ fn miscounted(s: Trio, c: Trial, rows: u32) -> u32 {
     let curve = (c.kind == 10) as u32;
     let relus = product(curve, rows);
     let due = due_cost(wrapping_add_u32(c.kind, product(curve, c.fourth)));
-    let due_deals = wrapping_add_u32(due.0, product(relus, 14));
+    let due_deals = wrapping_add_u32(due.0, product(relus, 12));
     let half = wrapping_add_u32(due.1, product(relus, 24)) / 2;
     let refusal = s.number | s.one.number | s.two.number;
     let turn = s.one.state.turn | s.two.state.turn;

@@ -10,7 +10,7 @@ use Rattle.gates.specs.Codes.{fetched, gates-with, read, fetched-step, step-of}
 use Rattle.gates.specs.Hosts.{on-m, on-mask}
 use Rattle.gates.specs.Meaning.{meaning}
 use Rattle.gates.specs.Steps.{Lane, Step}
-use Rattle.gates.proofs.Codes.{coded, deal-code, product-code, refresh-code, past-code}
+use Rattle.gates.proofs.Codes.{coded, deal-code, product-code, undealt-code, past-code}
 
 module _ (w d a b n : ℕ) (v : ℕ) (s : Lane) where
   abbrev step-at : ℕ → Step
@@ -60,8 +60,8 @@ module _ (w : ℕ) (g : GateCode) (v : ℕ) (s : Lane) where
   kept h =
       elim (decLt (g .op) 17) [
         | yes i ↦ rw (product-code w g h i .is) (refl, refl)
-        | no n ↦ elim (decLt (g .op) 18) [
-          | yes i ↦ rw (refresh-code w g (omega (arith, n, i))) (refl, refl)
+        | no n ↦ elim (decLt (g .op) 20) [
+          | yes i ↦ rw (undealt-code w g (omega (arith, n)) i .is) (refl, refl)
           | no m ↦ rw (past-code w g (omega (arith, m))) (refl, refl)
         ]
       ]

@@ -1,13 +1,11 @@
 -- The shape of a code's step, by the number of its operation. Assumes nothing.
-use mathlib.Core.Logic.{_≢_}
 use mathlib.Core.Path.{_≡_, refl}
 use Prim.Native.Nat.{ℕ, _≤_, _<_}
-use native.Mathlib.Omega.{arith}
 use Rattle.gates.specs.declared.GateCode.{GateCode}
-use Rattle.gates.specs.declared.Shape.the-variants.{Local, Dealing, Product, Refreshing}
+use Rattle.gates.specs.declared.Shape.the-variants.{Local, Dealing, Product, Undealt}
 use Rattle.gates.specs.Codes.{step-of}
 use Rattle.gates.specs.Speech.{shape}
-use Rattle.gates.proofs.Codes.{local-code, deal-code, product-code, refresh-code, past-code}
+use Rattle.gates.proofs.Codes.{local-code, deal-code, product-code, undealt-code, past-code}
 
 module _ (w : ℕ) (g : GateCode) where
   pub as-local : g .op < 10 → Local ≡ shape (step-of w g)
@@ -22,10 +20,9 @@ module _ (w : ℕ) (g : GateCode) where
   unfolding shape
   as-product h i = rw (product-code w g h i .is) refl
 
-  pub as-refresh : g .op ≡ 17 → Refreshing (g .d) ≡ shape (step-of w g)
-  unfolding shape
-  as-refresh h = rw (refresh-code w g h) refl
+  pub as-undealt : 17 ≤ g .op → g .op < 20 → Undealt (g .d) ≡ shape (step-of w g)
+  as-undealt h i = let z = undealt-code w g h i in rw (z .is) (z .shaped)
 
-  pub as-past : 17 ≤ g .op → g .op ≢ 17 → Local ≡ shape (step-of w g)
+  pub as-past : 20 ≤ g .op → Local ≡ shape (step-of w g)
   unfolding shape
-  as-past h i = rw (past-code w g (omega (arith, h, i))) refl
+  as-past h = rw (past-code w g h) refl

@@ -6,8 +6,9 @@ ghost use Rattle.gates.specs.Codes.{step-of};
 ghost use Rattle.gates.specs.Costs.{used-at};
 use gates::FIRST_DEAL;
 use gates::FIRST_EXCHANGE;
+use gates::FIRST_UNDEALT;
 use gates::GateCode;
-use gates::REFRESH;
+use gates::PAST;
 use gates::Shape;
 use gates::Used;
 
@@ -23,16 +24,17 @@ pub fn shape_of(g: GateCode) -> Shape
     if op < FIRST_EXCHANGE {
         return Shape::Dealing { d };
     }
-    if op < REFRESH {
+    if op < FIRST_UNDEALT {
         return Shape::Product { d };
     }
-    if op == REFRESH {
-        return Shape::Refreshing { d };
+    if op < PAST {
+        return Shape::Undealt { d };
     }
     Shape::Local
 }
 
-// A deal takes its first mask from A; a product g1 and a mask of A, a mask of B, and a deal; a refresh a mask of each.
+// A deal takes its first mask from A; a product g1 and a mask of A, a mask of B, and a deal; a refresh and a product
+// with a known value a mask of each.
 pub fn used_by(g: GateCode) -> Used
     ensures { λ r. ⌜ r ≡ used-at (step-of 32 g) ⌝ }
 {
@@ -52,7 +54,7 @@ pub fn used_by(g: GateCode) -> Used
             b: 1,
             deals: 1,
         },
-        Shape::Refreshing { d: _ } => Used {
+        Shape::Undealt { d: _ } => Used {
             a: 1,
             b: 1,
             deals: 0,

@@ -8,10 +8,11 @@ use native.Mathlib.Omega.{arith}
 use Rattle.words.specs.Ring.{Ops}
 use Rattle.words.specs.Words.{numbers, bits}
 use Rattle.gates.specs.declared.GateCode.{GateCode}
+use Rattle.gates.specs.declared.Shape.the-variants.{Undealt}
 use Rattle.gates.specs.Gates.{Gate}
-use Rattle.gates.specs.Steps.{Lane, Step, local, deal, exchange, end, product, refresh, part2}
+use Rattle.gates.specs.Steps.{Lane, Step, local, deal, exchange, end, Exchange, product, refresh, known-product, part2}
 use Rattle.gates.specs.Meaning.{meaning}
-use Rattle.gates.specs.Speech.{dealt-word, spoken1, spoken2, met}
+use Rattle.gates.specs.Speech.{dealt-word, spoken1, spoken2, met, shape}
 use Rattle.gates.proofs.Fetched.{beyond}
 use Rattle.gates.specs.Codes.{At, Past, fetched, gates-with, read, fetched-step, step-of}
 
@@ -45,6 +46,13 @@ pub record AsProduct (d a b : ℕ) (x : Step) : Type 0 where
   pub ops : Ops ℕ
   pub is : x ≡ exchange d (product ops a b)
 
+-- an exchange without a deal
+pub record AsUndealt (d : ℕ) (x : Step) : Type 0 where
+  pub e : Exchange
+  pub is : x ≡ exchange d e
+  pub shaped : Undealt d ≡ shape (exchange d e)
+  pub no-deal : (g1 : ℕ) (l1 l2 : Lane) → 0 ≡ part2 e g1 l1 l2
+
 local-at : (w d a b n k : ℕ) → k < 10 → AsLocal d (fetched-step w (fetched (gates-with d a b n) k))
 unfolding gates-with fetched fetched-step meaning
 local-at w d a b n zero h = record { m = _; l = _; is = refl }
@@ -75,6 +83,13 @@ product-at w d a b n zero h = record { ops = _; is = refl }
 product-at w d a b n (suc zero) h = record { ops = _; is = refl }
 product-at w d a b n (suc (suc k)) h = absurd (omega (arith, h))
 
+undealt-at : (w d a b n k : ℕ) → k < 3 → AsUndealt d (fetched-step w (fetched (gates-with d a b n) (17 + k)))
+unfolding gates-with fetched fetched-step meaning shape part2
+undealt-at w d a b n zero h = record { e = _; is = refl; shaped = refl; no-deal = λ g1 l1 l2. refl }
+undealt-at w d a b n (suc zero) h = record { e = _; is = refl; shaped = refl; no-deal = λ g1 l1 l2. refl }
+undealt-at w d a b n (suc (suc zero)) h = record { e = _; is = refl; shaped = refl; no-deal = λ g1 l1 l2. refl }
+undealt-at w d a b n (suc (suc (suc k))) h = absurd (omega (arith, h))
+
 pub local-code : (w : ℕ) (c : GateCode) → c .op < 10 → AsLocal (c .d) (step-of w c)
 unfolding step-of read
 local-code w c h = local-at w (c .d) (c .a) (c .b) (c .n) (c .op) h
@@ -89,6 +104,11 @@ product-code w c h m =
     let e : c .op ≡ 15 + (c .op - 15) = omega (arith, h) in
     rw (coded w c (15 + (c .op - 15)) e) (product-at w (c .d) (c .a) (c .b) (c .n) (c .op - 15) (omega (arith, h, m)))
 
+pub undealt-code : (w : ℕ) (c : GateCode) → 17 ≤ c .op → c .op < 20 → AsUndealt (c .d) (step-of w c)
+undealt-code w c h m =
+    let e : c .op ≡ 17 + (c .op - 17) = omega (arith, h) in
+    rw (coded w c (17 + (c .op - 17)) e) (undealt-at w (c .d) (c .a) (c .b) (c .n) (c .op - 17) (omega (arith, h, m)))
+
 pub mul-code : (w : ℕ) (c : GateCode) → c .op ≡ 15 → step-of w c ≡ exchange (c .d) (product (numbers w) (c .a) (c .b))
 unfolding gates-with fetched fetched-step meaning
 mul-code w c h = coded w c 15 h
@@ -101,7 +121,17 @@ pub refresh-code : (w : ℕ) (c : GateCode) → c .op ≡ 17 → step-of w c ≡
 unfolding gates-with fetched fetched-step meaning
 refresh-code w c h = rw (coded w c 17 h) refl
 
-pub past-code : (w : ℕ) (c : GateCode) → 18 ≤ c .op → step-of w c ≡ end
+pub mul-known-code : (w : ℕ) (c : GateCode) → c .op ≡ 18
+    → step-of w c ≡ exchange (c .d) (known-product (numbers w) (c .a) (c .b))
+unfolding gates-with fetched fetched-step meaning
+mul-known-code w c h = rw (coded w c 18 h) refl
+
+pub and-known-code : (w : ℕ) (c : GateCode) → c .op ≡ 19
+    → step-of w c ≡ exchange (c .d) (known-product (bits w) (c .a) (c .b))
+unfolding gates-with fetched fetched-step meaning
+and-known-code w c h = rw (coded w c 19 h) refl
+
+pub past-code : (w : ℕ) (c : GateCode) → 20 ≤ c .op → step-of w c ≡ end
 unfolding read gates-with length
 past-code w c h = read-past w c (beyond (gates-with (c .d) (c .a) (c .b) (c .n)) (c .op) h)
 
@@ -125,32 +155,35 @@ silent-end : Silent end
 unfolding spoken1 spoken2 met
 silent-end = record { first = λ p q g n. refl; second = λ p q g n. refl; neither = λ u v. refl }
 
--- no product and no refresh
-pub silent-code : (w : ℕ) (c : GateCode) → c .op ≢ 15 → c .op ≢ 16 → c .op ≢ 17 → Silent (step-of w c)
-silent-code w c p q r =
+from-next : {k n : ℕ} → n ≤ k → k ≢ n → suc n ≤ k
+from-next h p = omega (arith, h, p)
+
+-- no exchange
+pub silent-code : (w : ℕ) (c : GateCode) → c .op ≢ 15 → c .op ≢ 16 → c .op ≢ 17 → c .op ≢ 18 → c .op ≢ 19
+    → Silent (step-of w c)
+silent-code w c p q r s t =
     elim (decLt (c .op) 10) [
       | yes h ↦ let k = local-code w c h in rw (k .is) (silent-local (c .d) (k .m) (k .l))
       | no n ↦ elim (decLt (c .op) 15) [
         | yes h ↦ let k = deal-code w c (omega (arith, n)) h in rw (k .is) (silent-deal (c .d) (k .second))
-        | no m ↦ rw (past-code w c (omega (arith, m, p, q, r))) silent-end
+        | no m ↦
+            let h : 15 ≤ c .op = omega (arith, m) in
+            rw (past-code w c (from-next (from-next (from-next (from-next (from-next h p) q) r) s) t)) silent-end
       ]
     ]
 
-from-next : {k n : ℕ} → n ≤ k → k ≢ n → suc n ≤ k
-from-next h p = omega (arith, h, p)
-
 -- no deal and no product
-pub undealt-code : (w : ℕ) (c : GateCode) → c .op ≢ 10 → c .op ≢ 11 → c .op ≢ 12 → c .op ≢ 13 → c .op ≢ 14 → c .op ≢ 15 → c .op ≢ 16
+pub no-deal-code : (w : ℕ) (c : GateCode) → c .op ≢ 10 → c .op ≢ 11 → c .op ≢ 12 → c .op ≢ 13 → c .op ≢ 14 → c .op ≢ 15 → c .op ≢ 16
     → (x : ℕ) (l1 l2 : Lane) → 0 ≡ dealt-word (step-of w c) x l1 l2
 unfolding dealt-word part2
-undealt-code w c p q r s t u v x l1 l2 =
+no-deal-code w c p q r s t u v x l1 l2 =
     elim (decLt (c .op) 10) [
       | yes h ↦ rw (local-code w c h .is)
       | no n ↦
           let m : 10 ≤ c .op = omega (arith, n) in
           let k = from-next (from-next (from-next (from-next (from-next (from-next (from-next m p) q) r) s) t) u) v in
-          elim (decLt (c .op) 18) [
-            | yes h ↦ rw (refresh-code w c (omega (arith, h, k)))
+          elim (decLt (c .op) 20) [
+            | yes h ↦ let z = undealt-code w c k h in rw (z .is) (z .no-deal x l1 l2)
             | no h ↦ rw (past-code w c (omega (arith, h)))
           ]
     ]

@@ -15,7 +15,7 @@ use Rattle.gates.specs.Meaning.{meaning}
 use Rattle.gates.specs.Hosts.{Triple, of0, share, Slot, dealt, joint1, joint2, act}
 use Rattle.gates.specs.Duet.{utter}
 use Rattle.gates.specs.Costs.{Cost, cost-of, step-cost}
-use Rattle.gates.specs.Formulas.{Effect, a-product, a-refresh, alone, Has, Formulas}
+use Rattle.gates.specs.Formulas.{Effect, a-product, a-refresh, a-known-product, alone, Has, Formulas}
 
 -- ---- one slot written on the three lanes
 
@@ -50,6 +50,7 @@ moves (local d m l) c = omega arith
 moves (Steps.deal d f) c = omega arith
 moves (exchange d (Steps.product O a b)) c = omega arith
 moves (exchange d (Steps.refresh O a)) c = omega arith
+moves (exchange d (Steps.known-product O a b)) c = omega arith
 moves end c = omega arith
 
 module _ (A B : List ℕ) (c : Cursor) (j : Triple) where
@@ -112,6 +113,13 @@ module _ (A B : List ℕ) (c : Cursor) (j : Triple) where
   has-refresh d O a l1 l2 h n =
       rw (← h, ← n) (has (exchange d (Steps.refresh O a)) d _ (there j d _) (elsewhere j d _) (λ r. refl) (λ r. refl) (λ r. refl) refl)
 
+  has-known-product : (d : ℕ) (O : Ops ℕ) (a b l1 l2 : ℕ) → at A (c .a) ≡ l1 → at B (c .b) ≡ l2
+      → Has A B c j (exchange d (Steps.known-product O a b)) d (a-known-product O (share j a .m) (share j b) l1 l2)
+  unfolding act dealt utter step-cost joint1 joint2 say1 say2 meet part2 new-at emit
+  has-known-product d O a b l1 l2 h n =
+      rw (← h, ← n) (has (exchange d (Steps.known-product O a b)) d _ (there j d _) (elsewhere j d _) (λ r. refl) (λ r. refl)
+      (λ r. refl) refl)
+
   has-end : (d : ℕ) → Has A B c j end d (alone (share j d))
   unfolding act dealt utter step-cost
   has-end d = has end d _ (λ h. refl) (λ i n. refl) (λ r. refl) (λ r. refl) (λ r. refl) refl
@@ -125,6 +133,8 @@ formulas A B c j w =
       product = λ d a b g1 l1 l2 h k. has-product A B c j d _ a b g1 l1 l2 (h .0) (h .1 .0) (k .0);
       product-bits = λ d a b g1 l1 l2 h k. has-product A B c j d _ a b g1 l1 l2 (h .0) (h .1 .0) (k .0);
       refresh = λ d a l1 l2 h k. has-refresh A B c j d _ a l1 l2 (h .0) (k .0);
+      known-product = λ d a b l1 l2 h k. has-known-product A B c j d _ a b l1 l2 (h .0) (k .0);
+      known-product-bits = λ d a b l1 l2 h k. has-known-product A B c j d _ a b l1 l2 (h .0) (k .0);
       deal = λ d a f l1 h k. has-deal A B c j d _ l1 (h .0);
       deal-bits = λ d a l1 h k. has-deal A B c j d _ l1 (h .0);
       const = λ d n h k. has-local A B c j d _ _;

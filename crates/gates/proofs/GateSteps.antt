@@ -1,6 +1,6 @@
 -- The step that a gate gives: every one but `end`. Assumes nothing.
 use Prim.Native.Nat.{ℕ}
-use Rattle.gates.specs.Gates.{Gate, Add, Sub, Xor, Mul, And, Refresh, Scale, Plus, Up, Bit, Const, Public, Deal, DealBits}
+use Rattle.gates.specs.Gates.{Gate, Add, Sub, Xor, Mul, And, Refresh, MulKnown, AndKnown, Scale, Plus, Up, Bit, Const, Public, Deal, DealBits}
 use Rattle.gates.specs.Steps.{Step, local, deal, exchange, end}
 use Rattle.gates.specs.Meaning.{meaning}
 
@@ -18,6 +18,8 @@ of-gate w (Xor d a b) = tt
 of-gate w (Mul d a b) = tt
 of-gate w (And d a b) = tt
 of-gate w (Refresh d a) = tt
+of-gate w (MulKnown d a b) = tt
+of-gate w (AndKnown d a b) = tt
 of-gate w (Scale d a n) = tt
 of-gate w (Plus d a n) = tt
 of-gate w (Up d a n) = tt

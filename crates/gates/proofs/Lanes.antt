@@ -2,8 +2,8 @@
 use mathlib.Core.Path.{_≡_, refl}
 use mathlib.Core.List.{List, _∷_}
 use Prim.Native.Nat.{ℕ}
-use Rattle.gates.specs.Steps.{Lane, at, Exchange, product, refresh, Step, local, deal, exchange, end, say2, past-deal, emit, Cursor}
-use Rattle.gates.specs.Steps.{past}
+use Rattle.gates.specs.Steps.{Lane, at, Exchange, product, refresh, known-product, Step, local, deal, exchange, end, say2, past-deal}
+use Rattle.gates.specs.Steps.{emit, Cursor, past}
 use Rattle.gates.specs.Hosts.{on-m, on-mask, Triple, of0, of1, of2, act0, dealt, deals, act1, word-of1, hear1, act2, word-of2, hear2}
 use Rattle.gates.specs.Hosts.{joint1, joint2, act, Starts, Supplied}
 use Rattle.gates.proofs.Seen.{Seen, quiet, Always, Any}
@@ -34,6 +34,7 @@ module _ (A B : List ℕ) where
     unfolding emit past-deal
     supply-exchange (product O a b) n x ds h = h .1
     supply-exchange (refresh O a) n x ds h = h
+    supply-exchange (known-product O a b) n x ds h = h
 
     keeps2 : (x : Step) (ss : List Step) (c : Cursor) (j : Triple) → Supplied A B D (x ∷ ss) c j
         → Supplied A B D ss (past x c) (act A B x c j)
@@ -64,6 +65,7 @@ module _ (A B : List ℕ) where
     unfolding emit say2
     say2-part (product O a b) n x ds m l new h = rw (h .0)
     say2-part (refresh O a) n x ds m l new h = refl
+    say2-part (known-product O a b) n x ds m l new h = refl
 
     pub says2 : (d : ℕ) (e : Exchange) (ss : List Step) (c : Cursor) (j : Triple) → Supplied A B D (exchange d e ∷ ss) c j
         → word-of2 B D e c (of2 j) ≡ joint2 A B e c j

@@ -9,3 +9,4 @@ pub mod Duet
 pub mod Fetched
 pub mod Codes
 pub mod Spoken
+pub mod Known

@@ -6,7 +6,8 @@ use Prim.Native.Nat.{ℕ, _*_, suc, _+_, _≤_, _<_}
 use native.Mathlib.Nat.{zero-add}
 use native.Mathlib.Omega.{arith}
 use lib.ListN.{length}
-use Rattle.gates.specs.Steps.{at, Exchange, product, refresh, Step, local, deal, exchange, end, new-at, past-deal, emit, Cursor, past}
+use Rattle.gates.specs.Steps.{at, Exchange, product, refresh, known-product, Step, local, deal, exchange, end, new-at, past-deal, emit}
+use Rattle.gates.specs.Steps.{Cursor, past}
 use Rattle.gates.specs.Costs.{Cost, plus, step-cost, cost}
 use Rattle.gates.specs.Duet.{utter, words}
 use Rattle.gates.specs.Walk.{whole, far}
@@ -48,6 +49,7 @@ past-used (local d m l) c = omega arith
 past-used (deal d f) c = omega arith
 past-used (exchange d (product O a b)) c = omega arith
 past-used (exchange d (refresh O a)) c = omega arith
+past-used (exchange d (known-product O a b)) c = omega arith
 past-used end c = omega arith
 
 pub far-used : (ss : List Step) (c : Cursor) → Further c (cost ss) (far ss c)
@@ -66,6 +68,7 @@ utter-length say (local d m l) c s ws = omega arith
 utter-length say (deal d f) c s ws = omega arith
 utter-length say (exchange d (product O a b)) c s ws = omega arith
 utter-length say (exchange d (refresh O a)) c s ws = omega arith
+utter-length say (exchange d (known-product O a b)) c s ws = omega arith
 utter-length say end c s ws = omega arith
 
 pub words-length : {S : Type 0} (f : Step → Cursor → S → S) (say : Exchange → Cursor → S → ℕ) (ss : List Step) (c : Cursor) (s : S)
@@ -83,6 +86,7 @@ emitted : (e : Exchange) (x n : ℕ) (ds : List ℕ) → length (emit e x ds) + 
 unfolding emit past-deal
 emitted (product O a b) x n ds = omega arith
 emitted (refresh O a) x n ds = refl
+emitted (known-product O a b) x n ds = refl
 
 swap : (n k : ℕ) → suc n + k ≡ n + suc k
 swap n k = omega arith
@@ -107,6 +111,7 @@ past-grows (local d m l) c = omega arith
 past-grows (deal d f) c = omega arith
 past-grows (exchange d (product O a b)) c = omega arith
 past-grows (exchange d (refresh O a)) c = omega arith
+past-grows (exchange d (known-product O a b)) c = omega arith
 past-grows end c = omega arith
 
 far-grows : (ss : List Step) (c : Cursor) → (c .a ≤ far ss c .a) × (c .b ≤ far ss c .b)
@@ -125,6 +130,7 @@ module _ (A A′ B B′ : List ℕ) where
   act-alike (deal d f) c j h k = rw (h (c .a) (omega arith))
   act-alike (exchange d (product O a b)) c j h k = rw (h (c .a) (omega arith), h (suc (c .a)) (omega arith), k (c .b) (omega arith))
   act-alike (exchange d (refresh O a)) c j h k = rw (h (c .a) (omega arith), k (c .b) (omega arith))
+  act-alike (exchange d (known-product O a b)) c j h k = rw (h (c .a) (omega arith), k (c .b) (omega arith))
   act-alike end c j h k = refl
 
   pub whole-alike : (ss : List Step) (c : Cursor) (j : Triple) (t : List Triple) → Alike A A′ (far ss c .a) → Alike B B′ (far ss c .b)
@@ -146,11 +152,13 @@ module _ (A A′ B B′ : List ℕ) where
   unfolding joint1 past new-at
   says1 d (product O a b) c j h k = rw (h (c .a) (omega arith), h (suc (c .a)) (omega arith))
   says1 d (refresh O a) c j h k = rw (h (c .a) (omega arith))
+  says1 d (known-product O a b) c j h k = rw (h (c .a) (omega arith))
 
   says2 : Says (joint2 A B) (joint2 A′ B′)
   unfolding joint2 past new-at
   says2 d (product O a b) c j h k = rw (h (c .a) (omega arith), k (c .b) (omega arith))
   says2 d (refresh O a) c j h k = rw (h (c .a) (omega arith), k (c .b) (omega arith))
+  says2 d (known-product O a b) c j h k = rw (h (c .a) (omega arith), k (c .b) (omega arith))
 
   module _ (say say′ : Exchange → Cursor → Triple → ℕ) (same : Says say say′) where
     utter-alike : (x : Step) (c : Cursor) (j : Triple) (ws : List ℕ) → Alike A A′ (past x c .a) → Alike B B′ (past x c .b)
@@ -192,6 +200,7 @@ module _ (A A′ B B′ : List ℕ) where
   dealt-alike (deal d f) c s ds h = rw (h (c .a) (omega arith))
   dealt-alike (exchange d (product O a b)) c s ds h = rw (h (c .a) (omega arith))
   dealt-alike (exchange d (refresh O a)) c s ds h = rw (h (c .a) (omega arith))
+  dealt-alike (exchange d (known-product O a b)) c s ds h = rw (h (c .a) (omega arith))
   dealt-alike end c s ds h = refl
 
   pub deals-alike : (ss : List Step) (c : Cursor) (s : Pair) → Alike A A′ (far ss c .a) → Alike B B′ (far ss c .b)

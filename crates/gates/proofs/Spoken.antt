@@ -5,9 +5,10 @@ use Prim.Native.Nat.{ℕ}
 use lib.Bits.{bitXor}
 use Rattle.words.specs.Ring.{Ops}
 use Rattle.words.specs.Words.{add, sub, neg}
-use Rattle.shares.specs.Gates.{product-deal, product-word1, product-word2, refresh-word1, refresh-word2}
+use Rattle.shares.specs.Gates.{product-deal, product-word1, product-word2, refresh-word1, refresh-word2, known-product-word1}
+use Rattle.shares.specs.Gates.{known-product-word2}
 use Rattle.gates.specs.Gates.{Dealt, Deal, DealBits}
-use Rattle.gates.specs.Steps.{Lane, at, product, refresh, Step, exchange, say1, say2, part2}
+use Rattle.gates.specs.Steps.{Lane, at, product, refresh, known-product, Step, exchange, say1, say2, part2}
 use Rattle.gates.specs.Meaning.{dealt-of, meaning}
 use Rattle.gates.specs.Speech.{dealt-word, spoken1, spoken2}
 
@@ -31,23 +32,33 @@ module _ (w : ℕ) (y : Step) (d a x : ℕ) (l1 l2 : Lane) {r p q : ℕ} where
 
 -- ---- the words that hosts 1 and 2 speak, from their lanes m and l
 
-module _ (O : Ops ℕ) (y : Step) (d a : ℕ) (m l : Lane) (g1 l1 : ℕ) {r p s : ℕ} where
-  pub product-said1 : (b : ℕ) {q t : ℕ} → y ≡ exchange d (product O a b) → p ≡ at m a → q ≡ at m b → s ≡ at l a → t ≡ at l b
+module _ (O : Ops ℕ) (y : Step) (d a : ℕ) (m l : Lane) (g1 l1 : ℕ) {r p : ℕ} where
+  pub product-said1 : (b : ℕ) {q s t : ℕ} → y ≡ exchange d (product O a b) → p ≡ at m a → q ≡ at m b → s ≡ at l a → t ≡ at l b
       → r ≡ product-word1 O p q s t g1 l1 → r ≡ spoken1 y m l g1 l1
   unfolding spoken1 say1
   product-said1 b e h i j k n = rw (e, n, h, i, j, k)
 
-  pub refresh-said1 : y ≡ exchange d (refresh O a) → p ≡ at m a → s ≡ at l a → r ≡ refresh-word1 O p s l1
+  pub refresh-said1 : {s : ℕ} → y ≡ exchange d (refresh O a) → p ≡ at m a → s ≡ at l a → r ≡ refresh-word1 O p s l1
       → r ≡ spoken1 y m l g1 l1
   unfolding spoken1 say1
   refresh-said1 e h i j = rw (e, j, h, i)
 
-module _ (O : Ops ℕ) (y : Step) (d a : ℕ) (m l : Lane) (g2 l2 : ℕ) {r s : ℕ} where
-  pub product-said2 : (b : ℕ) {p q t : ℕ} → y ≡ exchange d (product O a b) → p ≡ at m a → q ≡ at m b → s ≡ at l a → t ≡ at l b
+  pub known-product-said1 : (b : ℕ) {q t : ℕ} → y ≡ exchange d (known-product O a b) → p ≡ at m a → q ≡ at m b → t ≡ at l b
+      → r ≡ known-product-word1 O p q t l1 → r ≡ spoken1 y m l g1 l1
+  unfolding spoken1 say1
+  known-product-said1 b e h i j n = rw (e, n, h, i, j)
+
+module _ (O : Ops ℕ) (y : Step) (d a : ℕ) (m l : Lane) (g2 l2 : ℕ) {r : ℕ} where
+  pub product-said2 : (b : ℕ) {p q s t : ℕ} → y ≡ exchange d (product O a b) → p ≡ at m a → q ≡ at m b → s ≡ at l a → t ≡ at l b
       → r ≡ product-word2 O p q s t g2 l2 → r ≡ spoken2 y m l g2 l2
   unfolding spoken2 say2
   product-said2 b e h i j k n = rw (e, n, h, i, j, k)
 
-  pub refresh-said2 : y ≡ exchange d (refresh O a) → s ≡ at l a → r ≡ refresh-word2 O s l2 → r ≡ spoken2 y m l g2 l2
+  pub refresh-said2 : {s : ℕ} → y ≡ exchange d (refresh O a) → s ≡ at l a → r ≡ refresh-word2 O s l2 → r ≡ spoken2 y m l g2 l2
   unfolding spoken2 say2
   refresh-said2 e h i = rw (e, i, h)
+
+  pub known-product-said2 : (b : ℕ) {p t : ℕ} → y ≡ exchange d (known-product O a b) → p ≡ at m a → t ≡ at l b
+      → r ≡ known-product-word2 O p t l2 → r ≡ spoken2 y m l g2 l2
+  unfolding spoken2 say2
+  known-product-said2 b e h i n = rw (e, n, h, i)

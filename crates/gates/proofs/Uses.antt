@@ -3,7 +3,7 @@ use mathlib.Core.Path.{_≡_, sym, ap, subst, _∙_}
 use Prim.Native.Nat.{_+_, _≤_}
 use native.Mathlib.Omega.{arith}
 use Rattle.gates.specs.declared.Used.{Used}
-use Rattle.gates.specs.Steps.{product, refresh, Step, local, deal, exchange, end, Cursor, past}
+use Rattle.gates.specs.Steps.{product, refresh, known-product, Step, local, deal, exchange, end, Cursor, past}
 use Rattle.gates.specs.Costs.{step-cost, used-at}
 use Rattle.gates.proofs.Needs.{past-used}
 
@@ -17,6 +17,7 @@ few-at (local d m l) = (omega arith, omega arith, omega arith)
 few-at (deal d f) = (omega arith, omega arith, omega arith)
 few-at (exchange d (product O a b)) = (omega arith, omega arith, omega arith)
 few-at (exchange d (refresh O a)) = (omega arith, omega arith, omega arith)
+few-at (exchange d (known-product O a b)) = (omega arith, omega arith, omega arith)
 few-at end = (omega arith, omega arith, omega arith)
 
 module _ (x : Step) (u : Used) (e : u ≡ used-at x) where

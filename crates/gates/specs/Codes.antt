@@ -3,7 +3,7 @@ use mathlib.Core.List.{List, [], _∷_}
 use Prim.Native.Nat.{ℕ, zero, suc}
 use Rattle.gates.specs.declared.GateCode.{GateCode}
 use Rattle.gates.specs.Gates.{Field, Signed, OfSum, OfNegated, OfBits, Gate, Add, Sub, Xor, Mul, And, Refresh}
-use Rattle.gates.specs.Gates.{Scale, Plus, Up, Bit, Const, Public, Deal, DealBits}
+use Rattle.gates.specs.Gates.{MulKnown, AndKnown, Scale, Plus, Up, Bit, Const, Public, Deal, DealBits}
 use Rattle.gates.specs.Steps.{Step, end}
 use Rattle.gates.specs.Meaning.{meaning}
 
@@ -18,14 +18,14 @@ fetched (g ∷ gs) zero = At g
 fetched (g ∷ gs) (suc i) = fetched gs i
 
 -- the gates with these operands, in the order of the operations' numbers: first those that each host does alone, then
--- the deals, then the exchanges
+-- the deals, then the exchanges, those with a deal first
 unfoldable pub gates-with : (d a b n : ℕ) → List Gate
 gates-with d a b n =
     Add d a b ∷ Sub d a b ∷ Xor d a b ∷ Scale d a n ∷ Plus d a n ∷ Up d a n ∷ Bit d a n ∷ Const d n
     ∷ Public d a (Field n b) ∷ Public d a (Signed n)
     ∷ Deal d a (OfSum (Field n b)) ∷ Deal d a (OfNegated (Field n b)) ∷ Deal d a (OfNegated (Signed n))
     ∷ Deal d a OfBits ∷ DealBits d a
-    ∷ Mul d a b ∷ And d a b ∷ Refresh d a ∷ []
+    ∷ Mul d a b ∷ And d a b ∷ Refresh d a ∷ MulKnown d a b ∷ AndKnown d a b ∷ []
 
 -- the gate that a code stands for; none where its operation is past the last one
 unfoldable pub read : GateCode → Fetched

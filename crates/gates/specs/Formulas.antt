@@ -1,5 +1,5 @@
--- Document 01's gates on the joint walk: the words that each takes from A and B, what host 0 deals there, what hosts 1
--- and 2 speak, and the share that it leaves; and that the lists are used in turn. Assumes nothing.
+-- Document 01's gates, and R-4's, on the joint walk: the words that each takes from A and B, what host 0 deals there,
+-- what hosts 1 and 2 speak, and the share that it leaves; and that the lists are used in turn. Assumes nothing.
 use mathlib.Core.Logic.{_≢_}
 use mathlib.Core.Path.{_≡_}
 use mathlib.Core.List.{List, [], _∷_, _++_}
@@ -10,9 +10,9 @@ use Rattle.words.specs.Ring.{Ops}
 use Rattle.words.specs.Words.{add, sub, neg, mul, bit, shl, numbers, bits}
 use Rattle.shares.specs.Gates as Shares
 use Rattle.shares.specs.Gates.{Share, mask, known, product-deal, product-word1, product-word2, refresh-word1}
-use Rattle.shares.specs.Gates.{refresh-word2}
+use Rattle.shares.specs.Gates.{refresh-word2, known-product-word1, known-product-word2}
 use Rattle.gates.specs.Gates.{Part, Dealt, Gate, Add, Sub, Xor, Mul, And, Refresh, Scale, Plus, Up, Bit, Const}
-use Rattle.gates.specs.Gates.{Public, Deal, DealBits}
+use Rattle.gates.specs.Gates.{MulKnown, AndKnown, Public, Deal, DealBits}
 use Rattle.gates.specs.Steps.{Step, end, Cursor, origin, past}
 use Rattle.gates.specs.Meaning.{part, dealt-of, meaning}
 use Rattle.gates.specs.Hosts.{Triple, share, Slot, of0, dealt, joint1, joint2, act, Starts}
@@ -54,6 +54,19 @@ a-refresh O x l1 l2 =
       says1 = refresh-word1 O (x .m) (x .l1) l1 ∷ [];
       says2 = refresh-word2 O (x .l2) l2 ∷ [];
       left = Shares.refresh O x l1 l2;
+    }
+
+-- R-4: "A product with a known value has a zero mask on one side, so its g1 and g2 are 0. Such a product takes one A
+-- word and sends no deal.": v × mb - v × Lb1 + L1, and L2 - v × Lb2
+abbrev pub a-known-product : Ops ℕ → (v : ℕ) (y : Share ℕ) (l1 l2 : ℕ) → Effect
+a-known-product O v y l1 l2 =
+    record {
+      a = l1 ∷ [];
+      b = l2 ∷ [];
+      deals = [];
+      says1 = known-product-word1 O v (y .m) (y .l1) l1 ∷ [];
+      says2 = known-product-word2 O v (y .l2) l2 ∷ [];
+      left = Shares.known-product O v y l1 l2;
     }
 
 -- "Deal of v, known to host 0: L1 = next A word, L2 = -L1 - v, sent to host 2; m = 0. For bits L2 = L1 xor v."
@@ -113,6 +126,10 @@ module _ (A B : List ℕ) (c : Cursor) (j : Triple) where
       pub product-bits : (d a b g1 l1 l2 : ℕ)
           → Does (And d a b) d (a-product (bits w) (share j a) (share j b) g1 l1 l2)
       pub refresh : (d a l1 l2 : ℕ) → Does (Refresh d a) d (a-refresh (numbers w) (share j a) l1 l2)
+      pub known-product : (d a b l1 l2 : ℕ)
+          → Does (MulKnown d a b) d (a-known-product (numbers w) (share j a .m) (share j b) l1 l2)
+      pub known-product-bits : (d a b l1 l2 : ℕ)
+          → Does (AndKnown d a b) d (a-known-product (bits w) (share j a .m) (share j b) l1 l2)
       -- a value of the masks of a
       pub deal : (d a : ℕ) (f : Dealt) (l1 : ℕ)
           → Does (Deal d a f) d (a-deal (numbers w) (dealt-of w f (share j a .l1) (share j a .l2)) l1)

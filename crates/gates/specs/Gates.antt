@@ -23,6 +23,10 @@ pub data Gate : Type 0 where
   -- the product of two bit words
   And : (d a b : ℕ) → Gate
   Refresh : (d a : ℕ) → Gate
+  -- R-4, "a product with a known value": a is known, of two numbers
+  MulKnown : (d a b : ℕ) → Gate
+  -- and of two bit words
+  AndKnown : (d a b : ℕ) → Gate
   -- times a constant
   Scale : (d a n : ℕ) → Gate
   -- plus a constant, which enters m alone

@@ -8,3 +8,4 @@ pub mod Speech
 pub mod Costs
 pub mod Duet
 pub mod Formulas
+pub mod Known

@@ -6,8 +6,9 @@ use Rattle.words.specs.Words.{add, sub, neg, mul, bit, shl, shr, numbers, bits}
 use Rattle.words.specs.Signed.{shr-signed}
 use Rattle.shares.specs.Gates as Shares
 use Rattle.gates.specs.Gates.{Part, Field, Signed, Dealt, OfSum, OfNegated, OfBits, Gate, Add, Sub, Xor, Mul}
-use Rattle.gates.specs.Gates.{And, Refresh, Scale, Plus, Up, Bit, Const, Public, Deal, DealBits}
-use Rattle.gates.specs.Steps.{Lane, at, product, refresh, Step, local, deal, exchange, end}
+use Rattle.gates.specs.Gates.{And, Refresh, MulKnown, AndKnown, Scale, Plus, Up, Bit, Const, Public, Deal}
+use Rattle.gates.specs.Gates.{DealBits}
+use Rattle.gates.specs.Steps.{Lane, at, product, refresh, known-product, Step, local, deal, exchange, end}
 
 -- floor(x / 2^k) mod 2^j, or floor(signed(x) / 2^k)
 unfoldable pub part : ℕ → Part → ℕ → ℕ
@@ -35,6 +36,8 @@ meaning w (Xor d a b) = each d (λ l. bitXor (at l a) (at l b))
 meaning w (Mul d a b) = exchange d (product (numbers w) a b)
 meaning w (And d a b) = exchange d (product (bits w) a b)
 meaning w (Refresh d a) = exchange d (refresh (numbers w) a)
+meaning w (MulKnown d a b) = exchange d (known-product (numbers w) a b)
+meaning w (AndKnown d a b) = exchange d (known-product (bits w) a b)
 meaning w (Scale d a n) = each d (λ l. mul w (at l a) n)
 meaning w (Plus d a n) = local d (λ m. add w (at m a) n) (λ l. at l a)
 meaning w (Up d a n) = each d (λ l. shl w n (at l a))

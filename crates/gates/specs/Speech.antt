@@ -1,8 +1,9 @@
 -- What a step asks to be dealt and spoken, whatever the step; and its shape, by which a walk goes. Assumes nothing.
 use Prim.Native.Nat.{ℕ}
 use Rattle.gates.specs.declared.Shape.{Shape}
-use Rattle.gates.specs.declared.Shape.the-variants.{Local, Dealing, Product, Refreshing}
-use Rattle.gates.specs.Steps.{Lane, product, refresh, Step, local, deal, exchange, end, say1, say2, meet, part2}
+use Rattle.gates.specs.declared.Shape.the-variants.{Local, Dealing, Product, Undealt}
+use Rattle.gates.specs.Steps.{Lane, product, refresh, known-product, Step, local, deal, exchange, end}
+use Rattle.gates.specs.Steps.{say1, say2, meet, part2}
 
 -- host 0's deal: the second mask of a deal, or g2 of a product; x is the A word of the first mask, or g1
 unfoldable pub dealt-word : Step → (x : ℕ) (l1 l2 : Lane) → ℕ
@@ -32,11 +33,12 @@ met (deal d f) u v = 0
 met (exchange d e) u v = meet e u v
 met end u v = 0
 
--- the shape of a step, with the target where a walk needs it; the end of an order, where a host does nothing, counts
--- as local
+-- the shape of a step, with the target where a walk needs it: of the exchanges document 01's product alone has a deal;
+-- the end of an order, where a host does nothing, counts as local
 unfoldable pub shape : Step → Shape
 shape (local d m l) = Local
 shape (deal d f) = Dealing d
 shape (exchange d (product O a b)) = Product d
-shape (exchange d (refresh O a)) = Refreshing d
+shape (exchange d (refresh O a)) = Undealt d
+shape (exchange d (known-product O a b)) = Undealt d
 shape end = Local

@@ -66,17 +66,27 @@ pub const MUL: u32 = 15;
 // the product of two bit words
 pub const AND: u32 = 16;
 
+// The exchanges from here on have no deal.
+pub const FIRST_UNDEALT: u32 = REFRESH;
+
 pub const REFRESH: u32 = 17;
 
-// No gate: past the last one of a program.
-pub const PAST: u32 = 18;
+// the product of two numbers, of which a is known
+pub const MUL_KNOWN: u32 = 18;
 
-// What a walk does at a gate: writes a slot on each lane alone, takes a deal, or exchanges words.
+// the product of two bit words, of which a is known
+pub const AND_KNOWN: u32 = 19;
+
+// No gate: past the last one of a program.
+pub const PAST: u32 = 20;
+
+// What a walk does at a gate: writes a slot on each lane alone, takes a deal, or exchanges words, with a deal at a
+// product and without one at a refresh and at a product with a known value.
 pub enum Shape {
     Local,
     Dealing { d: u32 },
     Product { d: u32 },
-    Refreshing { d: u32 },
+    Undealt { d: u32 },
 }
 
 // Words used of A and of B, and deals.

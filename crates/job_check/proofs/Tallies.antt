@@ -25,18 +25,18 @@ taken-apart d a b ha hb = cost-path (omega arith) (omega arith) (omega arith) (o
 -- ---- a curve's: a row's for each row, its truncation's, and those of R-1's steps
 
 module _ (n : ℕ) (few : n ≤ 16) where
-  pub exact-tally : tallied (n * tally 14 26 12 + tally 16 28 12 + tally 14 26 12) ≡ curve-cost 0 n
+  pub exact-tally : tallied (n * tally 12 24 12 + tally 13 25 12 + tally 12 24 12) ≡ curve-cost 0 n
   unfolding curve-cost
   exact-tally =
-      let e : n * tally 14 26 12 + tally 16 28 12 + tally 14 26 12 ≡ tally (14 * n + 30) (26 * n + 54) (12 * n + 24) = omega arith in
-      ap tallied e ∙ taken-apart (14 * n + 30) (26 * n + 54) (12 * n + 24) (omega arith) (omega arith)
+      let e : n * tally 12 24 12 + tally 13 25 12 + tally 12 24 12 ≡ tally (12 * n + 25) (24 * n + 49) (12 * n + 24) = omega arith in
+      ap tallied e ∙ taken-apart (12 * n + 25) (24 * n + 49) (12 * n + 24) (omega arith) (omega arith)
       ∙ cost-path refl (omega arith) refl refl
 
-  pub one-bit-tally : tallied (n * tally 14 26 12 + tally 3 5 2 + tally 14 26 12) ≡ curve-cost 1 n
+  pub one-bit-tally : tallied (n * tally 12 24 12 + tally 2 4 2 + tally 12 24 12) ≡ curve-cost 1 n
   unfolding curve-cost
   one-bit-tally =
-      let e : n * tally 14 26 12 + tally 3 5 2 + tally 14 26 12 ≡ tally (14 * n + 17) (26 * n + 31) (12 * n + 14) = omega arith in
-      ap tallied e ∙ taken-apart (14 * n + 17) (26 * n + 31) (12 * n + 14) (omega arith) (omega arith)
+      let e : n * tally 12 24 12 + tally 2 4 2 + tally 12 24 12 ≡ tally (12 * n + 14) (24 * n + 28) (12 * n + 14) = omega arith in
+      ap tallied e ∙ taken-apart (12 * n + 14) (24 * n + 28) (12 * n + 14) (omega arith) (omega arith)
       ∙ cost-path refl (omega arith) refl refl
 
 -- ---- sums

@@ -1,4 +1,4 @@
-// The tally of an order's counts, from document 01's table of costs.
+// The tally of an order's counts, from document 01's table of costs as R-4 leaves it.
 ghost use mathlib.Core.Path.{_≡_};
 ghost use mathlib.Core.Bool.{cond};
 ghost use Prim.Native.Nat.{ℕ, _≤_};

@@ -29,11 +29,11 @@ module _ (w : ℕ) (gs : List Gate) (i : ℕ) (c : GateCode) (e : read c ≡ fet
   choices = gates-with (c .d) (c .a) (c .b) (c .n)
 
   -- told by the operation
-  pub inside : c .op < 18 → i < length gs
+  pub inside : c .op < 20 → i < length gs
   unfolding read gates-with
   inside h = let p = some-gate choices (c .op) h in Fetched.inside gs i (p .0) (sym e ∙ p .1)
 
-  pub outside : 18 ≤ c .op → length gs ≤ i
+  pub outside : 20 ≤ c .op → length gs ≤ i
   unfolding read gates-with
   outside h = Fetched.outside gs i (sym e ∙ beyond choices (c .op) h)
 

@@ -9,11 +9,12 @@ use crate::codes::with_constant;
 use crate::codes::with_part;
 use gates::ADD;
 use gates::AND;
+use gates::AND_KNOWN;
 use gates::BIT;
 use gates::DEAL_BITS;
 use gates::DEAL_XOR;
 use gates::GateCode;
-use gates::MUL;
+use gates::MUL_KNOWN;
 use gates::PUBLIC;
 use gates::SCALE;
 use gates::SUB;
@@ -58,7 +59,7 @@ pub(crate) fn adder_gate(x: u32, i: usize) -> GateCode
     match i {
         0 => on_slots(DEAL_BITS, N_SLOT, x, 0),
         1 => with_part(PUBLIC, P_SLOT, x, 0, WIDTH),
-        2 => on_slots(AND, G_SLOT, P_SLOT, N_SLOT),
+        2 => on_slots(AND_KNOWN, G_SLOT, P_SLOT, N_SLOT),
         3 => on_slots(XOR, P_SLOT, P_SLOT, N_SLOT),
         4 => with_constant(BIT, N_SLOT, P_SLOT, WIDTH - 1),
         _ => round_gate(i - ADDER_HEAD),
@@ -72,7 +73,7 @@ pub(crate) fn number_gate(i: usize) -> GateCode
     match i {
         0 => on_slots(DEAL_XOR, S_SLOT, T_SLOT, 0),
         1 => with_part(PUBLIC, P_SLOT, T_SLOT, 0, WIDTH),
-        2 => on_slots(MUL, T_SLOT, P_SLOT, S_SLOT),
+        2 => on_slots(MUL_KNOWN, T_SLOT, P_SLOT, S_SLOT),
         3 => with_constant(SCALE, T_SLOT, T_SLOT, 2),
         4 => on_slots(ADD, P_SLOT, P_SLOT, S_SLOT),
         5 => on_slots(SUB, T_SLOT, P_SLOT, T_SLOT),

@@ -21,6 +21,7 @@ use gates::DEAL_SIGNED;
 use gates::DEAL_SUM;
 use gates::GateCode;
 use gates::MUL;
+use gates::MUL_KNOWN;
 use gates::PLUS;
 use gates::PUBLIC;
 use gates::PUBLIC_SIGNED;
@@ -129,7 +130,7 @@ pub(crate) fn one_bit_gate(k: u32, x: u32, d: u32, i: usize) -> GateCode
         2 => with_part(DEAL_SUM, P_SLOT, Y_SLOT, WIDTH - 1, 1),
         3 => with_part(PUBLIC, G_SLOT, Y_SLOT, k, less(WIDTH - 1, k)),
         4 => with_part(PUBLIC, S_SLOT, Y_SLOT, WIDTH - 1, 1),
-        5 => on_slots(MUL, T_SLOT, S_SLOT, P_SLOT),
+        5 => on_slots(MUL_KNOWN, T_SLOT, S_SLOT, P_SLOT),
         6 => with_constant(SCALE, T_SLOT, T_SLOT, 2),
         7 => on_slots(ADD, P_SLOT, S_SLOT, P_SLOT),
         8 => on_slots(SUB, P_SLOT, P_SLOT, T_SLOT),

@@ -8,7 +8,7 @@ use native.Mathlib.Omega.{arith}
 use lib.IntN.{ℤ, pos}
 use lib.ListN.{length}
 use Rattle.gates.specs.Gates.{Gate, Add, Refresh, Scale}
-use Rattle.gates.specs.Steps.{product, refresh, Step, local, deal, exchange, end}
+use Rattle.gates.specs.Steps.{product, refresh, known-product, Step, local, deal, exchange, end}
 use Rattle.gates.specs.Meaning.{meaning, order-steps}
 use Rattle.gates.specs.Speech.{shape}
 use Rattle.gates.specs.Costs.{Cost, plus, step-cost, cost}
@@ -36,7 +36,9 @@ same-step b go go′ h (deal d f) n i a deals q = h n (suc i) (suc a) (suc deals
 same-step b go go′ h (exchange d (product O x y)) zero i a deals q = refl
 same-step b go go′ h (exchange d (product O x y)) (suc n) i a deals q = h n (suc i) (2 + a) (suc deals) (omega arith)
 same-step b go go′ h (exchange d (refresh O x)) zero i a deals q = refl
+same-step b go go′ h (exchange d (known-product O x y)) zero i a deals q = refl
 same-step b go go′ h (exchange d (refresh O x)) (suc n) i a deals q = h n (suc i) (suc a) deals (omega arith)
+same-step b go go′ h (exchange d (known-product O x y)) (suc n) i a deals q = h n (suc i) (suc a) deals (omega arith)
 same-step b go go′ h end n i a deals q = h n (suc i) a deals (omega arith)
 
 -- an exchange of the first program
@@ -55,6 +57,7 @@ step-over go (local d m l) n i a deals = rw (zero-add a, zero-add deals, zero-ad
 step-over go (deal d f) n i a deals = rw (one-add a, one-add deals, zero-add n)
 step-over go (exchange d (product O x y)) n i a deals = rw (one-add deals, one-add n)
 step-over go (exchange d (refresh O x)) n i a deals = rw (one-add a, zero-add deals, one-add n)
+step-over go (exchange d (known-product O x y)) n i a deals = rw (one-add a, zero-add deals, one-add n)
 step-over go end n i a deals = rw (zero-add a, zero-add deals, zero-add n)
 
 -- an exchange of the second, with the counts of the first

@@ -7,7 +7,7 @@ use native.Mathlib.Omega.{arith}
 use borrow.Author.Tests.{lt-ltb}
 use lib.Dec.{ltb, leb·suc-zero, leb·suc-suc}
 use Rattle.gates.specs.Gates.{Gate}
-use Rattle.gates.specs.Steps.{product, refresh, Step, local, deal, exchange, end}
+use Rattle.gates.specs.Steps.{product, refresh, known-product, Step, local, deal, exchange, end}
 use Rattle.gates.specs.Meaning.{meaning, order-steps}
 use Rattle.gates.specs.Speech.{shape}
 use Rattle.gates.specs.Costs.{plus, step-cost, cost}
@@ -37,7 +37,9 @@ module _ (go : ℕ → ℕ → ℕ → ℕ → Sought) (b : ℕ) (h : (m i a dea
   step-number (exchange d (product O x y)) zero i a deals = first b
   step-number (exchange d (product O x y)) (suc n) i a deals = h n (suc i) (2 + a) (suc deals) ∙ next n b
   step-number (exchange d (refresh O x)) zero i a deals = first b
+  step-number (exchange d (known-product O x y)) zero i a deals = first b
   step-number (exchange d (refresh O x)) (suc n) i a deals = h n (suc i) (suc a) deals ∙ next n b
+  step-number (exchange d (known-product O x y)) (suc n) i a deals = h n (suc i) (suc a) deals ∙ next n b
   step-number end n i a deals = h n (suc i) a deals ∙ same n b
 
 number-of : (w : ℕ) (gs : List Gate) (n i a deals : ℕ) → placing (sought w gs n i a deals) .number ≡ from n (program-cost w gs .b)

@@ -46,19 +46,19 @@ module _ (w : ℕ) (gs : List Gate) where
   adder-first x n i a deals z = rw z (found (omega arith) (omega arith) (omega arith))
 
   pub adder-later : (x n i a deals : ℕ) → (n ≡ 0 → ⊥) → n < 2 * length (distances w)
-      → Found (i + 5 - 1 + 5 * n / 2) (a + 1 + 2 * n) (deals + 1 + n) ≡ sought w (adder w x ++ gs) n i a deals
+      → Found (i + 5 - 1 + 5 * n / 2) (a + 2 * n) (deals + n) ≡ sought w (adder w x ++ gs) n i a deals
   unfolding adder sought sought-at meaning shape
   adder-later x zero i a deals f h = absurd (f refl)
   adder-later x (suc m) i a deals f h =
       found (omega arith) (omega arith) (omega arith)
-      ∙ rounds-place (distances w) m (suc (suc (suc (suc (suc i))))) (2 + suc a) (suc (suc deals)) h
+      ∙ rounds-place (distances w) m (suc (suc (suc (suc (suc i))))) (suc (suc a)) (suc deals) h
 
 pub rounds-32 : 2 * length (distances 32) ≡ 10
 unfolding distances doubled
 rounds-32 = refl
 
 behind-adder : (gs : List Gate) (x n m i a deals : ℕ) → n ≡ 10 + m
-    → sought 32 gs m (28 + i) (21 + a) (11 + deals) ≡ sought 32 (adder 32 x ++ gs) n i a deals
+    → sought 32 gs m (28 + i) (20 + a) (10 + deals) ≡ sought 32 (adder 32 x ++ gs) n i a deals
 behind-adder gs x = sought-after 32 (adder 32 x) gs _ (adder-32 x)
 
 -- ---- the sign's, whatever gates are behind it
@@ -67,23 +67,23 @@ module _ (gs : List Gate) (x n i a deals : ℕ) where
   pub sign-adder : sought 32 (adder 32 x ++ (sign-rest 32 ++ gs)) n i a deals ≡ sought 32 (sign-program 32 x ++ gs) n i a deals
   sign-adder = rw (sign-parts 32 x gs)
 
-  pub sign-number : n ≡ 10 → Found (i + 30 + 2) (a + 21 + 1) (deals + 11 + 1) ≡ sought 32 (sign-program 32 x ++ gs) n i a deals
+  pub sign-number : n ≡ 10 → Found (i + 30 + 2) (a + 20 + 1) (deals + 10 + 1) ≡ sought 32 (sign-program 32 x ++ gs) n i a deals
   unfolding sign-rest to-number sought sought-at meaning shape
   sign-number q =
       found (omega arith) (omega arith) (omega arith) ∙ behind-adder (sign-rest 32 ++ gs) x n 0 i a deals (omega arith) ∙ sign-adder
 
-  behind-sign : 11 ≤ n → sought 32 gs (n - 11) (36 + i) (24 + a) (13 + deals) ≡ sought 32 (sign-program 32 x ++ gs) n i a deals
+  behind-sign : 11 ≤ n → sought 32 gs (n - 11) (36 + i) (22 + a) (11 + deals) ≡ sought 32 (sign-program 32 x ++ gs) n i a deals
   behind-sign l = sought-after 32 (sign-program 32 x) gs _ (sign-32 x) n (n - 11) i a deals (omega arith)
 
 -- ---- the last product of the ReLU, and of R-1's steps
 
 module _ (x d n i a deals : ℕ) where
-  pub relu-last : 11 ≤ n → sought 32 (Mul d x s-slot ∷ []) (n - 11) (i + 38) (a + 24) (deals + 13) ≡ sought 32 (relu-program 32 x d) n i a deals
+  pub relu-last : 11 ≤ n → sought 32 (Mul d x s-slot ∷ []) (n - 11) (i + 38) (a + 22) (deals + 11) ≡ sought 32 (relu-program 32 x d) n i a deals
   unfolding relu-program sought sought-at meaning shape
   relu-last l =
       let zi : i + 38 ≡ suc (suc (36 + i)) = omega arith in
-      let za : a + 24 ≡ 24 + a = omega arith in
-      let zd : deals + 13 ≡ 13 + deals = omega arith in
+      let za : a + 22 ≡ 22 + a = omega arith in
+      let zd : deals + 11 ≡ 11 + deals = omega arith in
       rw (zi, za, zd) (behind-sign (Const s-slot 1 ∷ Sub s-slot s-slot t-slot ∷ Mul d x s-slot ∷ []) x n i a deals l)
 
 -- a gate without an exchange behind it is not found
@@ -99,14 +99,14 @@ module _ (r x d n i a deals : ℕ) where
   saturation-sign = let e : i + 2 ≡ suc (suc i) = omega arith in rw e
 
   pub saturation-last : 11 ≤ n
-      → sought 32 (Mul res-slot t-slot res-slot ∷ []) (n - 11) (i + 39) (a + 24) (deals + 13) ≡ sought 32 (saturation 32 r x d) n i a deals
+      → sought 32 (Mul res-slot t-slot res-slot ∷ []) (n - 11) (i + 39) (a + 22) (deals + 11) ≡ sought 32 (saturation 32 r x d) n i a deals
   unfolding saturation-end sought sought-at meaning shape
   saturation-last l =
       let zi : i + 39 ≡ suc (36 + (i + 2)) = omega arith in
-      let za : a + 24 ≡ 24 + a = omega arith in
-      let zd : deals + 13 ≡ 13 + deals = omega arith in
+      let za : a + 22 ≡ 22 + a = omega arith in
+      let zd : deals + 11 ≡ 11 + deals = omega arith in
       rw (zi, za, zd)
-      (then-local 32 res-slot t-slot res-slot d acc-slot res-slot (n - 11) (suc (36 + (i + 2))) (24 + a) (13 + deals)
+      (then-local 32 res-slot t-slot res-slot d acc-slot res-slot (n - 11) (suc (36 + (i + 2))) (22 + a) (11 + deals)
       ∙ behind-sign (saturation-end d) y-slot n (i + 2) a deals l ∙ saturation-sign)
 
 -- ---- the exact truncation's
@@ -120,14 +120,14 @@ module _ (k x d n i a deals : ℕ) where
       rw (exact-parts 32 k x d, e, add-one a, add-one deals)
 
   pub exact-low : n ≡ 10
-      → Found (i + 4 + 28 + 1 + 2) (a + 1 + 21 + 1) (deals + 1 + 11 + 1) ≡ sought 32 (exact-program 32 k x d) n i a deals
+      → Found (i + 4 + 28 + 1 + 2) (a + 1 + 20 + 1) (deals + 1 + 10 + 1) ≡ sought 32 (exact-program 32 k x d) n i a deals
   unfolding exact-rest to-number sought sought-at meaning shape
   exact-low q =
       found (omega arith) (omega arith) (omega arith)
       ∙ behind-adder (exact-rest 32 k d) y-slot n 0 (i + 4) (a + 1) (deals + 1) (omega arith) ∙ exact-adder
 
   pub exact-high : n ≡ 11
-      → Found (i + 4 + 28 + 1 + 6 + 2 + 2) (a + 1 + 21 + 3 + 1) (deals + 1 + 11 + 2 + 1) ≡ sought 32 (exact-program 32 k x d) n i a deals
+      → Found (i + 4 + 28 + 1 + 6 + 2 + 2) (a + 1 + 20 + 2 + 1) (deals + 1 + 10 + 1 + 1) ≡ sought 32 (exact-program 32 k x d) n i a deals
   unfolding exact-rest to-number sought sought-at meaning shape
   exact-high q =
       found (omega arith) (omega arith) (omega arith)
@@ -165,7 +165,7 @@ module _ (ts gs : List Gate) (z : Size) (e : size-of 32 ts ≡ z) (n i a deals :
       let zd : deals + z .cost .deals ≡ z .cost .deals + deals = omega arith in
       rw (zi, za, zd) (sought-after 32 ts gs z e n (n - z .cost .b) i a deals (omega arith))
 
-refreshed-sized : size-of 32 (Refresh acc-slot acc-slot ∷ one-bit-program 32 12 acc-slot acc-slot) ≡ size 14 (cost-of 3 4 5 2)
+refreshed-sized : size-of 32 (Refresh acc-slot acc-slot ∷ one-bit-program 32 12 acc-slot acc-slot) ≡ size 14 (cost-of 2 4 4 2)
 unfolding one-bit-program program-cost order-steps meaning cost step-cost plus
 refreshed-sized = refl
 
@@ -183,7 +183,7 @@ module _ (gs : List Gate) (mode n i a deals : ℕ) where
   pub in-exact : mode ≡ 0 → n < 12 → sought 32 exact-gates n i a deals ≡ all (truncation 32 mode)
   in-exact z l = first-part exact-gates gs _ (exact-sized 32 12 acc-slot acc-slot ∙ exact-32) n i a deals l ∙ exact-is z
 
-  pub after-exact : mode ≡ 0 → 12 ≤ n → sought 32 gs (n - 12) (i + 50) (a + 28) (deals + 16) ≡ all (truncation 32 mode)
+  pub after-exact : mode ≡ 0 → 12 ≤ n → sought 32 gs (n - 12) (i + 50) (a + 25) (deals + 13) ≡ all (truncation 32 mode)
   after-exact z l = second-part exact-gates gs _ (exact-sized 32 12 acc-slot acc-slot ∙ exact-32) n i a deals l ∙ exact-is z
 
   abbrev refreshed-gates : List Gate
@@ -192,5 +192,5 @@ module _ (gs : List Gate) (mode n i a deals : ℕ) where
   pub in-refreshed : (mode ≡ 0 → ⊥) → n < 2 → sought 32 refreshed-gates n i a deals ≡ all (truncation 32 mode)
   in-refreshed f l = first-part refreshed-gates gs _ refreshed-sized n i a deals l ∙ ap all (refreshed 32 mode f)
 
-  pub after-refreshed : (mode ≡ 0 → ⊥) → 2 ≤ n → sought 32 gs (n - 2) (i + 14) (a + 5) (deals + 3) ≡ all (truncation 32 mode)
+  pub after-refreshed : (mode ≡ 0 → ⊥) → 2 ≤ n → sought 32 gs (n - 2) (i + 14) (a + 4) (deals + 2) ≡ all (truncation 32 mode)
   after-refreshed f l = second-part refreshed-gates gs _ refreshed-sized n i a deals l ∙ ap all (refreshed 32 mode f)

@@ -54,7 +54,7 @@ fn dealt_place(gate: usize, a: usize, deals: usize) -> Sought
 }
 
 // The adder's n-th product, whatever gates are behind it. After the first one, the even ones end a round each and the
-// odd ones stand three gates before.
+// odd ones stand three gates before; the first one is with a known value, and has no deal.
 fn adder_place(n: usize, gate: usize, a: usize, deals: usize) -> Sought
     requires { ⌜ (n < 10) × (gate ≤ 2 ^ 62) × (a ≤ 2 ^ 62) × (deals ≤ 2 ^ 62) ⌝ }
     ensures { λ s. ⌜ ((x : ℕ) (gs : List Gate) → s ≡ sought 32 (adder 32 x ++ gs) n gate a deals) ⌝ }
@@ -64,8 +64,8 @@ fn adder_place(n: usize, gate: usize, a: usize, deals: usize) -> Sought
     }
     Sought::Found {
         gate: gate + ADDER_HEAD - 1 + ROUND_GATES * n / 2,
-        a: a + 1 + 2 * n,
-        deals: deals + 1 + n,
+        a: a + 2 * n,
+        deals: deals + n,
     }
 }
 

@@ -15,7 +15,7 @@ use Rattle.words.proofs.Words.{mul-comm as times-comm, sub-is}
 use Rattle.truncations.proofs.Adder.{sign-bit}
 use Rattle.truncations.proofs.Truncation.{bit-number-xor}
 use Rattle.shares.specs.Gates.{Share, value}
-use Rattle.gates.specs.Gates.{Field, Gate, Sub, Xor, Mul, And, Bit, Const, Public, DealBits}
+use Rattle.gates.specs.Gates.{Field, Gate, Sub, Xor, Mul, AndKnown, Bit, Const, Public, DealBits}
 use Rattle.gates.specs.Steps.{at}
 use Rattle.gates.specs.Meaning.{part, dealt-of, meaning}
 use Rattle.gates.specs.Hosts.{share, act}
@@ -24,7 +24,7 @@ use Rattle.programs.proofs.Gates.{Fits}
 use Rattle.programs.proofs.Points.{target, Point, after, afters, afters-append, num, bin, m-of, l1-of, l2-of, keep-m, keep-share}
 use Rattle.programs.proofs.Points.{keep-num, keep-bin}
 use Rattle.programs.proofs.Targets.{at-add, at-sub, at-xor, at-mul, at-and, at-scale, at-up, at-bit, at-const, at-public}
-use Rattle.programs.proofs.Targets.{at-public-bits, at-deal, at-deal-bits}
+use Rattle.programs.proofs.Targets.{at-mul-known, at-and-known, at-public-bits, at-deal, at-deal-bits, m-public}
 
 module _ (w : ℕ) (A B : List ℕ) (hA : Fits w A) (hB : Fits w B) where
   abbrev Pt : Type 0
@@ -80,7 +80,7 @@ module _ (w : ℕ) (A B : List ℕ) (hA : Fits w A) (hB : Fits w B) where
   pub number-opens : (G : Pt) → 2 ≤ w → Digit G 20 → num w A B hA hB (afters w A B hA hB (to-number w) G) 20 ≡ bin w A B hA hB G 20
   unfolding target dealt-of bin to-number afters m-of l1-of l2-of
   number-opens G h b =
-      simp (at-sub, at-add, at-scale, at-mul, at-public, at-deal, keep-num, keep-m, whole-field)
+      simp (at-sub, at-add, at-scale, at-mul-known, at-public, m-public, at-deal, keep-num, keep-m, whole-field)
       (number-formula _ _ ∙ bit-number-xor w h (m-of w A B hA hB G 20) (b .m) (bitXor (l1-of w A B hA hB G 20) (l2-of w A B hA hB G 20))
       (xor-lt 1 _ _ (b .l1) (b .l2)))
 
@@ -120,7 +120,7 @@ module _ (w : ℕ) (A B : List ℕ) (hA : Fits w A) (hB : Fits w B) where
     adder-opens =
         rounds-run (updates (distances w)) _
         ∙ ap₂ (λ (g p : ℕ). run w (updates (distances w)) (g, p) .0)
-        (simp (at-and, at-public-bits, at-deal-bits, keep-bin, keep-m, whole-field))
+        (simp (at-and-known, m-public, at-deal-bits, keep-bin, keep-m, whole-field))
         (simp (at-xor, at-public-bits, at-deal-bits, keep-bin, keep-m, whole-field))
 
     -- the sign's half, in slot 16
@@ -132,7 +132,7 @@ module _ (w : ℕ) (A B : List ℕ) (hA : Fits w A) (hB : Fits w B) where
       where
         half : bin w A B hA hB (after w A B hA hB (Bit 16 17 (w - 1))
             (after w A B hA hB (Xor 17 17 16)
-            (after w A B hA hB (And 18 17 16) (after w A B hA hB (Public 17 x (Field 0 w)) (after w A B hA hB (DealBits 16 x) G))))) 16
+            (after w A B hA hB (AndKnown 18 17 16) (after w A B hA hB (Public 17 x (Field 0 w)) (after w A B hA hB (DealBits 16 x) G))))) 16
             ≡ bit (bitXor (m-of w A B hA hB G x) minus) (w - 1)
         half = simp (at-xor, at-bit, at-public-bits, at-deal-bits, keep-bin, keep-m, whole-field)
 

@@ -78,6 +78,13 @@ module _ (w : ℕ) (O : Ops ℕ) (C : Carrier w O) where
         exprs .mul (value exprs (vars ma a1 a2)) (value exprs (vars mb b1 b2)),
       )) refl
 
+  pub known-product-opens : (v : ℕ) → v < 2 ^ w → (mb : ℕ) → mb < 2 ^ w → (b1 : ℕ) → b1 < 2 ^ w → (b2 : ℕ) → b2 < 2 ^ w
+      → (l1 : ℕ) → l1 < 2 ^ w → (l2 : ℕ) → l2 < 2 ^ w
+      → value O (S.known-product O v (record { m = mb; l1 = b1; l2 = b2 }) l1 l2) ≡ O .mul v (open3 mb b1 b2)
+  known-product-opens =
+      solve-below w O C 6
+      (λ v mb b1 b2 l1 l2. (value exprs (S.known-product exprs v (vars mb b1 b2) l1 l2), exprs .mul v (value exprs (vars mb b1 b2)))) refl
+
   pub refresh-opens : (m : ℕ) → m < 2 ^ w → (a1 : ℕ) → a1 < 2 ^ w → (a2 : ℕ) → a2 < 2 ^ w → (l1 : ℕ) → l1 < 2 ^ w → (l2 : ℕ) → l2 < 2 ^ w
       → value O (S.refresh O (record { m = m; l1 = a1; l2 = a2 }) l1 l2) ≡ open3 m a1 a2
   refresh-opens =

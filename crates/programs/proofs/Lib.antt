@@ -11,3 +11,5 @@ pub mod Calibration
 pub mod CurveGates
 pub mod AdderParts
 pub mod Sizes
+pub mod Savings
+pub mod Known

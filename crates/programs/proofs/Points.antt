@@ -19,7 +19,7 @@ use Rattle.words.proofs.Signed.{wrap-lt}
 use Rattle.shares.specs.Gates as S
 use Rattle.shares.specs.Gates.{Share, value}
 use Rattle.gates.specs.Gates.{Part, Field, Signed, Dealt, OfSum, OfNegated, OfBits, Gate, Add, Sub, Xor, Mul, And, Refresh, Scale, Plus}
-use Rattle.gates.specs.Gates.{Up, Bit, Const, Public, Deal, DealBits}
+use Rattle.gates.specs.Gates.{MulKnown, AndKnown, Up, Bit, Const, Public, Deal, DealBits}
 use Rattle.gates.specs.Steps.{Lane, at, say1, say2, meet, part2, new-at, Cursor, past}
 use Rattle.gates.specs.Meaning.{part, dealt-of, meaning}
 use Rattle.gates.specs.Hosts.{Triple, share, Slot, joint1, joint2, act}
@@ -56,6 +56,8 @@ target (Xor d a b) = d
 target (Mul d a b) = d
 target (And d a b) = d
 target (Refresh d a) = d
+target (MulKnown d a b) = d
+target (AndKnown d a b) = d
 target (Scale d a n) = d
 target (Plus d a n) = d
 target (Up d a n) = d
@@ -108,6 +110,8 @@ module _ (w : ℕ) (A B : List ℕ) (c : Cursor) (j : Triple) (hA : Fits w A) (h
   writes (Mul d a b) = wrote w d j (S.product (number-words w) (triple a) (triple b) a₁ a₂ b₁ .m) a₂ b₁
   writes (And d a b) = wrote w d j (S.product (bit-words w) (triple a) (triple b) a₁ a₂ b₁ .m) a₂ b₁
   writes (Refresh d a) = wrote w d j (S.refresh (number-words w) (triple a) a₁ b₁ .m) a₁ b₁
+  writes (MulKnown d a b) = wrote w d j (S.known-product (number-words w) (M a) (triple b) a₁ b₁ .m) a₁ b₁
+  writes (AndKnown d a b) = wrote w d j (S.known-product (bit-words w) (M a) (triple b) a₁ b₁ .m) a₁ b₁
   writes (Scale d a n) =
       wrote w d j (on-each (λ x. mul w x n) (λ x h. mul-lt w x n) (M a)) (on-each (λ x. mul w x n) (λ x h. mul-lt w x n) (L1 a))
       (on-each (λ x. mul w x n) (λ x h. mul-lt w x n) (L2 a))

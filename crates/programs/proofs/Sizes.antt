@@ -216,17 +216,17 @@ pub slack-number : (w : ℕ) → slack-size w ≡ size 3 (cost-of 1 0 1 0)
 unfolding slack-size slack-program program-cost order-steps meaning cost step-cost plus
 slack-number w = refl
 
-pub one-bit-number : (w : ℕ) → one-bit-size w ≡ size 13 (cost-of 3 2 4 1)
+pub one-bit-number : (w : ℕ) → one-bit-size w ≡ size 13 (cost-of 2 2 3 1)
 unfolding one-bit-size one-bit-program program-cost order-steps meaning cost step-cost plus
 one-bit-number w = refl
 
--- the counts of so many deals and so many products, each with a deal of its own
-abbrev pub counts-of : (deals products : ℕ) → Cost
-counts-of k n = cost-of (k + n) (2 * n) (k + 2 * n) n
+-- the counts of so many deals, of so many products, each with a deal of its own, and of so many with a known value
+abbrev pub counts-of : (deals products known : ℕ) → Cost
+counts-of k n u = cost-of (k + n) (2 * (n + u)) (k + 2 * n + u) (n + u)
 
 -- each round of the adder has five gates, two of them products; the last has the first three and one product
 rounds-number : (w : ℕ) (ds : List ℕ) → 0 < length ds
-    → size-of w (rounds (updates ds)) ≡ size (5 * length ds - 2) (counts-of 0 (2 * length ds - 1))
+    → size-of w (rounds (updates ds)) ≡ size (5 * length ds - 2) (counts-of 0 (2 * length ds - 1) 0)
 unfolding updates rounds update-gates program-cost order-steps meaning cost step-cost plus
 rounds-number w [] h = absurd (omega arith)
 rounds-number w (D ∷ []) h = refl
@@ -241,7 +241,7 @@ module _ (w : ℕ) (h : 0 < length (distances w)) where
   abbrev R : ℕ
   R = length (distances w)
 
-  pub adder-number : (x : ℕ) → size-of w (adder w x) ≡ size (5 + 5 * R - 2) (counts-of 1 (2 * R))
+  pub adder-number : (x : ℕ) → size-of w (adder w x) ≡ size (5 + 5 * R - 2) (counts-of 1 (2 * R - 1) 1)
   unfolding adder program-cost order-steps meaning cost step-cost plus
   adder-number x =
       let e = rounds-number w (distances w) h in
@@ -250,42 +250,42 @@ module _ (w : ℕ) (h : 0 < length (distances w)) where
       (omega (arith, ap (λ (z : Size). z .cost .a) e)) (omega (arith, ap (λ (z : Size). z .cost .b) e)))
 
   with-adder : (x : ℕ) (gs : List Gate)
-      → size-of w (adder w x ++ gs) ≡ plus-size (size (5 + 5 * R - 2) (counts-of 1 (2 * R))) (size-of w gs)
+      → size-of w (adder w x ++ gs) ≡ plus-size (size (5 + 5 * R - 2) (counts-of 1 (2 * R - 1) 1)) (size-of w gs)
   with-adder x gs = size-after w (adder w x) gs ∙ ap (λ (z : Size). plus-size z (size-of w gs)) (adder-number x)
 
-  pub sign-number : (x : ℕ) → size-of w (sign-program w x) ≡ size (11 + 5 * R) (counts-of 2 (1 + 2 * R))
+  pub sign-number : (x : ℕ) → size-of w (sign-program w x) ≡ size (11 + 5 * R) (counts-of 2 (2 * R - 1) 2)
   unfolding sign-program sign-rest to-number plus-size program-cost order-steps meaning cost step-cost plus
   sign-number x =
       with-adder x (sign-rest w) ∙ size-path (omega arith) (cost-path (omega arith) (omega arith) (omega arith) (omega arith))
 
-  pub relu-number : relu-size w ≡ size (14 + 5 * R) (counts-of 2 (2 + 2 * R))
+  pub relu-number : relu-size w ≡ size (14 + 5 * R) (counts-of 2 (2 * R) 2)
   unfolding relu-size relu-program plus-size program-cost order-steps meaning cost step-cost plus
   relu-number =
       size-after w (sign-program w 0) (relu-end w 0 0) ∙ ap (λ (z : Size). plus-size z (size-of w (relu-end w 0 0))) (sign-number 0)
       ∙ size-path (omega arith) (cost-path (omega arith) (omega arith) (omega arith) (omega arith))
 
-  pub exact-number : exact-size w ≡ size (25 + 5 * R) (counts-of 4 (2 + 2 * R))
+  pub exact-number : exact-size w ≡ size (25 + 5 * R) (counts-of 4 (2 * R - 1) 3)
   unfolding exact-size exact-head exact-rest to-number plus-size program-cost order-steps meaning cost step-cost plus
   exact-number =
       ap (size-of w) (exact-parts w 0 0 0) ∙ size-after w (exact-head w 0 0) (adder w y-slot ++ exact-rest w 0 0)
       ∙ ap (plus-size (size-of w (exact-head w 0 0))) (with-adder y-slot (exact-rest w 0 0))
       ∙ size-path (omega arith) (cost-path (omega arith) (omega arith) (omega arith) (omega arith))
 
-pub adder-32 : (x : ℕ) → size-of 32 (adder 32 x) ≡ size 28 (cost-of 11 20 21 10)
+pub adder-32 : (x : ℕ) → size-of 32 (adder 32 x) ≡ size 28 (cost-of 10 20 20 10)
 unfolding distances doubled
 adder-32 = adder-number 32 (omega arith)
 
-pub sign-32 : (x : ℕ) → size-of 32 (sign-program 32 x) ≡ size 36 (cost-of 13 22 24 11)
+pub sign-32 : (x : ℕ) → size-of 32 (sign-program 32 x) ≡ size 36 (cost-of 11 22 22 11)
 unfolding distances doubled
 sign-32 = sign-number 32 (omega arith)
 
-pub exact-32 : exact-size 32 ≡ size 50 (cost-of 16 24 28 12)
+pub exact-32 : exact-size 32 ≡ size 50 (cost-of 13 24 25 12)
 unfolding distances doubled
 exact-32 = exact-number 32 (omega arith)
 
 -- the counts of a ReLU, and so of a row
 abbrev pub relu-counts-32 : Cost
-relu-counts-32 = cost-of 14 24 26 12
+relu-counts-32 = cost-of 12 24 24 12
 
 pub relu-32 : relu-size 32 ≡ size 39 relu-counts-32
 unfolding distances doubled

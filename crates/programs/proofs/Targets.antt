@@ -14,12 +14,13 @@ use Rattle.words.specs.Words.{add, sub, neg, mul, bit, shl, numbers, bits}
 use Rattle.words.proofs.Words.{neg-lt, mul-mod-mod}
 use Rattle.words.proofs.Below.{number-carrier, bit-carrier}
 use Rattle.shares.specs.Gates.{value}
-use Rattle.gates.specs.Gates.{Part, Dealt, Add, Sub, Xor, Mul, And, Refresh, Scale, Plus, Up, Bit, Const, Public, Deal, DealBits}
+use Rattle.gates.specs.Gates.{Part, Dealt, Add, Sub, Xor, Mul, And, Refresh, MulKnown, AndKnown, Scale, Plus, Up, Bit, Const, Public}
+use Rattle.gates.specs.Gates.{Deal, DealBits}
 use Rattle.gates.specs.Steps.{at, say1, say2, meet, part2, new-at, Cursor}
 use Rattle.gates.specs.Meaning.{part, dealt-of, meaning}
 use Rattle.gates.specs.Hosts.{Triple, share, Slot, joint1, joint2, act}
 use Rattle.programs.proofs.Gates.{Fits, FitsAll, sum-opens, difference-opens, scale-opens, plus-opens, known-opens, deal-opens}
-use Rattle.programs.proofs.Gates.{product-opens, refresh-opens}
+use Rattle.programs.proofs.Gates.{product-opens, refresh-opens, known-product-opens}
 use Rattle.programs.proofs.Points.{part-lt, dealt-lt, Point, after, num, bin, m-of, l1-of, l2-of}
 
 -- what slot d opens once it is written
@@ -84,6 +85,19 @@ module _ (w : ℕ) (A B : List ℕ) (hA : Fits w A) (hB : Fits w B) (G : Point w
         ∙ product-opens w (bits w) (bit-carrier w) _ (f .m a) _ (f .l1 a) _ (f .l2 a) _ (f .m b) _ (f .l1 b) _ (f .l2 b) _ (hA (c .a))
         _ (hA (suc (c .a))) _ (hB (c .b))
 
+    -- with a known value in slot a: its m
+    pub at-mul-known : num w A B hA hB (after w A B hA hB (MulKnown d a b) G) d ≡ mul w (m-of w A B hA hB G a) (num w A B hA hB G b)
+    unfolding after num m-of act meaning meet joint1 joint2 say1 say2 new-at
+    at-mul-known =
+        open3 (numbers w) _ _ _
+        ∙ known-product-opens w (numbers w) (number-carrier w) _ (f .m a) _ (f .m b) _ (f .l1 b) _ (f .l2 b) _ (hA (c .a)) _ (hB (c .b))
+
+    pub at-and-known : bin w A B hA hB (after w A B hA hB (AndKnown d a b) G) d ≡ bitAnd (m-of w A B hA hB G a) (bin w A B hA hB G b)
+    unfolding after bin m-of act meaning meet joint1 joint2 say1 say2 new-at
+    at-and-known =
+        open3 (bits w) _ _ _
+        ∙ known-product-opens w (bits w) (bit-carrier w) _ (f .m a) _ (f .m b) _ (f .l1 b) _ (f .l2 b) _ (hA (c .a)) _ (hB (c .b))
+
   module _ (a : ℕ) where
     pub at-refresh : num w A B hA hB (after w A B hA hB (Refresh d a) G) d ≡ num w A B hA hB G a
     unfolding after num act meaning meet joint1 joint2 say1 say2 new-at
@@ -140,6 +154,10 @@ module _ (w : ℕ) (A B : List ℕ) (hA : Fits w A) (hB : Fits w B) (G : Point w
     pub m-plus : (n : ℕ) → m-of w A B hA hB (after w A B hA hB (Plus d a n) G) d ≡ add w (m-of w A B hA hB G a) n
     unfolding after m-of act meaning
     m-plus n = getD-set-same (j .0) d _ 0 (G .slots d l .m)
+
+    pub m-public : (p : Part) → m-of w A B hA hB (after w A B hA hB (Public d a p) G) d ≡ part w p (m-of w A B hA hB G a)
+    unfolding after m-of act meaning
+    m-public p = getD-set-same (j .0) d _ 0 (G .slots d l .m)
 
     pub l1-plus : (n : ℕ) → l1-of w A B hA hB (after w A B hA hB (Plus d a n) G) d ≡ l1-of w A B hA hB G a
     unfolding after l1-of act meaning

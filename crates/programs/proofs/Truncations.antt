@@ -18,7 +18,7 @@ use Rattle.programs.specs.Programs.{adder, to-number, slack-program, one
 use Rattle.programs.proofs.Gates.{Fits}
 use Rattle.programs.proofs.Points.{Other, target, Point, after, afters, afters-append, num, bin, m-of, l1-of, l2-of, keep-m}
 use Rattle.programs.proofs.Points.{keep-l1, keep-l2, keep-share, keep-num, keep-bin}
-use Rattle.programs.proofs.Targets.{at-add, at-sub, at-mul, at-scale, at-plus, at-bit, at-public, at-deal, m-plus, l1-plus}
+use Rattle.programs.proofs.Targets.{at-add, at-sub, at-mul-known, at-scale, at-plus, at-bit, at-public, at-deal, m-plus, m-public, l1-plus}
 use Rattle.programs.proofs.Targets.{l2-plus}
 use Rattle.programs.proofs.Blocks.{digit-bit, number-opens, number-keeps, adder-opens, adder-keeps}
 
@@ -58,7 +58,7 @@ module _ (w : ℕ) (A B : List ℕ) (hA : Fits w A) (hB : Fits w B) where
           at-add,
           at-sub,
           at-scale,
-          at-mul,
+          at-mul-known,
           at-public,
           at-deal,
           keep-num,
@@ -66,6 +66,7 @@ module _ (w : ℕ) (A B : List ℕ) (hA : Fits w A) (hB : Fits w B) where
           keep-l1,
           keep-l2,
           m-plus,
+          m-public,
           l1-plus,
           l2-plus,
           times-comm w 2,

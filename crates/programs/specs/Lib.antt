@@ -4,3 +4,4 @@ pub mod Opens
 pub mod Costs
 pub mod Sizes
 pub mod Seek
+pub mod Savings

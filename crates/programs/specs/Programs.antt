@@ -1,12 +1,12 @@
--- Document 01, "Adder, bits and sign", "Orders" and "The curve", and R-1: the gates of each kind, in order. Slot x is
--- the source, d the target. Assumes nothing.
+-- Document 01, "Adder, bits and sign", "Orders" and "The curve", R-1 and R-4: the gates of each kind, in order. Slot x
+-- is the source, d the target. Assumes nothing.
 use mathlib.Core.List.{List, [], _∷_, _++_}
 use Prim.Native.Nat.{ℕ, zero, suc, _+_, _-_, _*_, _%_, _^_}
 use lib.IntN.{ℤ, pos}
 use Rattle.words.specs.Words.{neg}
 use Rattle.truncations.specs.Adder.{Update, generate, propagate, distances, updates}
 use Rattle.gates.specs.Gates.{Field, Signed, OfSum, OfNegated, OfBits, Gate, Add, Sub, Xor, Mul, And, Refresh, Scale}
-use Rattle.gates.specs.Gates.{Plus, Up, Bit, Const, Public, Deal, DealBits}
+use Rattle.gates.specs.Gates.{MulKnown, AndKnown, Plus, Up, Bit, Const, Public, Deal, DealBits}
 use Rattle.tables.specs.Table.{Row}
 use Rattle.curves.specs.Curve.{slope-after, coefficient}
 
@@ -46,17 +46,18 @@ rounds [] = []
 rounds (u ∷ us) = update-gates u (rounds us)
 
 -- "The adder deals n as bits, takes m as known bits, P = m xor n, G = m and n"; the top bit of m xor n is kept in n's
--- slot, for the sign
+-- slot, for the sign. R-4: G is "a product with a known value"
 unfoldable pub adder : (w x : ℕ) → List Gate
 adder w x =
-    DealBits n-slot x ∷ Public p-slot x (Field 0 w) ∷ And g-slot p-slot n-slot ∷ Xor p-slot p-slot n-slot
-    ∷ Bit n-slot p-slot (w - 1)
+    DealBits n-slot x ∷ Public p-slot x (Field 0 w) ∷ AndKnown g-slot p-slot n-slot
+    ∷ Xor p-slot p-slot n-slot ∷ Bit n-slot p-slot (w - 1)
     ∷ rounds (updates (distances w))
 
--- "A bit q = mq xor Lq becomes a number: deal Lq, known mq, one product, mq + Lq - 2 × mq × Lq": the bit in slot t
+-- "A bit q = mq xor Lq becomes a number: deal Lq, known mq, one product, mq + Lq - 2 × mq × Lq": the bit in slot t;
+-- R-4: the product is with a known value
 unfoldable pub to-number : (w : ℕ) → List Gate
 to-number w =
-    Deal s-slot t-slot OfBits ∷ Public p-slot t-slot (Field 0 w) ∷ Mul t-slot p-slot s-slot
+    Deal s-slot t-slot OfBits ∷ Public p-slot t-slot (Field 0 w) ∷ MulKnown t-slot p-slot s-slot
     ∷ Scale t-slot t-slot 2
     ∷ Add p-slot p-slot s-slot ∷ Sub t-slot p-slot t-slot ∷ []
 
@@ -73,13 +74,13 @@ unfoldable pub slack-program : (k x d : ℕ) → List Gate
 slack-program k x d =
     Deal n-slot x (OfNegated (Signed k)) ∷ Public p-slot x (Signed k) ∷ Add d n-slot p-slot ∷ []
 
--- kind 7: "c' - r' + b × 2^(31-k) - 2^(30-k)"
+-- kind 7: "c' - r' + b × 2^(31-k) - 2^(30-k)"; R-4: b's product is with a known value, bit 31 of m
 unfoldable pub one-bit-program : (w k x d : ℕ) → List Gate
 one-bit-program w k x d =
     Plus y-slot x (2 ^ (w - 2)) ∷ Deal n-slot y-slot (OfSum (Field k (w - 1 - k)))
     ∷ Deal p-slot y-slot (OfSum (Field (w - 1) 1))
     ∷ Public g-slot y-slot (Field k (w - 1 - k)) ∷ Public s-slot y-slot (Field (w - 1) 1)
-    ∷ Mul t-slot s-slot p-slot ∷ Scale t-slot t-slot 2
+    ∷ MulKnown t-slot s-slot p-slot ∷ Scale t-slot t-slot 2
     ∷ Add p-slot s-slot p-slot ∷ Sub p-slot p-slot t-slot ∷ Scale p-slot p-slot (2 ^ (w - 1 - k))
     ∷ Sub g-slot g-slot n-slot
     ∷ Add g-slot g-slot p-slot ∷ Plus d g-slot (neg w (2 ^ (w - 2 - k))) ∷ []

@@ -6,7 +6,7 @@ use Prim.Native.Nat.{ℕ, zero, suc, _+_}
 use lib.Dec.{ltb}
 use Rattle.gates.specs.Gates.{Gate}
 use Rattle.gates.specs.declared.Shape.{Shape}
-use Rattle.gates.specs.declared.Shape.the-variants.{Local, Dealing, Product, Refreshing}
+use Rattle.gates.specs.declared.Shape.the-variants.{Local, Dealing, Product, Undealt}
 use Rattle.gates.specs.Meaning.{meaning}
 use Rattle.gates.specs.Speech.{shape}
 use Rattle.programs.specs.Costs.{program-cost}
@@ -20,8 +20,8 @@ sought-at Local n i a deals go = go n (suc i) a deals
 sought-at (Dealing d) n i a deals go = go n (suc i) (suc a) (suc deals)
 sought-at (Product d) zero i a deals go = Found i a deals
 sought-at (Product d) (suc n) i a deals go = go n (suc i) (2 + a) (suc deals)
-sought-at (Refreshing d) zero i a deals go = Found i a deals
-sought-at (Refreshing d) (suc n) i a deals go = go n (suc i) (suc a) deals
+sought-at (Undealt d) zero i a deals go = Found i a deals
+sought-at (Undealt d) (suc n) i a deals go = go n (suc i) (suc a) deals
 
 -- the n-th product or refresh, from 0
 unfoldable pub sought : (w : ℕ) → List Gate → (n i a deals : ℕ) → Sought

@@ -41,11 +41,11 @@ pub const WIDTH: u32 = 32;
 pub const ROUNDS: usize = 5;
 
 // The sizes of the blocks and of the programs that they make; those of the adder and of each program are computed from
-// the definitions in programs/proofs/Sizes.antt. A deal uses a word of A, a product a deal and two words of A, and each
-// exchange a word of B.
+// the definitions in programs/proofs/Sizes.antt. A deal uses a word of A, a product a deal and two words of A, one with
+// a known value (R-4) one word of A and no deal, and each exchange a word of B.
 
-// The adder: five gates, a deal and the first of its products among them, and then each round's five gates with two
-// products, of which the last round has the first three gates alone.
+// The adder: five gates, a deal and the first of its products among them, which is with a known value, and then each
+// round's five gates with two products, of which the last round has the first three gates alone.
 pub const ADDER_HEAD: usize = 5;
 
 pub const ROUND_GATES: usize = 5;
@@ -54,16 +54,19 @@ pub const ADDER_GATES: usize = ADDER_HEAD + ROUND_GATES * ROUNDS - 2;
 
 pub const ADDER_EXCHANGES: usize = 2 * ROUNDS;
 
-pub const ADDER_DEALS: usize = 1 + ADDER_EXCHANGES;
+// all but the first
+pub const ADDER_DEALT_PRODUCTS: usize = ADDER_EXCHANGES - 1;
 
-pub const ADDER_WORDS_A: usize = 1 + 2 * ADDER_EXCHANGES;
+pub const ADDER_DEALS: usize = 1 + ADDER_DEALT_PRODUCTS;
 
-// A bit made a number: one deal and one product.
+pub const ADDER_WORDS_A: usize = 2 + 2 * ADDER_DEALT_PRODUCTS;
+
+// A bit made a number: one deal and one product with a known value.
 pub const NUMBER_GATES: usize = 6;
 
-pub const NUMBER_DEALS: usize = 2;
+pub const NUMBER_DEALS: usize = 1;
 
-pub const NUMBER_WORDS_A: usize = 3;
+pub const NUMBER_WORDS_A: usize = 2;
 
 // The sign of a slot, by where its gates stand: the adder, and two for the sign bit, which becomes a number.
 pub const SIGN_BIT: usize = ADDER_GATES;
@@ -130,14 +133,14 @@ pub const EXACT_DEALS: usize = 1 + ADDER_DEALS + 2 * NUMBER_DEALS;
 
 pub const EXACT_WORDS_A: usize = 1 + ADDER_WORDS_A + 2 * NUMBER_WORDS_A;
 
-// The one-bit truncation: two deals and a product.
+// The one-bit truncation: two deals and a product with a known value.
 pub const ONE_BIT_GATES: usize = 13;
 
 pub const ONE_BIT_EXCHANGES: usize = 1;
 
-pub const ONE_BIT_WORDS_A: usize = 4;
+pub const ONE_BIT_WORDS_A: usize = 3;
 
-pub const ONE_BIT_DEALS: usize = 3;
+pub const ONE_BIT_DEALS: usize = 2;
 
 // The same behind a refresh, which uses a word of A.
 pub const REFRESHED_GATES: usize = 1 + ONE_BIT_GATES;

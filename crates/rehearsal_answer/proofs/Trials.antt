@@ -62,8 +62,8 @@ unfolding rows house
 eight = refl
 
 counts : ℕ → Cost
-counts zero = cost-of 142 240 262 120
-counts (suc m) = cost-of 129 220 239 110
+counts zero = cost-of 121 240 241 120
+counts (suc m) = cost-of 110 220 220 110
 
 deals-counted : (mode : ℕ) → counts mode .deals ≡ Spec.deals mode
 unfolding counts
@@ -114,15 +114,15 @@ fits-first x h zero = h
 fits-first x h (suc i) = fits-zeros 15 i
 
 abbrev buffer : List ℕ
-buffer = replicate 142 0
+buffer = replicate 121 0
 
 lists-long : (mode : ℕ) → 0 ≡ dealer-lists-fault (counts mode) trial-a trial-b buffer
 unfolding counts
 lists-long zero =
-    long-enough 142 240 262 120 _ _ _ (omega (arith, multiples-length first-a 2 262)) (omega (arith, multiples-length first-b 2 120))
+    long-enough 121 240 241 120 _ _ _ (omega (arith, multiples-length first-a 2 241)) (omega (arith, multiples-length first-b 2 120))
     (lit≤ tt)
 lists-long (suc n) =
-    long-enough 129 220 239 110 _ _ _ (omega (arith, multiples-length first-a 2 262)) (omega (arith, multiples-length first-b 2 120))
+    long-enough 110 220 220 110 _ _ _ (omega (arith, multiples-length first-a 2 241)) (omega (arith, multiples-length first-b 2 120))
     (lit≤ tt)
 
 module _ (mode m l1 l2 : ℕ) where
@@ -166,7 +166,7 @@ module _ (mode m l1 l2 : ℕ) where
     fitting : Words 32 (staged 32 S)
     fitting =
         record {
-          A = multiples-fit first-a 2 262;
+          A = multiples-fit first-a 2 241;
           B = multiples-fit first-b 2 120;
           rm = fits-first m hm;
           r1 = fits-first l1 h1;
@@ -181,7 +181,7 @@ module _ (mode m l1 l2 : ℕ) where
     unfolding before-order order-of orders fresh
     source-is = refl
 
-    place-a : used-before 32 S 0 .a + program-cost 32 (sum-program 32 (order-of S 0 .source) (rows (S .table))) .a ≡ 208
+    place-a : used-before 32 S 0 .a + program-cost 32 (sum-program 32 (order-of S 0 .source) (rows (S .table))) .a ≡ 192
     unfolding used-before first-counts order-of orders plus-size times-size times-cost plus
     place-a = zero-add _ ∙ ap (λ (z : Size). z .cost .a) (sum-sized 32 0 (rows house)) ∙ rw (eight, row-32)
 
@@ -192,7 +192,7 @@ module _ (mode m l1 l2 : ℕ) where
     mask-is : refresh-mask 32 S 0 ≡ refresh-L
     unfolding refresh-mask refresh-L
     mask-is =
-        ap₂ (add 32) (ap (at trial-a) place-a ∙ multiples-at first-a 2 262 208 (lit< tt))
+        ap₂ (add 32) (ap (at trial-a) place-a ∙ multiples-at first-a 2 241 192 (lit< tt))
         (ap (at trial-b) place-b ∙ multiples-at first-b 2 120 96 (lit< tt))
 
     left-is : left-of (staged 32 S) ≡ after-order (staged 32 S) 0

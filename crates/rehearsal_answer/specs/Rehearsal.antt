@@ -1,4 +1,5 @@
--- Document 01, "House table by hand", and R-1: what rehearsal prints for a line, in plain arithmetic. Assumes nothing.
+-- Document 01, "House table by hand", with R-1 and R-4: what rehearsal prints for a line, in plain arithmetic. Assumes
+-- nothing.
 use mathlib.Core.Bool.{cond}
 use mathlib.Core.List.{List}
 use Prim.Native.Nat.{ℕ, zero, suc, _*_, _%_, _^_}
@@ -24,9 +25,9 @@ unfoldable pub Y : ℤ → ℤ
 Y x = scaled (rows house) x
 
 -- "L is the sum of the two mask words of the curve's refresh": the lists begin at j = 2, and the eight rows' kind 9
--- before it take 208 words of A and 96 of B
+-- before it take 192 words of A and 96 of B
 unfoldable pub refresh-L : ℕ
-refresh-L = add 32 (first-a * 210 % 2 ^ 32) (first-b * 98 % 2 ^ 32)
+refresh-L = add 32 (first-a * 194 % 2 ^ 32) (first-b * 98 % 2 ^ 32)
 
 -- demand 3, up to the last r: "exactly floor(Y / 4096) in exact mode"; in one-bit mode "one more exactly when (Y mod
 -- 4096) + (L mod 4096) is at least 4096"
@@ -38,10 +39,10 @@ covered (suc m) x = floor (Y x) 4096 +ℤ pos (slip 12 (wrap 12 (Y x)) refresh-L
 unfoldable pub value : (mode : ℕ) → ℤ → ℤ
 value mode x = cond (ltZ (pos (last-count (rows house))) x) (negℤ (pos 1)) (covered mode x)
 
--- R-1: "The house curve then costs 142 deals and 240 spoken words exact, 129 and 220 one-bit."
+-- R-4: "The house curve has 121 exact and 110 one-bit. Spoken words are as many as before"
 abbrev pub deals : (mode : ℕ) → ℕ
-deals zero = 142
-deals (suc m) = 129
+deals zero = 121
+deals (suc m) = 110
 
 abbrev pub words : (mode : ℕ) → ℕ
 words zero = 240

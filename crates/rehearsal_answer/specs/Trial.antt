@@ -26,7 +26,7 @@ trial-job mode = 10 ∷ 0 ∷ 0 ∷ mode-word mode ∷ []
 
 -- "the first of each splits and the job's lists begin at j = 2", as long as an exact curve needs
 abbrev pub trial-a : List ℕ
-trial-a = multiples first-a 2 262
+trial-a = multiples first-a 2 241
 
 abbrev pub trial-b : List ℕ
 trial-b = multiples first-b 2 120
@@ -34,7 +34,7 @@ trial-b = multiples first-b 2 120
 unfoldable pub trial : (mode m l1 l2 : ℕ) → Trio
 trial mode m l1 l2 =
     together (job-script 32 (trial-job mode) house) trial-a trial-b (in-first m, in-first l1, in-first l2)
-    (replicate 142 0)
+    (replicate 121 0)
 
 -- the code's three hosts, whatever became of its buffer
 pub record Ran (r : Trio′) (s : Trio) : Type 0 where

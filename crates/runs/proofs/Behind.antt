@@ -8,7 +8,7 @@ use native.Mathlib.Decide.{decLe}
 use borrow.Author.Tests.{eqb-false}
 use lib.ListN.{drop, set}
 use lib.Seq.{drop-set-lt}
-use Rattle.gates.specs.Gates.{Gate, Add, Sub, Xor, Mul, And, Refresh, Scale, Plus, Up, Bit, Const, Public, Deal, DealBits}
+use Rattle.gates.specs.Gates.{Gate, Add, Sub, Xor, Mul, And, Refresh, MulKnown, AndKnown, Scale, Plus, Up, Bit, Const, Public, Deal, DealBits}
 use Rattle.gates.specs.Steps.{Step, local, deal, exchange, end, Cursor}
 use Rattle.gates.specs.Walk.{Conf, conf, next}
 use Rattle.gates.specs.Meaning.{meaning, order-steps, job-steps}
@@ -40,6 +40,8 @@ low-gate w k (Xor d a b) ss h r = (h, r)
 low-gate w k (Mul d a b) ss h r = (h, r)
 low-gate w k (And d a b) ss h r = (h, r)
 low-gate w k (Refresh d a) ss h r = (h, r)
+low-gate w k (MulKnown d a b) ss h r = (h, r)
+low-gate w k (AndKnown d a b) ss h r = (h, r)
 low-gate w k (Scale d a n) ss h r = (h, r)
 low-gate w k (Plus d a n) ss h r = (h, r)
 low-gate w k (Up d a n) ss h r = (h, r)

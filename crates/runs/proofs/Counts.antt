@@ -5,7 +5,7 @@ use mathlib.Core.Logic.{inl, inr}
 use mathlib.Core.List.{List, [], _∷_}
 use Prim.Native.Nat.{ℕ, zero, suc, _+_, _*_, _<_}
 use native.Mathlib.Omega.{arith}
-use Rattle.gates.specs.Steps.{Exchange, product, refresh, Step, local, deal, exchange, end, Cursor, origin}
+use Rattle.gates.specs.Steps.{Exchange, product, refresh, known-product, Step, local, deal, exchange, end, Cursor, origin}
 use Rattle.gates.specs.Walk.{Conf, conf, next, far}
 use Rattle.gates.specs.Hosts.{Triple, act}
 use Rattle.gates.specs.Costs.{plus, step-cost, cost}
@@ -26,6 +26,7 @@ words-twice (local d m l ∷ ss) = omega (arith, words-twice ss)
 words-twice (deal d f ∷ ss) = omega (arith, words-twice ss)
 words-twice (exchange d (product O a b) ∷ ss) = omega (arith, words-twice ss)
 words-twice (exchange d (refresh O a) ∷ ss) = omega (arith, words-twice ss)
+words-twice (exchange d (known-product O a b) ∷ ss) = omega (arith, words-twice ss)
 words-twice (end ∷ ss) = omega (arith, words-twice ss)
 
 module _ (A B : List ℕ) (all : List Step) (j₀ : Triple) (shut : Closed all) where

@@ -24,3 +24,4 @@ pub mod Strict
 pub mod Buffers
 pub mod Readings
 pub mod Same
+pub mod KnownSides

@@ -8,7 +8,7 @@ use Prim.Native.Nat.{ℕ, zero, suc, _≤_, _<_}
 use native.Mathlib.Omega.{arith}
 use lib.Dec.{eqb}
 use lib.ListN.{getD, length}
-use Rattle.gates.specs.Gates.{Gate, Add, Sub, Xor, Mul, And, Refresh, Scale, Plus, Up, Bit, Const, Public, Deal, DealBits}
+use Rattle.gates.specs.Gates.{Gate, Add, Sub, Xor, Mul, And, Refresh, MulKnown, AndKnown, Scale, Plus, Up, Bit, Const, Public, Deal, DealBits}
 use Rattle.gates.specs.Steps.{Step, local, deal, exchange, end, Cursor}
 use Rattle.gates.specs.Meaning.{meaning, order-steps, job-steps}
 use Rattle.gates.specs.Hosts.{Triple, share, act}
@@ -140,6 +140,8 @@ gate-misses w i (Xor d a b) h = h
 gate-misses w i (Mul d a b) h = h
 gate-misses w i (And d a b) h = h
 gate-misses w i (Refresh d a) h = h
+gate-misses w i (MulKnown d a b) h = h
+gate-misses w i (AndKnown d a b) h = h
 gate-misses w i (Scale d a n) h = h
 gate-misses w i (Plus d a n) h = h
 gate-misses w i (Up d a n) h = h

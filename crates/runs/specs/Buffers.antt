@@ -11,7 +11,8 @@ use Rattle.runs.specs.Runs.{buffer-of}
 use Rattle.runs.specs.Orders.{first}
 use Rattle.runs.specs.Strict.{Calls}
 
--- the deals on the joint walk, in gate order: L2 of each deal, g2 of each product
+-- the deals on the joint walk, in gate order: L2 of each deal, g2 of each product, of which one with a known value has
+-- none
 unfoldable pub defined-deals : (A B : List ℕ) → List Step → Cursor → Triple → List ℕ
 defined-deals A B [] c j = []
 defined-deals A B (x ∷ ss) c j = dealt A B x c (of0 j) (defined-deals A B ss (past x c) (act A B x c j))

@@ -6,3 +6,4 @@ pub mod InOrder
 pub mod Strict
 pub mod Buffers
 pub mod Readings
+pub mod KnownSides

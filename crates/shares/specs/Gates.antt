@@ -1,5 +1,5 @@
--- Document 01, "Shares" and "Gates", over the operations of any commutative ring: numbers modulo 2^w, and bits with xor
--- and `and`. Assumes nothing.
+-- Document 01, "Shares" and "Gates", and R-4's product, over the operations of any commutative ring: numbers modulo
+-- 2^w, and bits with xor and `and`. Assumes nothing.
 use mathlib.Core.Path.{_≡_}
 use Rattle.words.specs.Ring.{Ops}
 
@@ -59,6 +59,24 @@ module _ {A : Type 0} (O : Ops A) where
         l2 = l2;
       }
 
+  -- R-4, the product of the known value v with b: "a zero mask on one side, so its g1 and g2 are 0". Host 1 speaks
+  -- v × mb - v × Lb1 + L1
+  abbrev pub known-product-word1 : (v mb b1 l1 : A) → A
+  known-product-word1 v mb b1 l1 = v ⊗ mb ⊖ v ⊗ b1 ⊕ l1
+
+  -- host 2 speaks L2 - v × Lb2
+  abbrev pub known-product-word2 : (v b2 l2 : A) → A
+  known-product-word2 v b2 l2 = l2 ⊖ v ⊗ b2
+
+  -- "The new m is the sum of the two spoken words", here too
+  abbrev pub known-product : (v : A) (b : Share A) (l1 l2 : A) → Share A
+  known-product v b l1 l2 =
+      record {
+        m = known-product-word1 v (b .m) (b .l1) l1 ⊕ known-product-word2 v (b .l2) l2;
+        l1 = l1;
+        l2 = l2;
+      }
+
   -- refresh: "host 1 speaks ma - La1 + L1, host 2 speaks L2 - La2; the new m is the sum"
   abbrev pub refresh-word1 : (ma a1 l1 : A) → A
   refresh-word1 ma a1 l1 = ma ⊖ a1 ⊕ l1
@@ -77,3 +95,16 @@ pub record Open {A : Type 0} (O : Ops A) : Type 0 where
   pub product-opens : (a b : Share A) (g1 l1 l2 : A)
       → value O (product O a b g1 l1 l2) ≡ O .mul (value O a) (value O b)
   pub refresh-opens : (a : Share A) (l1 l2 : A) → value O (refresh O a l1 l2) ≡ value O a
+  pub known-product-opens : (v : A) (b : Share A) (l1 l2 : A)
+      → value O (known-product O v b l1 l2) ≡ O .mul v (value O b)
+
+-- R-4: document 01's product of the known value v, whose masks are 0, with g1 = 0 has g2 = 0 too, and its words and its
+-- share are those above
+pub record LikeProduct {A : Type 0} (O : Ops A) : Type 0 where
+  pub no-deal : (v : A) (b : Share A)
+      → product-deal O (known O v .l1) (known O v .l2) (b .l1) (b .l2) (O .nil) ≡ O .nil
+  pub word1 : (v : A) (b : Share A) (l1 : A)
+      → product-word1 O v (b .m) (known O v .l1) (b .l1) (O .nil) l1 ≡ known-product-word1 O v (b .m) (b .l1) l1
+  pub word2 : (v : A) (b : Share A) (l2 : A)
+      → product-word2 O v (b .m) (known O v .l2) (b .l2) (O .nil) l2 ≡ known-product-word2 O v (b .l2) l2
+  pub share : (v : A) (b : Share A) (l1 l2 : A) → product O (known O v) b (O .nil) l1 l2 ≡ known-product O v b l1 l2

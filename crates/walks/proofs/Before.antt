@@ -7,7 +7,7 @@ use native.Mathlib.Nat.{mul-suc}
 use native.Mathlib.Omega.{arith}
 use lib.ListN.{length, getD, take, drop}
 use Rattle.gates.specs.Gates.{Gate}
-use Rattle.gates.specs.Steps.{product, refresh, Step, local, deal, exchange, end, Cursor, past}
+use Rattle.gates.specs.Steps.{product, refresh, known-product, Step, local, deal, exchange, end, Cursor, past}
 use Rattle.gates.specs.Meaning.{meaning, order-steps, job-steps}
 use Rattle.gates.specs.Walk.{far}
 use Rattle.gates.specs.Costs.{Cost, plus, step-cost, cost}
@@ -90,6 +90,7 @@ one-step (local d m l) = omega arith
 one-step (deal d f) = omega arith
 one-step (exchange d (product O p q)) = omega arith
 one-step (exchange d (refresh O p)) = omega arith
+one-step (exchange d (known-product O p q)) = omega arith
 one-step end = omega arith
 
 program-below : (w : ℕ) (gs : List Gate) (ss : List Step) (n : ℕ) → Below (cost ss) n → Below (cost (order-steps w gs ss)) (length gs + n)

@@ -5,9 +5,9 @@ use Prim.Native.Nat.{ℕ, _+_}
 use native.Mathlib.Omega.{arith}
 use lib.ListN.{length, set, length-set}
 use Rattle.gates.specs.declared.Shape.{Shape}
-use Rattle.gates.specs.declared.Shape.the-variants.{Local, Dealing, Product, Refreshing}
+use Rattle.gates.specs.declared.Shape.the-variants.{Local, Dealing, Product, Undealt}
 use Rattle.gates.specs.declared.Used.{Used}
-use Rattle.gates.specs.Steps.{Lane, at, product, refresh, Step, local, deal, exchange, end}
+use Rattle.gates.specs.Steps.{Lane, at, product, refresh, known-product, Step, local, deal, exchange, end}
 use Rattle.gates.specs.Costs.{step-cost, used-at}
 use Rattle.gates.specs.Hosts.{on-mask}
 use Rattle.gates.specs.Speech.{dealt-word, shape}
@@ -42,9 +42,9 @@ module _ (A B : List ℕ) (s : Dealer) (y : Step) {l1 l2 : Lane} where
       by-shape (Product d) _ e
       (p ∙ ap (set (s .l1) d) e1, q ∙ ap (set (s .l2) d) e2, r ∙ ap (set (s .buffer) (s .deals)) (next-dealt A s y ex ev))
 
-  pub holds-refresh : (d : ℕ) {n1 n2 : ℕ} → Refreshing d ≡ shape y → n1 ≡ at A (s .a) → n2 ≡ at B (s .b)
+  pub holds-undealt : (d : ℕ) {n1 n2 : ℕ} → Undealt d ≡ shape y → n1 ≡ at A (s .a) → n2 ≡ at B (s .b)
       → l1 ≡ set (s .l1) d n1 → l2 ≡ set (s .l2) d n2 → Holds (dealing A B y s) l1 l2 (s .buffer)
-  holds-refresh d e e1 e2 p q = by-shape (Refreshing d) _ e (p ∙ ap (set (s .l1) d) e1, q ∙ ap (set (s .l2) d) e2, refl)
+  holds-undealt d e e1 e2 p q = by-shape (Undealt d) _ e (p ∙ ap (set (s .l1) d) e1, q ∙ ap (set (s .l2) d) e2, refl)
 
 -- ---- what it has used
 
@@ -58,6 +58,7 @@ counts-at A B (local d m l) s = (omega arith, omega arith, omega arith)
 counts-at A B (deal d f) s = (refl, omega arith, refl)
 counts-at A B (exchange d (product O p q)) s = (refl, refl, refl)
 counts-at A B (exchange d (refresh O p)) s = (refl, refl, omega arith)
+counts-at A B (exchange d (known-product O p q)) s = (refl, refl, omega arith)
 counts-at A B end s = (omega arith, omega arith, omega arith)
 
 pub counts-behind : (A B : List ℕ) (x : Step) (s : Dealer) (u : Used) → u ≡ used-at x → Counts (dealing A B x s) (more s u)
@@ -75,4 +76,5 @@ size-kept A B (local d m l) s = refl
 size-kept A B (deal d f) s = simp length-set
 size-kept A B (exchange d (product O p q)) s = simp length-set
 size-kept A B (exchange d (refresh O p)) s = refl
+size-kept A B (exchange d (known-product O p q)) s = refl
 size-kept A B end s = refl

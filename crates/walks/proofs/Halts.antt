@@ -4,7 +4,7 @@ use mathlib.Core.Path.{_≡_, refl, ap, _∙_}
 use mathlib.Core.List.{List, [], _∷_, _++_}
 use Prim.Native.Nat.{ℕ, suc}
 use native.Mathlib.Omega.{arith}
-use Rattle.gates.specs.Steps.{product, refresh, Step, local, deal, exchange, end, Cursor, past}
+use Rattle.gates.specs.Steps.{product, refresh, known-product, Step, local, deal, exchange, end, Cursor, past}
 use Rattle.gates.specs.Costs.{step-cost}
 use Rattle.gates.specs.Walk.{walk, Exchanging}
 use Rattle.gates.specs.Hosts.{Pair}
@@ -35,6 +35,7 @@ module _ (P : Worker) (ss : List Step) (o x a b dealt : ℕ) (s : Pair) where
   passes (deal d f) g e = refl
   passes (exchange d (product O p q)) g e = absurd (omega arith)
   passes (exchange d (refresh O p)) g e = absurd (omega arith)
+  passes (exchange d (known-product O p q)) g e = absurd (omega arith)
   passes end g e = absurd g
 
   pub passes-end : (act-end : P .act end (cursor o x a b dealt) s ≡ s)

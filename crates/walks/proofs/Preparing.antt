@@ -7,7 +7,7 @@ use native.Mathlib.Numerals.{towards-suc}
 use native.Mathlib.Omega.{arith}
 use lib.ListN.{length, length-set}
 use lib.Seq.{sets}
-use Rattle.gates.specs.Steps.{at, product, refresh, Step, local, deal, exchange, end, new-at, part2, past-deal, emit, Cursor, past}
+use Rattle.gates.specs.Steps.{at, product, refresh, known-product, Step, local, deal, exchange, end, new-at, part2, past-deal, emit, Cursor, past}
 use Rattle.gates.specs.Walk.{whole, far}
 use Rattle.gates.specs.Hosts.{Pair, on-mask, act0, dealt, deals}
 use Rattle.gates.specs.Speech.{dealt-word, shape}
@@ -31,6 +31,7 @@ module _ (A B : List ℕ) where
   dealt-whole (deal d f ∷ ss) c s t buf = simp towards-suc (dealt-whole ss (past (deal d f) c) _ _ _)
   dealt-whole (exchange d (product O p q) ∷ ss) c s t buf = simp towards-suc (dealt-whole ss (past (exchange d (product O p q)) c) _ _ _)
   dealt-whole (exchange d (refresh O p) ∷ ss) c s t buf = simp towards-suc (dealt-whole ss (past (exchange d (refresh O p)) c) _ _ _)
+  dealt-whole (exchange d (known-product O p q) ∷ ss) c s t buf = simp towards-suc (dealt-whole ss (past (exchange d (known-product O p q)) c) _ _ _)
   dealt-whole (end ∷ ss) c s t buf = dealt-whole ss (past end c) s _ buf
 
   -- the deals of one list of steps, and then those of another
@@ -44,6 +45,7 @@ module _ (A B : List ℕ) where
   deals-append (exchange d (product O p q) ∷ ss) ts c s t =
       ap (λ (ds : List ℕ). part2 (product O p q) (at A (c .a)) (s .0) (s .1) ∷ ds) (deals-append ss ts _ _ _)
   deals-append (exchange d (refresh O p) ∷ ss) ts c s t = deals-append ss ts _ _ _
+  deals-append (exchange d (known-product O p q) ∷ ss) ts c s t = deals-append ss ts _ _ _
   deals-append (end ∷ ss) ts c s t = deals-append ss ts _ _ _
 
   pub deal-append : (ss ts : List Step) (s : Dealer) → deal-all A B (ss ++ ts) s ≡ deal-all A B ts (deal-all A B ss s)
@@ -64,6 +66,7 @@ module _ (A B : List ℕ) where
   room-past (deal d f) ss s h = record { a = omega arith; b = omega arith; deals = simp length-set (omega arith) }
   room-past (exchange d (product O p q)) ss s h = record { a = omega arith; b = omega arith; deals = simp length-set (omega arith) }
   room-past (exchange d (refresh O p)) ss s h = record { a = omega arith; b = omega arith; deals = omega arith }
+  room-past (exchange d (known-product O p q)) ss s h = record { a = omega arith; b = omega arith; deals = omega arith }
   room-past end ss s h = record { a = omega arith; b = omega arith; deals = omega arith }
 
   pub room-first : (ss ts : List Step) (s : Dealer) → Room A B (ss ++ ts) s → Room A B ss s

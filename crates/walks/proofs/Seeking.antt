@@ -9,7 +9,7 @@ use borrow.Author.Tests.{eq-eqb, ne-eqb}
 use lib.Dec.{eqb}
 use lib.ListN.{length, drop}
 use Rattle.gates.specs.Gates.{Gate}
-use Rattle.gates.specs.Steps.{Exchange, product, refresh, Step, local, deal, exchange, end, new-at, past-deal, Cursor, past}
+use Rattle.gates.specs.Steps.{Exchange, product, refresh, known-product, Step, local, deal, exchange, end, new-at, past-deal, Cursor, past}
 use Rattle.gates.specs.Meaning.{meaning, order-steps}
 use Rattle.gates.specs.Walk.{Exchanging}
 use Rattle.gates.specs.Speech.{shape}
@@ -76,11 +76,13 @@ pub record Placed (w : ℕ) (gs : List Gate) (ss : List Step) (n i a dealt i′ 
 g1-of : Exchange → ℕ
 g1-of (product O p q) = 1
 g1-of (refresh O p) = 0
+g1-of (known-product O p q) = 0
 
 takes : (e : Exchange) (a dealt : ℕ) → (new-at e a ≡ a + g1-of e) × (past-deal e dealt ≡ dealt + g1-of e) × (g1-of e ≤ 1)
 unfolding new-at past-deal g1-of
 takes (product O p q) a dealt = omega arith
 takes (refresh O p) a dealt = omega arith
+takes (known-product O p q) a dealt = omega arith
 
 module _ (w : ℕ) (g : Gate) (gs : List Gate) (ss : List Step) (i a dealt i′ a′ dealt′ : ℕ) where
   -- at a gate that is passed, the law of the gates behind it
@@ -177,7 +179,9 @@ module _ (w : ℕ) (g : Gate) (gs : List Gate) (ss : List Step) (i a dealt i′ 
       let two : 2 + a ≡ suc (suc a) = omega arith in
       before d (product O p q) n e (ih n (suc i) (suc (suc a)) (suc dealt) (rw two at f))
   passed ih (exchange d (refresh O p)) zero e h f = arrived d (refresh O p) e f
+  passed ih (exchange d (known-product O p q)) zero e h f = arrived d (known-product O p q) e f
   passed ih (exchange d (refresh O p)) (suc n) e h f = before d (refresh O p) n e (ih n (suc i) (suc a) dealt f)
+  passed ih (exchange d (known-product O p q)) (suc n) e h f = before d (known-product O p q) n e (ih n (suc i) (suc a) dealt f)
   passed ih end n e h f = absurd h
 
 pub placed : (w : ℕ) (gs : List Gate) (ss : List Step) (n i a dealt i′ a′ dealt′ : ℕ)
@@ -208,6 +212,9 @@ not-placed w (g ∷ gs) ss n i a dealt o x c e ho hx =
     go ih (exchange d (product O s t)) (suc m) p h f hm =
         rw (p, not-yet o x c (λ z. omega arith)) (ih m (suc i) (2 + a) (suc dealt) _ f ho (omega arith))
     go ih (exchange d (refresh O s)) zero p h f hm = never (cc)
+    go ih (exchange d (known-product O s t)) zero p h f hm = never (cc)
     go ih (exchange d (refresh O s)) (suc m) p h f hm =
+        rw (p, not-yet o x c (λ z. omega arith)) (ih m (suc i) (suc a) dealt _ f ho (omega arith))
+    go ih (exchange d (known-product O s t)) (suc m) p h f hm =
         rw (p, not-yet o x c (λ z. omega arith)) (ih m (suc i) (suc a) dealt _ f ho (omega arith))
     go ih end m p h f hm = absurd h

@@ -16,7 +16,7 @@ use Rattle.gates.specs.Meaning.{meaning}
 use Rattle.gates.specs.Codes.{step-of}
 use Rattle.gates.specs.Walk.{Exchanging}
 use Rattle.gates.specs.Hosts.{Pair, on-m, on-mask}
-use Rattle.gates.proofs.Codes.{local-code, deal-code, product-code, refresh-code}
+use Rattle.gates.proofs.Codes.{local-code, deal-code, product-code, undealt-code}
 use Rattle.gates.proofs.GateSteps.{OfGate}
 use Rattle.gates.proofs.Uses.{few-used, used-b, behind-a, behind-deals}
 use Rattle.calls.specs.Lent.{Worker, worker-with}
@@ -51,11 +51,11 @@ silent-code w c h =
       | no n ↦ let y = deal-code w c (omega (arith, n)) h in rw (y .is) (silent-deal (c .d) (y .second))
     ]
 
-pub exchanging-code : (w : ℕ) (c : GateCode) → 15 ≤ c .op → c .op < 18 → Exchanging (step-of w c ∷ [])
+pub exchanging-code : (w : ℕ) (c : GateCode) → 15 ≤ c .op → c .op < 20 → Exchanging (step-of w c ∷ [])
 exchanging-code w c l h =
     elim (decLt (c .op) 17) [
       | yes k ↦ rw (product-code w c l k .is) tt
-      | no n ↦ rw (refresh-code w c (omega (arith, n, h))) tt
+      | no n ↦ rw (undealt-code w c (omega (arith, n)) h .is) tt
     ]
 
 -- ---- a gate further, by its code, and by what the code has written and where it stands then

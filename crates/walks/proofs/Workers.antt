@@ -10,10 +10,10 @@ use borrow.Author.Tests.{eq-eqb, ne-eqb}
 use lib.Dec.{eqb}
 use lib.ListN.{set}
 use Rattle.gates.specs.declared.Shape.{Shape}
-use Rattle.gates.specs.declared.Shape.the-variants.{Local, Dealing, Product, Refreshing}
+use Rattle.gates.specs.declared.Shape.the-variants.{Local, Dealing, Product, Undealt}
 use Rattle.gates.specs.declared.Used.{Used}
 use Rattle.gates.specs.Costs.{step-cost, used-at}
-use Rattle.gates.specs.Steps.{Lane, at, Exchange, product, refresh, Step, local, deal, exchange, end, new-at, Cursor}
+use Rattle.gates.specs.Steps.{Lane, at, Exchange, product, refresh, known-product, Step, local, deal, exchange, end, new-at, Cursor}
 use Rattle.gates.specs.Hosts.{Pair, on-m, on-mask, act1, act2, word-of1, word-of2, hear1, hear2}
 use Rattle.gates.specs.Speech.{spoken1, spoken2, met, shape}
 use Rattle.calls.specs.Lent.{Worker, worker1, worker2, worker-with}
@@ -45,6 +45,7 @@ first-after (local d m l) a e = absurd (omega arith)
 first-after (deal d f) a e = absurd (omega arith)
 first-after (exchange d (product O p q)) a e = refl
 first-after (exchange d (refresh O p)) a e = absurd (omega arith)
+first-after (exchange d (known-product O p q)) a e = absurd (omega arith)
 first-after end a e = absurd (omega arith)
 
 first-next : (y : Step) (a : ℕ) → (used-at y .a ≡ 2 → ⊥) → first-at y a ≡ a
@@ -53,6 +54,7 @@ first-next (local d m l) a n = refl
 first-next (deal d f) a n = refl
 first-next (exchange d (product O p q)) a n = absurd (n refl)
 first-next (exchange d (refresh O p)) a n = refl
+first-next (exchange d (known-product O p q)) a n = refl
 first-next end a n = refl
 
 -- ---- the word spoken, and the lanes when the other's is heard
@@ -69,7 +71,7 @@ abbrev pub heard-by : Shape → (sum new : ℕ) → Pair → Pair
 heard-by Local v n s = s
 heard-by (Dealing d) v n s = s
 heard-by (Product d) v n s = (set (s .0) d v, set (s .1) d n)
-heard-by (Refreshing d) v n s = (set (s .0) d v, set (s .1) d n)
+heard-by (Undealt d) v n s = (set (s .0) d v, set (s .1) d n)
 
 module _ (M D : List ℕ) (o x a b dealt : ℕ) (s : Pair) where
   -- the new mask of an exchange
@@ -97,11 +99,13 @@ module _ (M D : List ℕ) (o x a b dealt : ℕ) (s : Pair) where
   heard-if true (deal d f) new own v h p = refl
   heard-if true (exchange d (product O i j)) new own v h p = rw (h d (product O i j) refl, p)
   heard-if true (exchange d (refresh O i)) new own v h p = rw (h d (refresh O i) refl, p)
+  heard-if true (exchange d (known-product O i j)) new own v h p = rw (h d (known-product O i j) refl, p)
   heard-if true end new own v h p = refl
   heard-if false (local d m l) new own v h p = refl
   heard-if false (deal d f) new own v h p = refl
   heard-if false (exchange d (product O i j)) new own v h p = rw (h d (product O i j) refl, p)
   heard-if false (exchange d (refresh O i)) new own v h p = rw (h d (refresh O i) refl, p)
+  heard-if false (exchange d (known-product O i j)) new own v h p = rw (h d (known-product O i j) refl, p)
   heard-if false end new own v h p = refl
 
   module _ (h : ℕ) (y : Step) where

@@ -5,7 +5,7 @@ use mathlib.Core.List.{List, [], _∷_}
 use Prim.Native.Nat.{ℕ, _+_, _≤_}
 use lib.ListN.{length, set}
 use Rattle.gates.specs.declared.Shape.{Shape}
-use Rattle.gates.specs.declared.Shape.the-variants.{Local, Dealing, Product, Refreshing}
+use Rattle.gates.specs.declared.Shape.the-variants.{Local, Dealing, Product, Undealt}
 use Rattle.gates.specs.declared.Used.{Used}
 use Rattle.gates.specs.Steps.{Lane, at, Step}
 use Rattle.gates.specs.Costs.{cost}
@@ -78,9 +78,9 @@ with-product A B x d s =
       buffer = set (s .buffer) (s .deals) (next-deal A x s);
     }
 
--- "new L1 from A, L2 from B"
-abbrev pub with-refresh : (A B : List ℕ) (d : ℕ) → Dealer → Dealer
-with-refresh A B d s =
+-- a refresh: "new L1 from A, L2 from B"; a product with a known value: "takes one A word and sends no deal"
+abbrev pub with-undealt : (A B : List ℕ) (d : ℕ) → Dealer → Dealer
+with-undealt A B d s =
     record {
       a = s .a + 1;
       b = s .b + 1;
@@ -95,7 +95,7 @@ module _ (A B : List ℕ) where
   shaped Local x s = with-local x s
   shaped (Dealing d) x s = with-deal A x d s
   shaped (Product d) x s = with-product A B x d s
-  shaped (Refreshing d) x s = with-refresh A B d s
+  shaped (Undealt d) x s = with-undealt A B d s
 
   unfoldable pub dealing : Step → Dealer → Dealer
   dealing x s = shaped (shape x) x s

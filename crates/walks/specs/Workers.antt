@@ -16,7 +16,7 @@ cursor o x a b n = record { order = o; turn = x; a = a; b = b; deals = n }
 unfoldable pub deal-taken : (host : ℕ) (masks deals : List ℕ) (a dealt : ℕ) → ℕ
 deal-taken h M D a n = cond (eqb h 1) (at M a) (at D n)
 
--- where L1 of a product or refresh stands in A: after g1
+-- where L1 of a product or refresh stands in A: after g1, where the step has one
 unfoldable pub first-at : Step → ℕ → ℕ
 first-at (local d m l) a = a
 first-at (deal d f) a = a

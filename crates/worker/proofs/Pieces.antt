@@ -83,13 +83,13 @@ module _ (w : ℕ) (ps : List Row) (ord : Order) (i : ℕ) (p : Piece) (S : Stan
     abbrev from-here : Answer
     from-here = reported P (steps-from w i (drop o programs)) (cursor o x a b dealt) s
 
-    pub at-exchange : 15 ≤ c .op → c .op < 18 → (v : ℕ)
+    pub at-exchange : 15 ≤ c .op → c .op < 20 → (v : ℕ)
         → v ≡ word-at (P .say) (step-of w c ∷ []) (cursor 0 0 a′ b dealt′) (m, l) → from-here ≡ going-on (b + 1) v m l o x
     at-exchange lo hi v ev =
         Programs.halted w h M D programs o x i a b dealt s _ e hs (gates-behind w ps ord i p S) (p .from) (piece-cut w ps ord i p S)
         j a′ dealt′ m l q (step-of w c) _ (exchanging-code w c lo hi) (first-step w hs j c ec (inside w hs j c ec hi)) v ev
 
-    module _ (past : 18 ≤ c .op) where
+    module _ (past : 20 ≤ c .op) where
       over : drop j hs ≡ []
       over = drop-of-length-le hs (outside w hs j c ec past)
 

@@ -142,7 +142,7 @@ pub fn meet(
             put(m, d, sum);
             put(mask, d, new);
         }
-        Shape::Refreshing { d } => {
+        Shape::Undealt { d } => {
             put(m, d, sum);
             put(mask, d, new);
         }

@@ -167,11 +167,11 @@ fn sum_orders() -> [u32; 256] {
 
 // The sum over n turns of a workload on the first orders of a job, on lists as long as any job needs, or of a day.
 fn summed(w: u8, count: u32, n: u32) -> u32 {
-    let mut a = [0u32; 30080];
+    let mut a = [0u32; 27712];
     fill(&mut a, 2654435769, 1);
     let mut b = [0u32; 13824];
     fill(&mut b, 2246822519, 1);
-    let mut deals = [0u32; 16256];
+    let mut deals = [0u32; 13888];
     if w == b'9' {
         return summed_day(count, &a, &b, &mut deals, n);
     }

@@ -1,7 +1,7 @@
 use mathlib.Core.Logic.{⊎-elim}
 use mathlib.Core.Path.{sym, _∙_}
 use native.Mathlib.Omega.{arith}
-use Rattle.walks.proofs.Dealers.{holds-local, holds-deal, holds-product, holds-refresh}
+use Rattle.walks.proofs.Dealers.{holds-local, holds-deal, holds-product, holds-undealt}
 use borrow.Author.Needs.{needs}
 use Rattle.dealer_gate.proofs.deal_gate.Statement.{statement}
 use Rattle.dealer_gate.proofs.deal_gate.Tie as tie
@@ -43,7 +43,7 @@ returns-2 : tie.Need-returns-2
 returns-2 c =
     let n = c .before .before .before in
     let e = n .before .before .before .before in
-    holds-refresh _ _ _ _ _ (sym (e .shape .given .1) ∙ e .before .before .shape-of .ensures) (n .before .word-at .ensures)
+    holds-undealt _ _ _ _ _ (sym (e .shape .given .1) ∙ e .before .before .shape-of .ensures) (n .before .word-at .ensures)
     (c .before .word-at2 .ensures) (n .put .ensures) (c .put2 .ensures)
 
 word-at-requires-3 : tie.Need-word-at-requires-3

@@ -5,7 +5,7 @@ use Rattle.words.specs.Signed.{shr-signed}
 use Rattle.gates.specs.Gates.{Field, Signed, OfSum, OfNegated, OfBits}
 use Rattle.gates.specs.Meaning.{part, dealt-of}
 use Rattle.gates.specs.Codes.{fetched, gates-with, fetched-step}
-use Rattle.gates.proofs.Codes.{coded, mul-code, and-code, undealt-code}
+use Rattle.gates.proofs.Codes.{coded, mul-code, and-code, no-deal-code}
 use Rattle.gates.proofs.Spoken.{dealt-product, dealt-mask, dealt-bits}
 use borrow.Author.Needs.{needs}
 use Rattle.gate_deal.proofs.deal_word.Statement.{statement}
@@ -146,7 +146,7 @@ returns-7 c =
 returns-8 : tie.Need-returns-8
 returns-8 c =
     let n = c .match .rest in
-    undealt-code 32 (c .before .before .before .args .g) (n .0 .0 .0 .0 .0 .0 .1) (n .0 .0 .0 .0 .0 .1) (n .0 .0 .0 .0 .1) (n .0 .0 .0 .1)
+    no-deal-code 32 (c .before .before .before .args .g) (n .0 .0 .0 .0 .0 .0 .1) (n .0 .0 .0 .0 .0 .1) (n .0 .0 .0 .0 .1) (n .0 .0 .0 .1)
     (n .0 .0 .1) (n .0 .1) (n .1) _ _ _
 
 pub deal-word-spec : {M : Type 1} → statement M

@@ -1,5 +1,5 @@
 use Rattle.gates.specs.Codes.{step-of}
-use Rattle.gates.specs.declared.Shape.the-variants.{Local, Dealing, Product, Refreshing}
+use Rattle.gates.specs.declared.Shape.the-variants.{Local, Dealing, Product, Undealt}
 use Rattle.gate_shape.proofs.Uses.{used-there}
 use borrow.Author.Needs.{needs}
 use Rattle.gate_shape.proofs.used_by.Statement.{statement}
@@ -33,7 +33,7 @@ returns-3 c = used-there (step-of 32 (c .before .before .before .args .g)) _ (Pr
     (c .enum-told3 .given .1)
 
 returns-4 : tie.Need-returns-4
-returns-4 c = used-there (step-of 32 (c .before .before .before .args .g)) _ (Refreshing _) (c .before .before .shape-of .ensures)
+returns-4 c = used-there (step-of 32 (c .before .before .before .args .g)) _ (Undealt _) (c .before .before .shape-of .ensures)
     (c .enum-told4 .given .1)
 
 pub used-by-spec : {M : Type 1} → statement M

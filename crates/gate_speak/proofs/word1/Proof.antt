@@ -1,6 +1,6 @@
 use Rattle.words.specs.Words.{numbers, bits}
-use Rattle.gates.proofs.Codes.{mul-code, and-code, refresh-code, silent-code}
-use Rattle.gates.proofs.Spoken.{product-said1, refresh-said1}
+use Rattle.gates.proofs.Codes.{mul-code, and-code, refresh-code, mul-known-code, and-known-code, silent-code}
+use Rattle.gates.proofs.Spoken.{product-said1, refresh-said1, known-product-said1}
 use borrow.Author.Needs.{needs}
 use Rattle.gate_speak.proofs.word1.Statement.{statement}
 use Rattle.gate_speak.proofs.word1.Tie as tie
@@ -44,6 +44,30 @@ at-requires-10 c κs = search needs
 refresh-word1-requires : tie.Need-refresh-word1-requires
 refresh-word1-requires c κs = search needs
 
+at-requires-11 : tie.Need-at-requires-11
+at-requires-11 c κs = search needs
+
+at-requires-12 : tie.Need-at-requires-12
+at-requires-12 c κs = search needs
+
+at-requires-13 : tie.Need-at-requires-13
+at-requires-13 c κs = search needs
+
+known-word1-requires : tie.Need-known-word1-requires
+known-word1-requires c κs = search needs
+
+at-requires-14 : tie.Need-at-requires-14
+at-requires-14 c κs = search needs
+
+at-requires-15 : tie.Need-at-requires-15
+at-requires-15 c κs = search needs
+
+at-requires-16 : tie.Need-at-requires-16
+at-requires-16 c κs = search needs
+
+and-known-word1-requires : tie.Need-and-known-word1-requires
+and-known-word1-requires c κs = search needs
+
 returns : tie.Need-returns
 returns c =
     let f = c .before .before .before .before in
@@ -66,8 +90,20 @@ returns-3 c =
 
 returns-4 : tie.Need-returns-4
 returns-4 c =
+    let f = c .before .before .before in
+    known-product-said1 (numbers 32) _ _ _ _ _ _ _ _ (mul-known-code 32 (f .before .before .args .g) (f .before .match .keys4)) (f .at11 .ensures)
+    (c .before .before .at12 .ensures) (c .before .at13 .ensures) (c .known-word1 .ensures)
+
+returns-5 : tie.Need-returns-5
+returns-5 c =
+    let f = c .before .before .before in
+    known-product-said1 (bits 32) _ _ _ _ _ _ _ _ (and-known-code 32 (f .before .before .args .g) (f .before .match .keys5)) (f .at14 .ensures)
+    (c .before .before .at15 .ensures) (c .before .at16 .ensures) (c .and-known-word1 .ensures)
+
+returns-6 : tie.Need-returns-6
+returns-6 c =
     let n = c .match .rest in
-    silent-code 32 (c .before .args .g) (n .0 .0 .1) (n .0 .1) (n .1) .first _ _ _ _
+    silent-code 32 (c .before .args .g) (n .0 .0 .0 .0 .1) (n .0 .0 .0 .1) (n .0 .0 .1) (n .0 .1) (n .1) .first _ _ _ _
 
 pub word1-spec : {M : Type 1} → statement M
 word1-spec =
@@ -86,7 +122,17 @@ word1-spec =
     at-requires-9
     at-requires-10
     refresh-word1-requires
+    at-requires-11
+    at-requires-12
+    at-requires-13
+    known-word1-requires
+    at-requires-14
+    at-requires-15
+    at-requires-16
+    and-known-word1-requires
     returns
     returns-2
     returns-3
-    returns-4)
+    returns-4
+    returns-5
+    returns-6)

@@ -1,6 +1,6 @@
 use Rattle.words.specs.Words.{numbers, bits}
-use Rattle.gates.proofs.Codes.{mul-code, and-code, refresh-code, silent-code}
-use Rattle.gates.proofs.Spoken.{product-said2, refresh-said2}
+use Rattle.gates.proofs.Codes.{mul-code, and-code, refresh-code, mul-known-code, and-known-code, silent-code}
+use Rattle.gates.proofs.Spoken.{product-said2, refresh-said2, known-product-said2}
 use borrow.Author.Needs.{needs}
 use Rattle.gate_speak.proofs.word2.Statement.{statement}
 use Rattle.gate_speak.proofs.word2.Tie as tie
@@ -41,6 +41,24 @@ at-requires-9 c κs = search needs
 refresh-word2-requires : tie.Need-refresh-word2-requires
 refresh-word2-requires c κs = search needs
 
+at-requires-10 : tie.Need-at-requires-10
+at-requires-10 c κs = search needs
+
+at-requires-11 : tie.Need-at-requires-11
+at-requires-11 c κs = search needs
+
+known-word2-requires : tie.Need-known-word2-requires
+known-word2-requires c κs = search needs
+
+at-requires-12 : tie.Need-at-requires-12
+at-requires-12 c κs = search needs
+
+at-requires-13 : tie.Need-at-requires-13
+at-requires-13 c κs = search needs
+
+and-known-word2-requires : tie.Need-and-known-word2-requires
+and-known-word2-requires c κs = search needs
+
 returns : tie.Need-returns
 returns c =
     let f = c .before .before .before .before in
@@ -63,8 +81,20 @@ returns-3 c =
 
 returns-4 : tie.Need-returns-4
 returns-4 c =
+    let f = c .before .before in
+    known-product-said2 (numbers 32) _ _ _ _ _ _ _ _ (mul-known-code 32 (f .before .before .args .g) (f .before .match .keys4)) (f .at10 .ensures)
+    (c .before .at11 .ensures) (c .known-word2 .ensures)
+
+returns-5 : tie.Need-returns-5
+returns-5 c =
+    let f = c .before .before in
+    known-product-said2 (bits 32) _ _ _ _ _ _ _ _ (and-known-code 32 (f .before .before .args .g) (f .before .match .keys5)) (f .at12 .ensures)
+    (c .before .at13 .ensures) (c .and-known-word2 .ensures)
+
+returns-6 : tie.Need-returns-6
+returns-6 c =
     let n = c .match .rest in
-    silent-code 32 (c .before .args .g) (n .0 .0 .1) (n .0 .1) (n .1) .second _ _ _ _
+    silent-code 32 (c .before .args .g) (n .0 .0 .0 .0 .1) (n .0 .0 .0 .1) (n .0 .0 .1) (n .0 .1) (n .1) .second _ _ _ _
 
 pub word2-spec : {M : Type 1} → statement M
 word2-spec =
@@ -82,7 +112,15 @@ word2-spec =
     and-word2-requires
     at-requires-9
     refresh-word2-requires
+    at-requires-10
+    at-requires-11
+    known-word2-requires
+    at-requires-12
+    at-requires-13
+    and-known-word2-requires
     returns
     returns-2
     returns-3
-    returns-4)
+    returns-4
+    returns-5
+    returns-6)

@@ -22,20 +22,14 @@ mul-t8 c = search needs
 add-t10 : tie.Need-add-t10
 add-t10 c = search needs
 
-add-t11 : tie.Need-add-t11
-add-t11 c = search needs
+mul-t11 : tie.Need-mul-t11
+mul-t11 c = search needs
 
-mul-t12 : tie.Need-mul-t12
-mul-t12 c = search needs
+add-t12 : tie.Need-add-t12
+add-t12 c = search needs
 
 add-t13 : tie.Need-add-t13
 add-t13 c = search needs
-
-add-t14 : tie.Need-add-t14
-add-t14 c = search needs
-
-add-t15 : tie.Need-add-t15
-add-t15 c = search needs
 
 returns-2 : tie.Need-returns-2
 returns-2 c = λ x gs. adder-later 32 gs x _ _ _ _ (c .if1 .left) (rw rounds-32 (c .before .pre .0))
@@ -50,9 +44,7 @@ adder-place-spec =
     sub-t7
     mul-t8
     add-t10
-    add-t11
-    mul-t12
+    mul-t11
+    add-t12
     add-t13
-    add-t14
-    add-t15
     returns-2)

@@ -2,7 +2,7 @@ use mathlib.Core.Path.{_≡_, _∙_}
 use denote.Ref.{now}
 use Rattle.gates.specs.Codes.{step-of}
 use Rattle.gates.specs.declared.Shape.{Shape}
-use Rattle.gates.specs.declared.Shape.the-variants.{Local, Dealing, Product, Refreshing}
+use Rattle.gates.specs.declared.Shape.the-variants.{Local, Dealing, Product, Undealt}
 use Rattle.walks.specs.Workers.{cursor, heard-at}
 use Rattle.walks.proofs.Workers.{heard-by, hears}
 use borrow.Author.Needs.{needs}
@@ -66,7 +66,7 @@ returns c =
 returns-2 : tie.Need-returns-2
 returns-2 c =
     let d = c .before .before .before .before .before in
-    (λ i. (c .before .before .put3 .ensures i, c .put4 .ensures i)) ∙ at-shape (d .before .before) (Refreshing _) (d .d2 .given .1)
+    (λ i. (c .before .before .put3 .ensures i, c .put4 .ensures i)) ∙ at-shape (d .before .before) (Undealt _) (d .d2 .given .1)
 
 returns-3 : tie.Need-returns-3
 returns-3 c = at-shape (c .before .before) Local (c .enum-told .given .1)

@@ -7,7 +7,7 @@ use Rattle.workloads.proofs.summed.Statement.{statement}
 use Rattle.workloads.proofs.summed.Tie as tie
 
 abbrev Inv-loop : tie.InvT-loop
-Inv-loop w count n a b deals₀ words curves sums sum₀ i₀ deals sum i = length deals ≡ 16256
+Inv-loop w count n a b deals₀ words curves sums sum₀ i₀ deals sum i = length deals ≡ 13888
 
 abbrev μ-loop : tie.MeasureT-loop
 μ-loop w count n a b deals₀ words curves sums sum₀ i₀ deals sum i = n - i
