@@ -1,13 +1,14 @@
 /* Workloads over the engine in C. bench [-p] W S N: workload W on a job of S orders, N times, and a sum over what came
  * out, which the crate workloads prints too. bench [-p] rehearsal: the rehearsal program, lines of standard input.
- * -p: hears in place. Status 3: a job of theirs, or the day, is refused. */
-#include "engine.h"
+ * Workload 10 loads a table of S rows. -p: hears in place. Status 3: a job of theirs, or the day, is refused. */
+#include "checks.h"
 #include <stdio.h>
 #include <stdlib.h>
 #include <string.h>
 #include <unistd.h>
 
 static uint32_t A[MOST_A], B[MOST_B], D[MOST_DEALS], curves[256], sums[256], shares[3][DAY_WORDS];
+static uint8_t text[TEXT_BYTES];
 static const struct list table = {house, 16};
 static int in_place;
 
@@ -133,7 +134,15 @@ static uint32_t probing(uint32_t i)
     return (r.number + r.index * 1000) * 65537 + r.spoken * 257 + r.state.order * 31 + r.state.turn;
 }
 
-/* of curves 1 preparation, 2 and 3 starting hosts 1 and 2, 4 a run; of sums 5, 6, 7 likewise; 8 probing; 9 a day */
+static __attribute__((noinline)) uint32_t loading(size_t rows, uint32_t v)
+{
+    text[4] = (uint8_t)v;
+    struct loaded r = load(text, RECORD * rows);
+    return r.number + r.words + r.table[1] + r.table[2 * rows - 1];
+}
+
+/* of curves 1 preparation, 2 and 3 starting hosts 1 and 2, 4 a run; of sums 5, 6, 7 likewise; 8 probing; 9 a day; 10
+ * loading */
 static uint32_t once(int w, size_t orders, uint32_t x)
 {
     struct list curve = {curves, 4 * orders}, sum = {sums, 4 * orders};
@@ -147,6 +156,7 @@ static uint32_t once(int w, size_t orders, uint32_t x)
     case 7: return starting(2, sum, x);
     case 8: return probing(x);
     case 9: return orders == WHOLE_DAY ? running_day() : hearing_in_curve((uint32_t)orders, x);
+    case 10: return loading(orders, x);
     }
     return 0;
 }
@@ -282,6 +292,7 @@ int main(int argc, char **argv)
     if (argc != 4)
         return 2;
     sample_day(shares);
+    sample_text(text);
     if (!accepted(curves) || !accepted(sums) || start_day(1, &day1).number || start_day(2, &day2).number)
         return 3;
     uint32_t sum = 0;

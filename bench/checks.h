@@ -1,5 +1,5 @@
-/* What every host does first: conditions 1 to 7 of document 01, 12 of R-3, and the counts before a place. The curve's
- * slopes. */
+/* What every host does first: conditions 1 to 7 of document 01, 12 of R-3, and the counts before a place. Loading a
+ * table, 13 to 15 of R-5. The curve's slopes. */
 #ifndef CHECKS_H
 #define CHECKS_H
 #include "engine.h"
@@ -30,6 +30,37 @@ static inline int keeps_rules(struct list t)
     }
     return 1;
 }
+
+/* ---- loading */
+
+enum { RECORD = 6, MARK_1 = 195, MARK_2 = 90, ROWS_MOST = 16 };
+
+struct loaded { u32 number, words, table[2 * ROWS_MOST]; };
+
+static inline u32 two_bytes(const uint8_t *low) { return low[0] | (u32)low[1] << 8; }
+
+static inline struct loaded load(const uint8_t *text, size_t bytes)
+{
+    struct loaded r = {0};
+    size_t n = bytes / RECORD;
+    if (bytes % RECORD)
+        return (struct loaded){.number = 13};
+    for (size_t i = 0; i < n; i++)
+        if (text[RECORD * i] != MARK_1 || text[RECORD * i + 1] != MARK_2)
+            return (struct loaded){.number = 13};
+    if (n < 2 || n > ROWS_MOST)
+        return (struct loaded){.number = 14};
+    for (size_t i = 0; i < n; i++) {
+        r.table[2 * i] = two_bytes(text + RECORD * i + 2);
+        r.table[2 * i + 1] = two_bytes(text + RECORD * i + 4);
+    }
+    if (!keeps_rules((struct list){r.table, 2 * n}))
+        return (struct loaded){.number = 15};
+    r.words = 2 * (u32)n;
+    return r;
+}
+
+/* ---- counts */
 
 /* Of a curve: a kind 9 for each row, and as much once more behind the truncation. */
 static inline struct cost exact_curve(u32 rows)

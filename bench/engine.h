@@ -58,4 +58,17 @@ static inline void sample_day(uint32_t shares[3][DAY_WORDS])
             shares[host][2 * q] = of[host][0], shares[host][2 * q + 1] = of[host][1];
     }
 }
+
+/* Workload 10 loads the first S rows of this text. */
+enum { TEXT_BYTES = 16 * 6 };
+
+static inline void sample_text(uint8_t text[TEXT_BYTES])
+{
+    for (uint32_t i = 0; i < 16; i++) {
+        const uint32_t r = 255 * i, c = 1250 * i;
+        const uint8_t record[6] = {195, 90, r % 256, r / 256, c % 256, c / 256};
+        for (uint32_t j = 0; j < 6; j++)
+            text[6 * i + j] = record[j];
+    }
+}
 #endif

@@ -10,6 +10,7 @@ struct job { const uint32_t *words; size_t n; };
 
 static uint32_t A[MOST_A], B[MOST_B], D[MOST_DEALS], curves[256], sums[256], table[LAMPHIEK_HOUSE_WORDS];
 static uint32_t shares[3][DAY_WORDS];
+static uint8_t text[TEXT_BYTES];
 
 #define JOB(job) (job).words, (job).n, table, LAMPHIEK_HOUSE_WORDS
 #define LENT_1(job) 1, JOB(job), A, MOST_A, D, MOST_DEALS
@@ -76,6 +77,14 @@ static uint32_t hearing_in_curve(uint32_t quarter, uint32_t v)
     return r.number * 65537 + r.count * 257 + s.order * 31 + s.turn + s.m[0];
 }
 
+static uint32_t loading(size_t rows, uint32_t v)
+{
+    uint32_t loaded[LAMPHIEK_TABLE_WORDS] = {0};
+    text[4] = (uint8_t)v;
+    lamphiek_answer r = lamphiek_load(text, LAMPHIEK_RECORD_BYTES * rows, loaded);
+    return r.number + r.count + loaded[1] + loaded[2 * rows - 1];
+}
+
 static uint32_t once(int w, size_t orders, uint32_t x)
 {
     struct job curve = {curves, LAMPHIEK_ORDER_WORDS * orders}, sum = {sums, LAMPHIEK_ORDER_WORDS * orders};
@@ -88,6 +97,7 @@ static uint32_t once(int w, size_t orders, uint32_t x)
     case 6: return starting(1, sum, x);
     case 7: return starting(2, sum, x);
     case 9: return orders == WHOLE_DAY ? running_day() : hearing_in_curve((uint32_t)orders, x);
+    case 10: return loading(orders, x);
     }
     return 0;
 }
@@ -105,6 +115,7 @@ int main(int argc, char **argv)
                                                  (14 * i + 2) % 16}, 16);
     }
     sample_day(shares);
+    sample_text(text);
     if (argc != 4)
         return 2;
     uint32_t sum = 0;

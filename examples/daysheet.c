@@ -1,4 +1,7 @@
-/* A day of the house table, the three hosts in one process: daysheet <READINGS
+/* A day on the house table or a hotel's own, the three hosts in one process: daysheet [TABLE] <READINGS
+ *
+ * TABLE is a file with a table's text (R-5): six bytes for each row, 195 and 90, then its count and its micrograms per
+ * litre, each in two bytes, low byte first. Where none is given it is the house table.
  *
  * Reads the 96 quarter-hour readings of a day from standard input, one to a line (an optional minus and 1 to 10 digits;
  * the last line may lack its newline), and prints what the plant room opens, and what the day used:
@@ -9,8 +12,9 @@
  *     words 23064
  *
  * A quarter above the table's last count is no reading; it enters the mean as -1. A line that is no reading, or is out
- * of the range that can be split (11), is named on standard error, and so is one that is missing or too many: then
- * nothing is run and nothing printed. Exit status: 0, or 1 where that or something else went wrong. */
+ * of the range that can be split (11), is named on standard error, and so is one that is missing or too many, and a
+ * table that is refused (13 to 15): then nothing is run and nothing printed. Exit status: 0, or 1 where that or
+ * something else went wrong. */
 #include <inttypes.h>
 #include <stdio.h>
 #include <stdlib.h>
@@ -25,7 +29,8 @@ enum { LINE_BYTES = 64 }; /* at most */
 enum { END = LAMPHIEK_QUARTERS + 1 }; /* the order of the end: the quarters and the mean are done */
 
 struct day {
-    uint32_t table[LAMPHIEK_HOUSE_WORDS];
+    uint32_t table[LAMPHIEK_TABLE_WORDS];
+    size_t table_words;
     uint32_t shares[3][LAMPHIEK_DAY_WORDS]; /* what hosts 0, 1 and 2 got of the readings */
     uint32_t *a, *b, *deals;
     lamphiek_counts counts;
@@ -52,6 +57,53 @@ static void stop_at(int line, const char *why)
 {
     fprintf(stderr, "daysheet: line %d: %s\n", line, why);
     exit(1);
+}
+
+/* ---- the table */
+
+/* A file's bytes, in room that was taken for them. */
+static uint8_t *read_file(const char *name, size_t *bytes)
+{
+    FILE *file = fopen(name, "rb");
+    uint8_t *text = NULL;
+    size_t room = 0, n = 0;
+    while (file && !feof(file) && !ferror(file)) {
+        if (n == room) {
+            room = 2 * room + 256;
+            text = realloc(text, room);
+            if (!text)
+                stop("no room for the table's text");
+        }
+        n += fread(text + n, 1, room - n, file);
+    }
+    if (!file || ferror(file)) {
+        fprintf(stderr, "daysheet: %s cannot be read\n", name);
+        exit(1);
+    }
+    fclose(file);
+    *bytes = n;
+    return text;
+}
+
+/* Loads the table of a file, or takes the house table. */
+static void take_table(struct day *d, const char *name)
+{
+    size_t n = 0;
+    if (!name) {
+        lamphiek_house(d->table);
+        d->table_words = LAMPHIEK_HOUSE_WORDS;
+        return;
+    }
+    uint8_t *text = read_file(name, &n);
+    lamphiek_answer r = lamphiek_load(text, n, d->table);
+    free(text);
+    if (r.number == LAMPHIEK_RECORD)
+        stop("the table is refused with 13, a record is cut short or its mark is wrong");
+    if (r.number == LAMPHIEK_RECORD_COUNT)
+        stop("the table is refused with 14, it has fewer than 2 or more than 16 records");
+    if (r.number == LAMPHIEK_ROW)
+        stop("the table is refused with 15, a row's range or rise is broken");
+    d->table_words = r.count;
 }
 
 /* ---- controller */
@@ -138,16 +190,16 @@ static void count(struct day *d)
     static const uint32_t mean[LAMPHIEK_ORDER_WORDS] = {LAMPHIEK_EXACT, 0, 0, 16};
     const uint32_t n = LAMPHIEK_QUARTERS;
     lamphiek_counts q = {0, 0, 0, 0}, m = {0, 0, 0, 0};
-    stop_if(lamphiek_check(curve, LAMPHIEK_ORDER_WORDS, d->table, LAMPHIEK_HOUSE_WORDS, &q).number, "the table");
-    stop_if(lamphiek_check(mean, LAMPHIEK_ORDER_WORDS, d->table, LAMPHIEK_HOUSE_WORDS, &m).number, "the mean");
+    stop_if(lamphiek_check(curve, LAMPHIEK_ORDER_WORDS, d->table, d->table_words, &q).number, "the table");
+    stop_if(lamphiek_check(mean, LAMPHIEK_ORDER_WORDS, d->table, d->table_words, &m).number, "the mean");
     d->counts = (lamphiek_counts){n * q.deals + m.deals, n * q.words + m.words, n * q.a + m.a, n * q.b + m.b};
 }
 
 static void prepare(struct day *d)
 {
     lamphiek_answer p =
-        lamphiek_day_prepare(&d->masks, d->table, LAMPHIEK_HOUSE_WORDS, d->shares[0], LAMPHIEK_DAY_WORDS, d->a,
-                             d->counts.a, d->b, d->counts.b, d->deals, d->counts.deals);
+        lamphiek_day_prepare(&d->masks, d->table, d->table_words, d->shares[0], LAMPHIEK_DAY_WORDS, d->a, d->counts.a,
+                             d->b, d->counts.b, d->deals, d->counts.deals);
     stop_if(p.number, "the preparation");
     d->dealt = p.count;
 }
@@ -155,15 +207,15 @@ static void prepare(struct day *d)
 /* Hosts 1 and 2, each hearing what the other spoke, until the end. */
 static void work(struct day *d)
 {
-    lamphiek_answer from1 = lamphiek_day_start(&d->one, 1, d->table, LAMPHIEK_HOUSE_WORDS, d->shares[1],
-                                               LAMPHIEK_DAY_WORDS, d->a, d->counts.a, NULL, 0);
-    lamphiek_answer from2 = lamphiek_day_start(&d->two, 2, d->table, LAMPHIEK_HOUSE_WORDS, d->shares[2],
-                                               LAMPHIEK_DAY_WORDS, d->b, d->counts.b, d->deals, d->dealt);
+    lamphiek_answer from1 = lamphiek_day_start(&d->one, 1, d->table, d->table_words, d->shares[1], LAMPHIEK_DAY_WORDS,
+                                               d->a, d->counts.a, NULL, 0);
+    lamphiek_answer from2 = lamphiek_day_start(&d->two, 2, d->table, d->table_words, d->shares[2], LAMPHIEK_DAY_WORDS,
+                                               d->b, d->counts.b, d->deals, d->dealt);
     while (!from1.number && !from2.number && d->one.order < END) {
         uint32_t word1 = from1.word, word2 = from2.word;
-        from1 = lamphiek_day_hear(&d->one, 1, d->table, LAMPHIEK_HOUSE_WORDS, d->shares[1], LAMPHIEK_DAY_WORDS, d->a,
+        from1 = lamphiek_day_hear(&d->one, 1, d->table, d->table_words, d->shares[1], LAMPHIEK_DAY_WORDS, d->a,
                                   d->counts.a, NULL, 0, word2);
-        from2 = lamphiek_day_hear(&d->two, 2, d->table, LAMPHIEK_HOUSE_WORDS, d->shares[2], LAMPHIEK_DAY_WORDS, d->b,
+        from2 = lamphiek_day_hear(&d->two, 2, d->table, d->table_words, d->shares[2], LAMPHIEK_DAY_WORDS, d->b,
                                   d->counts.b, d->deals, d->dealt, word1);
     }
     stop_if(from1.number, "host 1");
@@ -182,10 +234,12 @@ static int64_t opened(const struct day *d, int i)
     return value;
 }
 
-int main(void)
+int main(int argc, char **argv)
 {
     static struct day d;
-    lamphiek_house(d.table);
+    if (argc > 2)
+        stop("usage: daysheet [TABLE] <READINGS");
+    take_table(&d, argc == 2 ? argv[1] : NULL);
     read_day(&d);
     count(&d);
     d.a = sample_list(d.counts.a, FACTOR_A);

@@ -10,7 +10,7 @@ import os
 import pathlib
 import re
 import sys
-from ctypes import POINTER, c_int64, c_size_t, c_uint32
+from ctypes import POINTER, c_int64, c_size_t, c_uint8, c_uint32
 
 RANGE = 11  # the number of a reading that is out of range
 CURVE, EXACT, ONE_BIT = 10, 0, 1
@@ -51,7 +51,8 @@ class Refused(Exception):
 
 
 def load(path):
-    """The library with its twelve calls declared as in lamphiek.h. A list is a pointer and its count of words."""
+    """The library with its thirteen calls declared as in lamphiek.h. A list is a pointer and its count of words, a text
+    one and its count of bytes."""
     words = [POINTER(c_uint32), c_size_t]
     job = words + words  # the job and its table
     day = words + words  # the table and the host's shares
@@ -62,6 +63,7 @@ def load(path):
         "unused_a": (c_size_t, job + words + [POINTER(c_uint32)]),
         "unused_b": (c_size_t, job + words + [POINTER(c_uint32)]),
         "house": (None, [POINTER(c_uint32)]),
+        "load": (Answer, [POINTER(c_uint8), c_size_t, POINTER(c_uint32)]),
         "prepare": (Answer, [POINTER(Masks)] + job + words + words + words),
         "start": (Answer, [POINTER(State), c_uint32] + job + words + words),
         "hear": (Answer, [POINTER(State), c_uint32] + job + words + words + [c_uint32]),

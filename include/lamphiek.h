@@ -1,5 +1,5 @@
 /* Lamphiek: a masked calibration engine for three hosts (docs/01-scope.md, and of docs/02-change-requests.md R-1 to
- * R-4), for C11, C++11 and later.
+ * R-5), for C11, C++11 and later.
  *
  * No call allocates, blocks, or keeps anything between calls: what a call reads and writes is lent to it for that call
  * alone. Words are uint32_t, and arithmetic on them is modulo 2^32.
@@ -9,7 +9,8 @@
  * that number.
  *
  * What a caller owes for any of this to hold, and no call can check:
- *   - a list is a pointer and the count of words behind it: a real count. The pointer of an empty list may be NULL;
+ *   - a list is a pointer and the count of words behind it, a text one and the count of bytes: a real count. The
+ *     pointer of an empty list or text may be NULL;
  *   - every other pointer is not NULL; each is aligned for its type, and what it points to is initialised, also where
  *     the call only writes;
  *   - what a call writes (a pointer without const) overlaps nothing else that is lent to that call. Lists that are only
@@ -52,7 +53,8 @@ extern "C" {
 #define LAMPHIEK_ASSERT(test) _Static_assert(test, #test)
 #endif
 
-/* ---- the numbers: document 01, "Turned down, in checking order"; 12 is a day's alone, checked directly after 1 */
+/* ---- the numbers: document 01, "Turned down, in checking order"; 12 is a day's alone, checked directly after 1; 13 to
+ * 15 are loading's alone */
 enum {
     LAMPHIEK_OK = 0,           /* completed */
     LAMPHIEK_NO_HOST = 1,      /* starting or hearing names a host other than 1 or 2 */
@@ -67,7 +69,10 @@ enum {
     LAMPHIEK_END = 9,          /* hearing is called at the end */
     LAMPHIEK_DISAGREE = 10,    /* the opened shares disagree in L1, in L2 or in m */
     LAMPHIEK_RANGE = 11,       /* a reading to be split is outside -2^30 to 2^30 - 1 */
-    LAMPHIEK_DAY_LIST = 12     /* the day list is not of 96 shares: 192 words */
+    LAMPHIEK_DAY_LIST = 12,    /* the day list is not of 96 shares: 192 words */
+    LAMPHIEK_RECORD = 13,      /* a record of a table's text is cut short or its mark is wrong, anywhere in the text */
+    LAMPHIEK_RECORD_COUNT = 14, /* the text has fewer than 2 or more than 16 records */
+    LAMPHIEK_ROW = 15          /* a row's range or rise is broken */
 };
 
 /* ---- a job: 1 to 64 orders of four words, kind, target, first source and fourth word; registers are 0 to 15 */
@@ -95,6 +100,10 @@ enum {
     LAMPHIEK_TABLE_WORDS = 32, /* at most: 2 to 16 rows of two words, a count, which rises strictly within 0 to 4095,
                                   and micrograms per litre, 0 to 20000 */
     LAMPHIEK_HOUSE_WORDS = 16, /* of the house table */
+    LAMPHIEK_RECORD_BYTES = 6, /* of a table's text: the mark's two bytes, then the row's count and its micrograms per
+                                  litre, each in two bytes, low byte first */
+    LAMPHIEK_MARK_1 = 195,
+    LAMPHIEK_MARK_2 = 90,
     LAMPHIEK_REGISTERS = 16,
     LAMPHIEK_LANE = 24,        /* the registers, and 8 kept words behind them */
     LAMPHIEK_QUARTERS = 96,    /* of a day */
@@ -173,6 +182,12 @@ size_t lamphiek_unused_b(const uint32_t *job, size_t job_words, const uint32_t *
 
 /* Writes the house table: eight rows. */
 void lamphiek_house(uint32_t table[LAMPHIEK_HOUSE_WORDS]);
+
+/* Loads a hotel's own table from its text (R-5): records of LAMPHIEK_RECORD_BYTES, one for each row. Writes all 32
+ * words: the table's, and 0 behind them. count: how many words the table has; the first so many are what the other
+ * calls take as a table. A table that loads keeps the rules, so that no call gives 5 because of it; one that was not
+ * loaded may be lent too. Numbers 13 to 15, in this order. The index is always 0. */
+lamphiek_answer lamphiek_load(const uint8_t *text, size_t text_bytes, uint32_t table[LAMPHIEK_TABLE_WORDS]);
 
 /* ---- host 0: prepares a job. Writes its deals, for host 2, to the front of the buffer, whose later words stay as they
  * are, and over the masks of the registers those of the results. count: the deals written. Numbers 2 to 7. */

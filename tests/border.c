@@ -1,4 +1,4 @@
-/* Every number of document 01 and of R-3 by every call that can give it. All that a refused call is lent stands on
+/* Every number of document 01, R-3 and R-5 by every call that can give it. All that a refused call is lent stands on
  * pages that cannot be written (but for the number of unused masks), and every list that is only read ends where a page
  * ends behind which nothing can be read: a store, or a read too far, ends the program. */
 #define _GNU_SOURCE
@@ -8,15 +8,15 @@
 #include <sys/mman.h>
 #include <unistd.h>
 
-enum { PAGE = 4096, NUMBERS = 13 };
+enum { PAGE = 4096, NUMBERS = 16 };
 
 /* The numbers that each must give here: bit n for number n. */
 static const struct {
     const char *name;
     uint32_t gives;
 } CALL[CALLS] = {{"split", 0x0800},   {"open", 0x0400},        {"check", 0x003c},     {"unused_a", 0x007c},
-                 {"unused_b", 0x007c}, {"prepare", 0x00fc},     {"start", 0x00fe},     {"hear", 0x03fe},
-                 {"day_prepare", 0x10e0}, {"day_start", 0x10e2}, {"day_hear", 0x13e2}};
+                 {"unused_b", 0x007c}, {"load", 0xe000},        {"prepare", 0x00fc},   {"start", 0x00fe},
+                 {"hear", 0x03fe},     {"day_prepare", 0x10e0}, {"day_start", 0x10e2}, {"day_hear", 0x13e2}};
 static unsigned reached[CALLS][NUMBERS], failed;
 
 const struct sealed *sealed;
@@ -248,6 +248,8 @@ int main(void)
     complete(g);
     refuse_days(g.table);
     complete_day(g.table);
+    refuse_loads();
+    complete_loads();
     for (int call = 0; call < CALLS; call++)
         for (uint32_t n = 0; n < NUMBERS; n++)
             if (CALL[call].gives >> n & 1 && !reached[call][n]) {

@@ -1,5 +1,5 @@
-/* The parts of the border test: what calls are lent and how their answers are judged, jobs (border.c) and days
- * (border_day.c). */
+/* The parts of the border test: what calls are lent and how their answers are judged, jobs (border.c), days
+ * (border_day.c) and loading (border_load.c). */
 #ifndef BORDER_H
 #define BORDER_H
 #include "lamphiek.h"
@@ -7,7 +7,9 @@
 enum { A_WORDS = 241, B_WORDS = 120, DEALS = 121 };                   /* an exact curve on the house table */
 enum { DAY_A_WORDS = 23161, DAY_B_WORDS = 11532, DAY_DEALS = 11629 }; /* a day on it */
 enum { PLACES = 8, DAY_PLACES = 11 };
-enum call { SPLIT, OPEN, CHECK, UNUSED_A, UNUSED_B, PREPARE, START, HEAR, DAY_PREPARE, DAY_START, DAY_HEAR, CALLS };
+enum call {
+    SPLIT, OPEN, CHECK, UNUSED_A, UNUSED_B, LOAD, PREPARE, START, HEAR, DAY_PREPARE, DAY_START, DAY_HEAR, CALLS
+};
 
 /* What refused calls are lent to write: read only. */
 struct sealed {
@@ -16,7 +18,7 @@ struct sealed {
     lamphiek_counts counts;
     lamphiek_masks masks;
     lamphiek_state state, end, elsewhere[PLACES], day_end, day_elsewhere[DAY_PLACES];
-    uint32_t deals[DAY_DEALS];
+    uint32_t deals[DAY_DEALS], table[LAMPHIEK_TABLE_WORDS];
 };
 extern const struct sealed *sealed;
 
@@ -48,4 +50,8 @@ static const struct list NONE = {NULL, 0};
 void seal_days(struct sealed *s);
 void refuse_days(struct list table);
 void complete_day(struct list table);
+
+/* ---- border_load.c */
+void refuse_loads(void);
+void complete_loads(void);
 #endif

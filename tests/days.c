@@ -1,16 +1,19 @@
-/* Days to try, and what they open by 64-bit arithmetic (document 01, "The curve"; R-1, R-3): no shares, no gates.
+/* Days to try, and what they open by 64-bit arithmetic (document 01, "The curve"; R-1, R-3): no shares, no gates. And
+ * tables to try, as bytes (R-5).
  *
- *   days make K    writes the 96 readings of day K, from 0, a line each; status 1 where there is no such day
- *   days sheet     reads 96 readings and writes what examples/daysheet.c must print */
+ *   days make K              writes the 96 readings of day K, from 0, a line each; status 1 where there is no such day
+ *   days sheet [R C R C ..]  reads 96 readings and writes what examples/daysheet.c must print, on these rows or, where
+ *                            none are given, on the house table
+ *   days text R C R C ..     writes the text of these rows */
 #include <inttypes.h>
 #include <stdio.h>
 #include <stdlib.h>
 #include <string.h>
 
-enum { ROWS = 8, QUARTERS = 96 };
+enum { HOUSE_ROWS = 8, ROWS_MOST = 20, QUARTERS = 96 };
 
-static const int64_t HOUSE[ROWS][2] = {{200, 0},     {456, 250},   {712, 520},   {1224, 1100},
-                                       {1736, 1720}, {2760, 3100}, {3272, 3850}, {3572, 4250}};
+static const int64_t HOUSE[HOUSE_ROWS][2] = {{200, 0},     {456, 250},   {712, 520},   {1224, 1100},
+                                             {1736, 1720}, {2760, 3100}, {3272, 3850}, {3572, 4250}};
 static const int64_t LEAST = -1073741824, MOST = 1073741823, LAST = 3572;
 
 static int64_t floored(int64_t x, int64_t by)
@@ -23,29 +26,29 @@ static int64_t over(int64_t x, int64_t r)
     return x > r ? x - r : 0;
 }
 
-static int64_t value(int64_t x)
+static int64_t value(const int64_t (*row)[2], int rows, int64_t x)
 {
-    int64_t y = 4096 * HOUSE[0][1];
-    for (int i = 0; i + 1 < ROWS; i++) {
-        int64_t width = HOUSE[i + 1][0] - HOUSE[i][0], rise = HOUSE[i + 1][1] - HOUSE[i][1];
-        y += floored(rise * 4096, width) * (over(x, HOUSE[i][0]) - over(x, HOUSE[i + 1][0]));
+    int64_t y = 4096 * row[0][1];
+    for (int i = 0; i + 1 < rows; i++) {
+        int64_t width = row[i + 1][0] - row[i][0], rise = row[i + 1][1] - row[i][1];
+        y += floored(rise * 4096, width) * (over(x, row[i][0]) - over(x, row[i + 1][0]));
     }
-    return x > LAST ? -1 : floored(y, 4096);
+    return x > row[rows - 1][0] ? -1 : floored(y, 4096);
 }
 
-static int sheet(void)
+static int sheet(const int64_t (*row)[2], int rows)
 {
     int64_t sum = 0, above = 0, x;
     for (int i = 0; i < QUARTERS; i++) {
         if (scanf("%" SCNd64, &x) != 1)
             return 2;
-        sum += value(x);
-        above += x > LAST;
+        sum += value(row, rows, x);
+        above += x > row[rows - 1][0];
     }
     printf("mean %" PRId64 "\nabove the last row %" PRId64 " of %d quarters\n", floored(682 * sum, 65536), above,
            QUARTERS);
     /* the costs of an exact curve with R-1 and of kind 8, with R-4's deals: a row more or fewer is a kind 9 */
-    int deals = 12 * ROWS + 13 + 12, words = 24 * ROWS + 24 + 24;
+    int deals = 12 * rows + 13 + 12, words = 24 * rows + 24 + 24;
     printf("deals %d\nwords %d\n", QUARTERS * deals + 13, QUARTERS * words + 24);
     return 0;
 }
@@ -76,7 +79,7 @@ static int make(int day)
         case 4: x = i == 40 ? LAST + 1 : 200; break;        /* the sum is -1 */
         case 5: x = i < 95 ? MOST : 202; break;             /* the sum is -94 */
         case 6: x = i < 48 ? LAST + i % 2 : 300 + 34 * i; break;
-        case 7: x = HOUSE[i / 3 % ROWS][0] + i % 3 - 1; break; /* each count, one below, one above */
+        case 7: x = HOUSE[i / 3 % HOUSE_ROWS][0] + i % 3 - 1; break; /* each count, one below, one above */
         case 8: x = 3572 - 37 * i; break;
         default:
             if (day >= 20)
@@ -88,9 +91,28 @@ static int make(int day)
     return 0;
 }
 
+static int text(const int64_t (*row)[2], int rows)
+{
+    for (int i = 0; i < rows; i++) {
+        int r = (int)row[i][0], c = (int)row[i][1];
+        const int bytes[6] = {195, 90, r % 256, r / 256, c % 256, c / 256};
+        for (int j = 0; j < 6; j++)
+            putchar(bytes[j]);
+    }
+    return 0;
+}
+
 int main(int argc, char **argv)
 {
+    int64_t row[ROWS_MOST][2];
+    int rows = (argc - 2) / 2;
     if (argc == 3 && !strcmp(argv[1], "make"))
         return make(atoi(argv[2]));
-    return argc == 2 && !strcmp(argv[1], "sheet") ? sheet() : 2;
+    if (argc < 2 || argc % 2 || rows > ROWS_MOST)
+        return 2;
+    for (int i = 0; i < 2 * rows; i++)
+        row[i / 2][i % 2] = atoi(argv[2 + i]);
+    if (!strcmp(argv[1], "sheet"))
+        return rows ? sheet((const int64_t(*)[2])row, rows) : sheet(HOUSE, HOUSE_ROWS);
+    return !strcmp(argv[1], "text") ? text((const int64_t(*)[2])row, rows) : 2;
 }

@@ -27,6 +27,19 @@ static int bad_day(void)
     return bad | (lamphiek_day_hear(&state, 1, DAY, masks_list, DAY_A, NULL, 0, 1).number != LAMPHIEK_END);
 }
 
+static int bad_load(void)
+{
+    static const uint8_t text[2 * LAMPHIEK_RECORD_BYTES] = {LAMPHIEK_MARK_1, LAMPHIEK_MARK_2, 200, 0, 0, 0,
+                                                            LAMPHIEK_MARK_1, LAMPHIEK_MARK_2, 200, 1, 250, 0};
+    uint32_t table[LAMPHIEK_TABLE_WORDS] = {7, 7, 7, 7, 7};
+    int bad = lamphiek_load(text, 11, table).number != LAMPHIEK_RECORD || table[0] != 7;
+    bad |= lamphiek_load(text, LAMPHIEK_RECORD_BYTES, table).number != LAMPHIEK_RECORD_COUNT || table[0] != 7;
+    bad |= lamphiek_load(NULL, 0, table).number != LAMPHIEK_RECORD_COUNT;
+    lamphiek_answer r = lamphiek_load(text, sizeof text, table);
+    bad |= r.number != LAMPHIEK_OK || r.index != 0 || r.count != 4 || r.word != 0;
+    return bad | (table[0] != 200 || table[1] != 0 || table[2] != 456 || table[3] != 250 || table[4] != 0);
+}
+
 int main(void)
 {
     lamphiek_shares shares = {{0, 0}, {0, 0}, {0, 0}};
@@ -48,5 +61,5 @@ int main(void)
     bad |= lamphiek_start(&state, 1, job, LAMPHIEK_ORDER_WORDS, NULL, 0, NULL, 0, NULL, 0).number != LAMPHIEK_OK;
     bad |= masks.l2[1] != 9 || state.m[1] != 40 || state.mask[1] != 2 || state.order != 1 || state.turn != 0;
     bad |= lamphiek_hear(&state, 2, job, LAMPHIEK_ORDER_WORDS, NULL, 0, NULL, 0, NULL, 0, 1).number != LAMPHIEK_END;
-    return bad | bad_day();
+    return bad | bad_day() | bad_load();
 }

@@ -1,5 +1,5 @@
-/* The twelve calls over bench/: preparation, starting and hearing, of a job and of a day, are its engine's, the others
- * are written here from document 01. Nothing here calls the library. */
+/* The thirteen calls over bench/: preparation, starting and hearing, of a job and of a day, and loading are its
+ * engine's, the others are written here from document 01. Nothing here calls the library. */
 #include "model.h"
 #include "checks.h"
 #include <string.h>
@@ -59,6 +59,14 @@ size_t model_unused_b(const uint32_t *job, size_t job_words, const uint32_t *tab
 }
 
 void model_house(uint32_t table[LAMPHIEK_HOUSE_WORDS]) { memcpy(table, house, sizeof house); }
+
+lamphiek_answer model_load(const uint8_t *text, size_t text_bytes, uint32_t table[LAMPHIEK_TABLE_WORDS])
+{
+    struct loaded r = load(text, text_bytes);
+    if (r.number == 0)
+        memcpy(table, r.table, sizeof r.table);
+    return (lamphiek_answer){r.number, 0, r.words, 0};
+}
 
 /* ---- the hosts */
 

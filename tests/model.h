@@ -18,6 +18,7 @@ extern __typeof__(lamphiek_check) model_check;
 extern __typeof__(lamphiek_unused_a) model_unused_a;
 extern __typeof__(lamphiek_unused_b) model_unused_b;
 extern __typeof__(lamphiek_house) model_house;
+extern __typeof__(lamphiek_load) model_load;
 extern __typeof__(lamphiek_prepare) model_prepare;
 extern __typeof__(lamphiek_start) model_start;
 extern __typeof__(lamphiek_hear) model_hear;
@@ -32,6 +33,7 @@ extern __typeof__(lamphiek_day_hear) model_day_hear;
 #define lamphiek_unused_a model_unused_a
 #define lamphiek_unused_b model_unused_b
 #define lamphiek_house model_house
+#define lamphiek_load model_load
 #define lamphiek_prepare model_prepare
 #define lamphiek_start model_start
 #define lamphiek_hear model_hear

@@ -5,7 +5,8 @@
  * accepted and damaged jobs, tables and lists, and on forged states; a host alone that hears words at random from its
  * start to its end; and whole runs of three hosts, whose registers are opened and held to plain arithmetic too. On the
  * way of a run calls are made on copies of a host's state that a run does not make: refused ones, other places, other
- * registers, other words. Now and then the same with a day in a job's place (random_day.c). */
+ * registers, other words. Now and then the same with a day in a job's place (random_day.c), and texts of tables
+ * (random_load.c). */
 #include "random.h"
 #include <inttypes.h>
 #include <stdio.h>
@@ -184,8 +185,10 @@ static bool round_of_long_lists(void)
                 both_hear(&h, number, &l, draw(), GENUINE);
         }
     }
-    if (all.n)
+    if (all.n) {
         round_of_long_days(all);
+        round_of_long_text(all);
+    }
     return all.n > 0;
 }
 
@@ -304,6 +307,8 @@ int main(int argc, char **argv)
     while (calls_made() < most) {
         if (chance(1))
             round_of_days();
+        if (chance(30))
+            round_of_texts();
         uint32_t which = below(100);
         if (which < 20)
             round_of_readings();

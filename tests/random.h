@@ -1,5 +1,5 @@
 /* The parts of the random test: what is drawn and lent (random_make.c), each call made on the library and on the model
- * (random_both.c), days (random_day.c), and what plain arithmetic says (random_plain.c). */
+ * (random_both.c), days (random_day.c), loading (random_load.c), and what plain arithmetic says (random_plain.c). */
 #ifndef RANDOM_H
 #define RANDOM_H
 #include "model.h"
@@ -37,6 +37,7 @@ enum room {
     ROOM_OTHER_TABLE,
     ROOM_A,
     ROOM_B,
+    ROOM_TEXT,
     ROOM_SHARES, /* of a day: hosts 0, 1 and 2 */
     ROOM_OTHER_SHARES = ROOM_SHARES + 3,
     ROOM_DEALS, /* which preparation alone writes; those before it are only read */
@@ -53,10 +54,12 @@ bool unchanged(enum room room);
 /* A list of 2^32 words and four, of which the first four are an order and also two rows, and as many words behind it as
  * a day's list has; none where the machine does not grant it. */
 struct words long_list(void);
+/* Writes bytes over its first ones. */
+void write_front(struct words all, const uint8_t *bytes, size_t n);
 /* The words of a room: a list in it with what lies before and behind. */
 struct words whole_room(enum room room);
 
-enum { ORDERS = 64, JOB_MOST = 260, TABLE_MOST = 34, KINDS = 11, DAY_MOST = 2 * LAMPHIEK_DAY_WORDS };
+enum { ORDERS = 64, JOB_MOST = 260, TABLE_MOST = 34, KINDS = 11, DAY_MOST = 2 * LAMPHIEK_DAY_WORDS, TEXT_MOST = 128 };
 
 /* How often an order speaks (each host). */
 uint32_t turns(const uint32_t *order, struct words table);
@@ -95,6 +98,7 @@ uint32_t both_open(const lamphiek_shares *shares, int64_t *value);
 uint32_t both_check(const struct lent *l, lamphiek_counts *counts);
 void both_unused(const struct lent *l);
 void both_house(uint32_t table[LAMPHIEK_HOUSE_WORDS]);
+lamphiek_answer both_load(const uint8_t *text, size_t bytes, uint32_t table[LAMPHIEK_TABLE_WORDS]);
 /* The deal buffer is as long as l->deals, which holds the library's deals afterwards. */
 lamphiek_answer both_prepare(lamphiek_masks *masks, const struct lent *l);
 lamphiek_answer both_start(struct host *h, uint32_t number, const struct lent *l);
@@ -121,6 +125,11 @@ void round_of_hops(void);
 void round_of_whole_day(uint32_t rows);
 /* How often a whole day opened as by plain arithmetic. */
 uint64_t days_held(void);
+
+/* ---- random_load.c */
+
+void round_of_texts(void);
+void round_of_long_text(struct words all);
 
 /* ---- random_plain.c */
 

@@ -73,6 +73,19 @@ void both_unused(const struct lent *l)
     both_unused_of(UNUSED_B, l, l->b, lamphiek_unused_b, model_unused_b);
 }
 
+lamphiek_answer both_load(const uint8_t *text, size_t bytes, uint32_t table[LAMPHIEK_TABLE_WORDS])
+{
+    call_begins(LOAD, NULL);
+    now.text = text;
+    now.text_bytes = bytes;
+    lend_frames();
+    now.answers[0] = lamphiek_load(text, bytes, now.library.of.table);
+    now.answers[1] = model_load(text, bytes, now.model.of.table);
+    memcpy(table, now.library.of.table, sizeof now.library.of.table);
+    written_alike();
+    return now.answers[0];
+}
+
 void both_house(uint32_t table[LAMPHIEK_HOUSE_WORDS])
 {
     call_begins(HOUSE, NULL);

@@ -7,15 +7,16 @@
 #include <string.h>
 #include <unistd.h>
 
-enum { NUMBERS = 13 };
+enum { NUMBERS = 16, TEXT_SHOWN = 128 };
 
 /* The numbers that each can give: bit n for number n. */
 static const struct {
     const char *name;
     uint32_t can;
 } CALL[CALLS] = {{"split", 0x801},     {"open", 0x401},         {"check", 0x03d},      {"unused_a", 0x07d},
-                 {"unused_b", 0x07d}, {"house", 0x001},        {"prepare", 0x0fd},    {"day_prepare", 0x10e1},
-                 {"start", 0x0ff},    {"day_start", 0x10e3},   {"hear", 0x3ff},       {"day_hear", 0x13e3}};
+                 {"unused_b", 0x07d}, {"house", 0x001},        {"load", 0xe001},      {"prepare", 0x0fd},
+                 {"day_prepare", 0x10e1}, {"start", 0x0ff},     {"day_start", 0x10e3}, {"hear", 0x3ff},
+                 {"day_hear", 0x13e3}};
 
 struct made now;
 
@@ -50,6 +51,12 @@ static void print_arguments(void)
     if (now.call == OPEN)
         printf("  shares %" PRIu32 " %" PRIu32 ", %" PRIu32 " %" PRIu32 ", %" PRIu32 " %" PRIu32 "\n", g->host0.l1,
                g->host0.l2, g->host1.m, g->host1.l, g->host2.m, g->host2.l);
+    if (now.call == LOAD) {
+        printf("  text: %zu bytes", now.text_bytes);
+        for (size_t i = 0; i < now.text_bytes && i < TEXT_SHOWN; i++)
+            printf(" %u", now.text[i]);
+        puts("");
+    }
     if (now.call >= START)
         printf("  host %" PRIu32 ", place %" PRIu32 " %" PRIu32 ", heard %" PRIu32 "\n", now.host, s->order, s->turn,
                now.heard);

@@ -4,7 +4,7 @@
 #include "random.h"
 
 enum call {
-    SPLIT, OPEN, CHECK, UNUSED_A, UNUSED_B, HOUSE, PREPARE, DAY_PREPARE, START, DAY_START, HEAR, DAY_HEAR, CALLS
+    SPLIT, OPEN, CHECK, UNUSED_A, UNUSED_B, HOUSE, LOAD, PREPARE, DAY_PREPARE, START, DAY_START, HEAR, DAY_HEAR, CALLS
 };
 enum { GUARDS = 8 };
 
@@ -18,7 +18,7 @@ struct frame {
         lamphiek_state state;
         uint32_t number;
         int64_t value;
-        uint32_t house[LAMPHIEK_HOUSE_WORDS];
+        uint32_t house[LAMPHIEK_HOUSE_WORDS], table[LAMPHIEK_TABLE_WORDS];
         uint32_t words[sizeof(lamphiek_state) / sizeof(uint32_t)];
     } of;
     uint32_t after[GUARDS];
@@ -30,6 +30,8 @@ struct made {
     const struct lent *lent;
     int64_t reading;       /* that is split, under the first two words given */
     lamphiek_shares given; /* that are opened */
+    const uint8_t *text; /* that is loaded */
+    size_t text_bytes;
     uint32_t host, heard;
     struct frame before, library, model;
     lamphiek_answer answers[2];

@@ -30,8 +30,9 @@ uint32_t one_of(const uint32_t *from, size_t n) { return from[below((uint32_t)n)
 /* ---- rooms */
 
 /* The most words of each: the needs of a day on 16 rows, which are more than any job's, and some more. */
-static const size_t MOST[ROOMS] = {JOB_MOST, TABLE_MOST, JOB_MOST, TABLE_MOST, 41593 + 16, 20748 + 16,
-                                   DAY_MOST, DAY_MOST,   DAY_MOST, DAY_MOST,   20845 + 16, 20845 + 16};
+static const size_t MOST[ROOMS] = {JOB_MOST,   TABLE_MOST,    JOB_MOST, TABLE_MOST, 41593 + 16,
+                                   20748 + 16, TEXT_MOST / 4, DAY_MOST, DAY_MOST,   DAY_MOST,
+                                   DAY_MOST,   20845 + 16,    20845 + 16};
 
 static struct {
     struct words all;
@@ -77,6 +78,16 @@ struct words long_list(void)
         return (struct words){NULL, 0};
     at[2] = 1; /* all others stay 0: add 0 1 0, and the rows (0, 0) (1, 0) */
     return (struct words){at, mprotect(at, page, PROT_READ) ? 0 : n};
+}
+
+void write_front(struct words all, const uint8_t *bytes, size_t n)
+{
+    size_t page = (size_t)sysconf(_SC_PAGESIZE);
+    if (mprotect(all.at, page, PROT_READ | PROT_WRITE))
+        fail("the list of 2^32 words cannot be written");
+    memcpy(all.at, bytes, n);
+    if (mprotect(all.at, page, PROT_READ))
+        fail("the list of 2^32 words cannot be sealed");
 }
 
 struct words whole_room(enum room room) { return rooms[room].all; }

@@ -13,6 +13,29 @@ static int set_table(const uint32_t *words, size_t n)
     return 1;
 }
 
+/* A refused text leaves the table. */
+static int load_table(const uint32_t *words, size_t n)
+{
+    static uint8_t text[LINE_WORDS];
+    uint32_t table[LAMPHIEK_TABLE_WORDS], before[LAMPHIEK_TABLE_WORDS];
+    memset(table, 0xA5, sizeof table);
+    memcpy(before, table, sizeof before);
+    for (size_t i = 0; i < n; i++) {
+        if (words[i] > UINT8_MAX)
+            return 0;
+        text[i] = (uint8_t)words[i];
+    }
+    lamphiek_answer r = lamphiek_load(text, n, table);
+    if (r.number) {
+        must(!memcmp(table, before, sizeof table) && r.count == 0, "a refused loading gives a table");
+        put_refusal(r);
+    } else {
+        set_table(table, r.count);
+        put("table", table, r.count);
+    }
+    return 1;
+}
+
 static int set_offset(const uint32_t *words, size_t n)
 {
     (void)n;
@@ -61,7 +84,7 @@ static const struct {
     {"day", 0, 0, do_day},          {"job", 0, ANY, do_job},        {"sheet", 0, 0, do_sheet},
     {"lend", 3, 3, do_lend},        {"prepare", 0, 0, do_prepare},  {"start", 1, 1, do_start},
     {"hear", 2, 2, do_hear},        {"talk", 1, 1, do_talk},        {"place", 3, 3, do_place},
-    {"state", 1, 1, do_state},      {"unused", 1, 1, do_unused},
+    {"state", 1, 1, do_state},      {"unused", 1, 1, do_unused},    {"load", 0, ANY, load_table},
 };
 
 /* ---- lines */

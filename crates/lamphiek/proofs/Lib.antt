@@ -6,3 +6,4 @@ mod Left
 pub mod FromC
 mod DayLeft
 pub mod DayFromC
+pub mod LoadFromC

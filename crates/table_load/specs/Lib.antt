@@ -1,0 +1,3 @@
+pub mod Loading
+pub mod Texts
+pub mod Loads
