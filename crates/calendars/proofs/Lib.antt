@@ -1,0 +1,11 @@
+pub mod Ranges
+pub mod Days
+pub mod Tests
+pub mod Packing
+pub mod Marks
+pub mod Counting
+pub mod Held
+pub mod FactorTable
+pub mod Answering
+pub mod Calendars
+pub mod OpeningHours
