@@ -8,6 +8,7 @@
 #include <unistd.h>
 
 static uint32_t A[MOST_A], B[MOST_B], D[MOST_DEALS], curves[256], sums[256], shares[3][DAY_WORDS];
+static uint32_t all_open[CALENDAR_WORDS], half_open[CALENDAR_WORDS];
 static uint8_t text[TEXT_BYTES];
 static const struct list table = {house, 16};
 static int in_place;
@@ -44,27 +45,29 @@ static uint32_t preparing(struct list job, uint32_t v)
 
 /* ---- the day: what hosts 1 and 2 are lent. Kept out of main, where gcc copies states by rep movs */
 
-#define DAY(host) {table, {shares[host], DAY_WORDS}, {host == 1 ? A : B, host == 1 ? MOST_A : MOST_B}, {D, MOST_DEALS}}
-static const struct day day1 = DAY(1), day2 = DAY(2);
+#define DAY(host, calendar)                                                                                            \
+    {table, {shares[host], DAY_WORDS}, {calendar, CALENDAR_WORDS}, 0,                                                  \
+     {host == 1 ? A : B, host == 1 ? MOST_A : MOST_B}, {D, MOST_DEALS}}
+static const struct day whole_day[2] = {DAY(1, all_open), DAY(2, all_open)};
+static const struct day half_day[2] = {DAY(1, half_open), DAY(2, half_open)};
 
-static void hear_in_day(struct answer *r, uint32_t host, uint32_t heard)
+static void hear_in_day(struct answer *r, uint32_t host, const struct day *day, uint32_t heard)
 {
-    const struct day *day = host == 1 ? &day1 : &day2;
     if (in_place)
         hear_day_at(r, host, day, heard);
     else
         *r = hear_day(r->state, host, day, heard);
 }
 
-static __attribute__((noinline)) uint32_t running_day(void)
+static __attribute__((noinline)) uint32_t running_day(const struct day day[2])
 {
-    struct list a = {A, MOST_A}, b = {B, MOST_B};
-    struct prepared p = prepare_day(table, (struct list){shares[0], DAY_WORDS}, a, b, D, MOST_DEALS);
-    struct answer one = start_day(1, &day1), two = start_day(2, &day2);
+    struct list a = {A, MOST_A}, b = {B, MOST_B}, own = {shares[0], DAY_WORDS};
+    struct prepared p = prepare_day(table, own, day->calendar, day->weekday, a, b, D, MOST_DEALS);
+    struct answer one = start_day(1, day), two = start_day(2, day + 1);
     while (one.state.order < DAY_END) {
         uint32_t w1 = one.word, w2 = two.word;
-        hear_in_day(&one, 1, w2);
-        hear_in_day(&two, 2, w1);
+        hear_in_day(&one, 1, day, w2);
+        hear_in_day(&two, 2, day + 1, w1);
     }
     return one.state.m[0] + one.state.m[1] + two.spoken + p.l1[0] + p.deals;
 }
@@ -87,7 +90,7 @@ static __attribute__((noinline)) uint32_t hearing_in_curve(uint32_t quarter, uin
     if (quarter == JOB_HEARING)
         hear_in_job(&r, 5);
     else
-        hear_in_day(&r, 1, 5);
+        hear_in_day(&r, 1, whole_day, 5);
     return r.number * 65537 + r.spoken * 257 + r.state.order * 31 + r.state.turn + r.state.m[0];
 }
 
@@ -99,6 +102,8 @@ static int accepted(const uint32_t *words)
     struct lent one = {job, table, {A, MOST_A}, deals}, two = {job, table, {B, MOST_B}, deals};
     return !start(1, &one, zeros, zeros).number && !start(2, &two, zeros, zeros).number;
 }
+
+static int day_accepted(const struct day day[2]) { return !start_day(1, day).number && !start_day(2, day + 1).number; }
 
 static uint32_t starting(uint32_t host, struct list job, uint32_t v)
 {
@@ -141,6 +146,11 @@ static __attribute__((noinline)) uint32_t loading(size_t rows, uint32_t v)
     return r.number + r.words + r.table[1] + r.table[2 * rows - 1];
 }
 
+static uint32_t of_a_day(uint32_t s, uint32_t x)
+{
+    return s == WHOLE_DAY ? running_day(whole_day) : s == HALF_DAY ? running_day(half_day) : hearing_in_curve(s, x);
+}
+
 /* of curves 1 preparation, 2 and 3 starting hosts 1 and 2, 4 a run; of sums 5, 6, 7 likewise; 8 probing; 9 a day; 10
  * loading */
 static uint32_t once(int w, size_t orders, uint32_t x)
@@ -155,7 +165,7 @@ static uint32_t once(int w, size_t orders, uint32_t x)
     case 6: return starting(1, sum, x);
     case 7: return starting(2, sum, x);
     case 8: return probing(x);
-    case 9: return orders == WHOLE_DAY ? running_day() : hearing_in_curve((uint32_t)orders, x);
+    case 9: return of_a_day((uint32_t)orders, x);
     case 10: return loading(orders, x);
     }
     return 0;
@@ -292,8 +302,10 @@ int main(int argc, char **argv)
     if (argc != 4)
         return 2;
     sample_day(shares);
+    sample_calendar(all_open, ALL_FROM, ALL_TO);
+    sample_calendar(half_open, HALF_FROM, HALF_TO);
     sample_text(text);
-    if (!accepted(curves) || !accepted(sums) || start_day(1, &day1).number || start_day(2, &day2).number)
+    if (!accepted(curves) || !accepted(sums) || !day_accepted(whole_day) || !day_accepted(half_day))
         return 3;
     uint32_t sum = 0;
     int w = atoi(argv[1]);

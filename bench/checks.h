@@ -1,14 +1,12 @@
-/* What every host does first: conditions 1 to 7 of document 01, 12 of R-3, and the counts before a place. Loading a
- * table, 13 to 15 of R-5. The curve's slopes. */
+/* What every host does first: conditions 1 to 7 of document 01, 12 of R-3, 16 and 17 of R-6, and the counts before a
+ * place. Loading a table, 13 to 15 of R-5. The curve's slopes. */
 #ifndef CHECKS_H
 #define CHECKS_H
-#include "engine.h"
+#include "hours.h"
 
-typedef uint32_t u32;
+enum { MEAN_SHIFT = 16 }; /* a day's mean: floor(factor * sum / 65536) */
 
-enum { MEAN_FACTOR = 682, MEAN_SHIFT = 16 }; /* a day's mean: floor(682 * sum / 65536) */
-
-/* ---- checking: conditions 2 to 7 and 12 */
+/* ---- checking: conditions 2 to 7, 12, 16 and 17 */
 
 struct cost { u32 deals, a, b; };
 
@@ -118,15 +116,24 @@ static inline struct cost plus(struct cost x, u32 times, struct cost y)
     return (struct cost){x.deals + times * y.deals, x.a + times * y.a, x.b + times * y.b};
 }
 
-/* A day is checked in the time of one curve: the counts before a quarter are so many times one quarter's. */
-static inline __attribute__((always_inline)) struct checked check_day(struct list table, struct list shares, u32 place)
+/* A day is checked in the time of one curve and of its calendar: the counts before a quarter are so many times one
+ * quarter's. before: of a place in the day, not of one past the mean. */
+struct day_checked { struct checked lent; struct hours hours; };
+
+static inline __attribute__((always_inline)) struct day_checked check_day(struct list table, struct list shares,
+                    struct list calendar, u32 weekday, u32 place)
 {
+    struct day_checked r = {.lent.number = 12};
     if (shares.n != DAY_WORDS)
-        return (struct checked){.number = 12};
-    if (!keeps_rules(table))
-        return (struct checked){.number = 5};
+        return r;
+    r.hours = judge_hours(calendar, weekday);
+    r.lent.number = r.hours.number ? r.hours.number : keeps_rules(table) ? 0 : 5;
+    if (r.lent.number)
+        return r;
     struct cost quarter = exact_curve(table.n / 2), none = {0, 0, 0};
-    return (struct checked){0, 0, plus(COST[8], QUARTERS, quarter), plus(none, place, quarter)};
+    r.lent.whole = plus(COST[8], r.hours.n, quarter);
+    r.lent.before = plus(none, place <= MEAN ? how_many(r.hours.counted & before(place)) : 0, quarter);
+    return r;
 }
 
 /* Conditions 6 and 7 of host 1 or 2. */
@@ -149,12 +156,13 @@ static inline __attribute__((always_inline)) struct checked check_lent(u32 host,
     return r;
 }
 
-static inline __attribute__((always_inline)) struct checked check_lent_day(u32 host, const struct day *d, u32 place)
+static inline __attribute__((always_inline)) struct day_checked check_lent_day(u32 host, const struct day *d, u32 place)
 {
+    struct day_checked r = {.lent.number = 1};
     if (host != 1 && host != 2)
-        return (struct checked){.number = 1};
-    struct checked r = check_day(d->table, d->shares, place);
-    check_lists(&r, host, d->masks, d->deals);
+        return r;
+    r = check_day(d->table, d->shares, d->calendar, d->weekday, place);
+    check_lists(&r.lent, host, d->masks, d->deals);
     return r;
 }
 

@@ -149,19 +149,21 @@ struct prepared prepare(struct list job, struct list table, struct list a, struc
     return r;
 }
 
-struct prepared prepare_day(struct list table, struct list shares, struct list a, struct list b, u32 *deals,
-                            size_t room)
+struct prepared prepare_day(struct list table, struct list shares, struct list calendar, u32 weekday, struct list a,
+                            struct list b, u32 *deals, size_t room)
 {
-    struct prepared r = {.number = check_room(check_day(table, shares, 0), a, b, room)};
+    struct day_checked c = check_day(table, shares, calendar, weekday, 0);
+    struct prepared r = {.number = check_room(c.lent, a, b, room)};
     if (r.number)
         return r;
     struct dealer p = {a.at, b.at, deals};
     struct pair values = {0, 0}, count = {0, 0}, above;
-    for (const u32 *x = shares.at, *end = x + shares.n; x < end; x += 2) {
-        values = padd(values, curve(&p, (struct pair){x[0], x[1]}, 0, table, &above));
+    for (u32 q = next_order(c.hours.counted, 0); q < MEAN; q = next_order(c.hours.counted, q + 1)) {
+        struct pair x = {shares.at[2 * q], shares.at[2 * q + 1]};
+        values = padd(values, curve(&p, x, 0, table, &above));
         count = padd(count, above);
     }
-    struct pair mean = exact(&p, pscale(values, MEAN_FACTOR), MEAN_SHIFT);
+    struct pair mean = exact(&p, pscale(values, MEAN_FACTOR[c.hours.n - 1]), MEAN_SHIFT);
     r.l1[0] = mean.l1, r.l2[0] = mean.l2;
     r.l1[1] = count.l1, r.l2[1] = count.l2;
     r.deals = (u32)(p.d - deals);

@@ -1,4 +1,4 @@
-/* Document 01's engine, with R-1, R-3 and R-4, written by hand in C: the same calls and obligations as the proved
+/* Document 01's engine, with R-1, R-3, R-4 and R-6, written by hand in C: the same calls and obligations as the proved
  * engine. */
 #ifndef ENGINE_H
 #define ENGINE_H
@@ -9,6 +9,7 @@
 enum { MOST_A = 27712, MOST_B = 13824, MOST_DEALS = 13888 };
 
 enum { QUARTERS = 96, MEAN = QUARTERS, DAY_END, DAY_WORDS = 2 * QUARTERS }; /* a day's orders, and its list */
+enum { WEEKDAYS = 7, WEEKDAY_WORDS = 26, CALENDAR_WORDS = WEEKDAYS * WEEKDAY_WORDS };
 
 /* Word j of the sample lists, from j = 1, is a multiple of these. */
 #define FACTOR_A 2654435769u
@@ -18,7 +19,7 @@ struct list { const uint32_t *at; size_t n; };
 
 /* What a host is lent at a call, afresh each time; host 2 alone uses the deals. */
 struct lent { struct list job, table, masks, deals; };
-struct day { struct list table, shares, masks, deals; };
+struct day { struct list table, shares, calendar; uint32_t weekday; struct list masks, deals; };
 
 /* Registers 0 to 15, kept words behind them, and the place. */
 struct state { uint32_t m[24], l[24], order, turn; };
@@ -29,8 +30,8 @@ struct prepared { uint32_t number, index, deals, l1[16], l2[16]; };
 
 struct prepared prepare(struct list job, struct list table, struct list a, struct list b,
                         uint32_t *deals, size_t room, const uint32_t l1[16], const uint32_t l2[16]);
-struct prepared prepare_day(struct list table, struct list shares, struct list a, struct list b,
-                            uint32_t *deals, size_t room);
+struct prepared prepare_day(struct list table, struct list shares, struct list calendar, uint32_t weekday,
+                            struct list a, struct list b, uint32_t *deals, size_t room);
 
 /* By value, as document 01 has it ("passed by value"). */
 struct answer start(uint32_t host, const struct lent *lent, const uint32_t m[16], const uint32_t l[16]);
@@ -44,9 +45,9 @@ void hear_day_at(struct answer *r, uint32_t host, const struct day *day, uint32_
 
 extern const uint32_t house[16];
 
-/* Workload 9 of bench.c, library.c and the crate workloads: by S a whole day, the hearing of a job of one curve, or
- * else one hearing in quarter S; both at this turn. */
-enum { WHOLE_DAY = DAY_END, JOB_HEARING, DAY_TURN = 60 };
+/* Workload 9 of bench.c, library.c and the crate workloads: by S a whole day, the hearing of a job of one curve, a day
+ * that is half closed, or else one hearing in quarter S; both hearings at this turn. */
+enum { WHOLE_DAY = DAY_END, JOB_HEARING, HALF_DAY, DAY_TURN = 60 };
 
 /* Its day, as each host's list: 40 times the quarter, so that the last ones are above the house table's last row. */
 static inline void sample_day(uint32_t shares[3][DAY_WORDS])
@@ -56,6 +57,18 @@ static inline void sample_day(uint32_t shares[3][DAY_WORDS])
         const uint32_t of[3][2] = {{l1, l2}, {m, l1}, {m, l2}};
         for (int host = 0; host < 3; host++)
             shares[host][2 * q] = of[host][0], shares[host][2 * q + 1] = of[host][1];
+    }
+}
+
+/* Its calendars: on each weekday one open window. The weekday is 0. */
+enum { ALL_FROM = 0, ALL_TO = 1440, HALF_FROM = 480, HALF_TO = 1200 };
+
+static inline void sample_calendar(uint32_t calendar[CALENDAR_WORDS], uint32_t from, uint32_t to)
+{
+    for (uint32_t d = 0; d < WEEKDAYS; d++) {
+        uint32_t *day = calendar + WEEKDAY_WORDS * d;
+        day[0] = 1, day[1] = 0;
+        day[2] = from, day[3] = to;
     }
 }
 

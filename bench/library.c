@@ -9,7 +9,7 @@
 struct job { const uint32_t *words; size_t n; };
 
 static uint32_t A[MOST_A], B[MOST_B], D[MOST_DEALS], curves[256], sums[256], table[LAMPHIEK_HOUSE_WORDS];
-static uint32_t shares[3][DAY_WORDS];
+static uint32_t shares[3][DAY_WORDS], all_open[CALENDAR_WORDS], half_open[CALENDAR_WORDS];
 static uint8_t text[TEXT_BYTES];
 
 #define JOB(job) (job).words, (job).n, table, LAMPHIEK_HOUSE_WORDS
@@ -49,11 +49,11 @@ static uint32_t running(struct job job, uint32_t v)
     return s.m[0] + two.count + k.l1[0] + p.count;
 }
 
-#define DAY(host) table, LAMPHIEK_HOUSE_WORDS, shares[host], DAY_WORDS
+#define DAY(host) table, LAMPHIEK_HOUSE_WORDS, shares[host], DAY_WORDS, calendar, CALENDAR_WORDS, 0
 #define DAY_1 1, DAY(1), A, MOST_A, D, MOST_DEALS
 #define DAY_2 2, DAY(2), B, MOST_B, D, MOST_DEALS
 
-static uint32_t running_day(void)
+static uint32_t running_day(const uint32_t *calendar)
 {
     static lamphiek_masks k;
     static lamphiek_state s, t;
@@ -70,6 +70,7 @@ static uint32_t running_day(void)
 static uint32_t hearing_in_curve(uint32_t quarter, uint32_t v)
 {
     struct job curve = {curves, LAMPHIEK_ORDER_WORDS};
+    const uint32_t *calendar = all_open;
     lamphiek_state s = {.order = quarter == JOB_HEARING ? 0 : quarter, .turn = DAY_TURN};
     for (int j = 0; j < LAMPHIEK_LANE; j++)
         s.m[j] = v, s.mask[j] = 7;
@@ -85,6 +86,11 @@ static uint32_t loading(size_t rows, uint32_t v)
     return r.number + r.count + loaded[1] + loaded[2 * rows - 1];
 }
 
+static uint32_t of_a_day(uint32_t s, uint32_t x)
+{
+    return s == WHOLE_DAY ? running_day(all_open) : s == HALF_DAY ? running_day(half_open) : hearing_in_curve(s, x);
+}
+
 static uint32_t once(int w, size_t orders, uint32_t x)
 {
     struct job curve = {curves, LAMPHIEK_ORDER_WORDS * orders}, sum = {sums, LAMPHIEK_ORDER_WORDS * orders};
@@ -96,7 +102,7 @@ static uint32_t once(int w, size_t orders, uint32_t x)
     case 5: return preparing(sum, x);
     case 6: return starting(1, sum, x);
     case 7: return starting(2, sum, x);
-    case 9: return orders == WHOLE_DAY ? running_day() : hearing_in_curve((uint32_t)orders, x);
+    case 9: return of_a_day((uint32_t)orders, x);
     case 10: return loading(orders, x);
     }
     return 0;
@@ -115,6 +121,8 @@ int main(int argc, char **argv)
                                                  (14 * i + 2) % 16}, 16);
     }
     sample_day(shares);
+    sample_calendar(all_open, ALL_FROM, ALL_TO);
+    sample_calendar(half_open, HALF_FROM, HALF_TO);
     sample_text(text);
     if (argc != 4)
         return 2;

@@ -102,17 +102,18 @@ struct answer hear(struct state s, u32 host, const struct lent *lent, u32 heard)
 
 void hear_at(struct answer *r, u32 host, const struct lent *lent, u32 heard) { hear_in(r, host, lent, heard); }
 
-/* ---- the day: a quarter is an exact curve of its lent share, the mean a kind 8 of the sum in register 0 */
+/* ---- the day: a quarter that counts is an exact curve of its share, the mean a kind 8 of the sum in register 0 */
 
 static inline struct share quarter(const struct day *d, u32 q)
 {
     return (struct share){d->shares.at[2 * q], d->shares.at[2 * q + 1]};
 }
 
-/* Runs from the beginning of an order to its first product, or stands at the end. */
-static inline void run_day(struct answer *r, struct walk *w, const struct day *d)
+/* Runs from the beginning of the next order, from this one on, to its first product, or stands at the end. */
+static inline void run_day(struct answer *r, struct walk *w, const struct day *d, struct hours h, u32 order)
 {
     struct state *s = &r->state;
+    s->order = next_order(h.counted, order);
     s->turn = 0;
     r->word = 0;
     r->spoken = w->b;
@@ -121,7 +122,7 @@ static inline void run_day(struct answer *r, struct walk *w, const struct day *d
     if (s->order < MEAN)
         curve_begin(s, w, quarter(d, s->order), d->table);
     else
-        exact_begin(s, w, scale(get(s, 0), MEAN_FACTOR), MEAN_SHIFT);
+        exact_begin(s, w, scale(get(s, 0), MEAN_FACTOR[h.n - 1]), MEAN_SHIFT);
     r->word = adder_word(s, w, 0);
     r->spoken++;
 }
@@ -129,27 +130,36 @@ static inline void run_day(struct answer *r, struct walk *w, const struct day *d
 struct answer start_day(u32 host, const struct day *d)
 {
     struct answer r = {0};
-    r.number = check_lent_day(host, d, 0).number;
+    struct day_checked c = check_lent_day(host, d, 0);
+    r.number = c.lent.number;
     if (r.number)
         return r;
     struct walk w = {host, d->masks.at, d->deals.at, 0, 0, 0};
-    run_day(&r, &w, d);
+    run_day(&r, &w, d, c.hours, 0);
     return r;
+}
+
+/* Conditions 8 and 9; a quarter that is left out has no turns. */
+static inline u32 check_day_place(const struct state *s, struct list table, quarters_set counted)
+{
+    if (s->order > MEAN)
+        return s->order == DAY_END && s->turn == 0 ? 9 : 8;
+    u32 turns = s->order == MEAN ? COST[8].b : counts(counted, s->order) ? exact_curve(table.n / 2).b : 0;
+    return s->turn < turns ? 0 : 8;
 }
 
 static inline __attribute__((always_inline)) void hear_day_in(struct answer *r, u32 host, const struct day *d,
                     u32 heard)
 {
     struct state *s = &r->state;
-    u32 order = s->order, turn = s->turn, turns = order < MEAN ? exact_curve(d->table.n / 2).b : COST[8].b;
-    struct checked c = check_lent_day(host, d, order);
-    r->number = c.number;
+    u32 order = s->order, turn = s->turn;
+    struct day_checked c = check_lent_day(host, d, order);
+    struct cost used = c.lent.before;
+    r->number = c.lent.number ? c.lent.number : check_day_place(s, d->table, c.hours.counted);
     r->index = r->spoken = r->word = 0;
-    if (c.number == 0 && (order > MEAN || turn >= turns))
-        r->number = order == DAY_END && turn == 0 ? 9 : 8;
     if (r->number)
         return;
-    struct walk w = {host, d->masks.at, d->deals.at, c.before.a, c.before.b + turn, c.before.deals};
+    struct walk w = {host, d->masks.at, d->deals.at, used.a, used.b + turn, used.deals};
     struct share v;
     if (order < MEAN) {
         if (!curve_turn(r, &w, quarter(d, order), 0, d->table, turn, heard, &v))
@@ -160,8 +170,7 @@ static inline __attribute__((always_inline)) void hear_day_in(struct answer *r, 
         return;
     }
     put(s, 0, v);
-    s->order++;
-    run_day(r, &w, d);
+    run_day(r, &w, d, c.hours, order + 1);
 }
 
 struct answer hear_day(struct state s, u32 host, const struct day *d, u32 heard)

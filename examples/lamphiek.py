@@ -1,4 +1,4 @@
-"""Lamphiek from Python: the twelve calls, and a reading through the three hosts in one process, as one_process.c.
+"""Lamphiek from Python: the fourteen calls, and a reading through the three hosts in one process, as one_process.c.
 
     lamphiek.py E|S READING [LIBRARY]
 
@@ -16,6 +16,7 @@ RANGE = 11  # the number of a reading that is out of range
 CURVE, EXACT, ONE_BIT = 10, 0, 1
 HOUSE_WORDS, REGISTERS, LANE = 16, 16, 24
 QUARTERS, DAY_WORDS = 96, 192
+WEEKDAY_WORDS, CALENDAR_WORDS = 26, 182  # of opening hours, as lamphiek.h lays them out
 
 
 class DealerShare(ctypes.Structure):
@@ -42,6 +43,10 @@ class State(ctypes.Structure):
     _fields_ = [("m", c_uint32 * LANE), ("mask", c_uint32 * LANE), ("order", c_uint32), ("turn", c_uint32)]
 
 
+class Quarters(ctypes.Structure):
+    _fields_ = [("bits", c_uint32 * 3)]
+
+
 class Answer(ctypes.Structure):
     _fields_ = [("number", c_uint32), ("index", c_uint32), ("count", c_uint32), ("word", c_uint32)]
 
@@ -51,11 +56,12 @@ class Refused(Exception):
 
 
 def load(path):
-    """The library with its thirteen calls declared as in lamphiek.h. A list is a pointer and its count of words, a text
+    """The library with its fourteen calls declared as in lamphiek.h. A list is a pointer and its count of words, a text
     one and its count of bytes."""
     words = [POINTER(c_uint32), c_size_t]
     job = words + words  # the job and its table
-    day = words + words  # the table and the host's shares
+    hours = words + [c_uint32]  # the calendar and the weekday
+    day = words + words + hours  # the table, the host's shares, the hours
     calls = {
         "split": (c_uint32, [c_int64, c_uint32, c_uint32, POINTER(Shares)]),
         "open": (c_uint32, [POINTER(Shares), POINTER(c_int64)]),
@@ -67,6 +73,7 @@ def load(path):
         "prepare": (Answer, [POINTER(Masks)] + job + words + words + words),
         "start": (Answer, [POINTER(State), c_uint32] + job + words + words),
         "hear": (Answer, [POINTER(State), c_uint32] + job + words + words + [c_uint32]),
+        "day_quarters": (Answer, hours + [POINTER(Quarters)]),
         "day_prepare": (Answer, [POINTER(Masks)] + day + words + words + words),
         "day_start": (Answer, [POINTER(State), c_uint32] + day + words + words),
         "day_hear": (Answer, [POINTER(State), c_uint32] + day + words + words + [c_uint32]),

@@ -1,5 +1,5 @@
 /* Lamphiek: a masked calibration engine for three hosts (docs/01-scope.md, and of docs/02-change-requests.md R-1 to
- * R-5), for C11, C++11 and later.
+ * R-6), for C11, C++11 and later.
  *
  * No call allocates, blocks, or keeps anything between calls: what a call reads and writes is lent to it for that call
  * alone. Words are uint32_t, and arithmetic on them is modulo 2^32.
@@ -31,8 +31,9 @@
  *     on, host 0 holds the masks of the end.
  *
  * For a day (R-3) they owe the same, but for the job and the registers, of which it has none: every call of a host is
- * lent the same 96 shares, its own of the readings that were split, quarter by quarter. The plant room then opens
- * registers 0 and 1. A state does not say whether it is a job's or a day's: it goes on with the calls that began it.
+ * lent the same 96 shares, its own of the readings that were split, quarter by quarter, and every call of all three the
+ * same calendar and weekday (R-6). The plant room then opens registers 0 and 1. A state does not say whether it is a
+ * job's or a day's, nor on which calendar: it goes on with the calls that began it.
  *
  * What they owe for nobody to learn a reading: every mask word is drawn at random and used once, for one split, one job
  * or one day, also where a job or a day broke off.
@@ -53,8 +54,8 @@ extern "C" {
 #define LAMPHIEK_ASSERT(test) _Static_assert(test, #test)
 #endif
 
-/* ---- the numbers: document 01, "Turned down, in checking order"; 12 is a day's alone, checked directly after 1; 13 to
- * 15 are loading's alone */
+/* ---- the numbers: document 01, "Turned down, in checking order"; 12, 16 and 17 are a day's alone, checked in
+ * this order directly after 1; 13 to 15 are loading's alone */
 enum {
     LAMPHIEK_OK = 0,           /* completed */
     LAMPHIEK_NO_HOST = 1,      /* starting or hearing names a host other than 1 or 2 */
@@ -72,7 +73,11 @@ enum {
     LAMPHIEK_DAY_LIST = 12,    /* the day list is not of 96 shares: 192 words */
     LAMPHIEK_RECORD = 13,      /* a record of a table's text is cut short or its mark is wrong, anywhere in the text */
     LAMPHIEK_RECORD_COUNT = 14, /* the text has fewer than 2 or more than 16 records */
-    LAMPHIEK_ROW = 15          /* a row's range or rise is broken */
+    LAMPHIEK_ROW = 15,         /* a row's range or rise is broken */
+    LAMPHIEK_CALENDAR = 16,    /* the weekday is above 6, or any weekday, the day's or not, has more than 8 open or 4
+                                  cleaning windows, or one whose end is not after its start or is above 1440; or the
+                                  calendar is not of 182 words */
+    LAMPHIEK_CLOSED = 17       /* no quarter of the day's weekday counts */
 };
 
 /* ---- a job: 1 to 64 orders of four words, kind, target, first source and fourth word; registers are 0 to 15 */
@@ -107,7 +112,33 @@ enum {
     LAMPHIEK_REGISTERS = 16,
     LAMPHIEK_LANE = 24,        /* the registers, and 8 kept words behind them */
     LAMPHIEK_QUARTERS = 96,    /* of a day */
-    LAMPHIEK_DAY_WORDS = 192   /* of a host's day list, exactly */
+    LAMPHIEK_DAY_WORDS = 192,  /* of a host's day list, exactly */
+    LAMPHIEK_MINUTES = 1440    /* of a day */
+};
+
+/* ---- a calendar (R-6): the opening hours of a week, which are public. So many words for each weekday from 0 to 6, one
+ * weekday behind the other; which day of the week is 0 is for its writer to say.
+ *
+ * A window runs from its start, a minute of the day, up to its end, the first minute that is no longer in it: start <
+ * end <= 1440. Windows may overlap and stand in any order; room behind them is not looked at. Open from 8 to 20 o'clock
+ * on weekday d:
+ *     uint32_t *day = calendar + LAMPHIEK_WEEKDAY_WORDS * d;
+ *     day[LAMPHIEK_OPEN_COUNT] = 1, day[LAMPHIEK_CLEANING_COUNT] = 0;
+ *     day[LAMPHIEK_OPEN_WINDOWS] = 480, day[LAMPHIEK_OPEN_WINDOWS + 1] = 1200;
+ *
+ * Quarter q lies where its first minute, 15 * q, does. It counts if that is in an open window, be it in a cleaning
+ * window too; all other quarters are left out. */
+enum {
+    LAMPHIEK_WEEKDAYS = 7,
+    LAMPHIEK_WEEKDAY_WORDS = 26,
+    LAMPHIEK_CALENDAR_WORDS = 182,
+    /* the places in a weekday's words */
+    LAMPHIEK_OPEN_COUNT = 0,        /* how many open windows there are */
+    LAMPHIEK_CLEANING_COUNT = 1,    /* how many cleaning windows */
+    LAMPHIEK_OPEN_WINDOWS = 2,      /* room for the open windows, two words each: start, end */
+    LAMPHIEK_CLEANING_WINDOWS = 18, /* room for the cleaning windows, likewise */
+    LAMPHIEK_OPEN_MOST = 8,
+    LAMPHIEK_CLEANING_MOST = 4
 };
 
 /* ---- what is lent */
@@ -137,11 +168,16 @@ typedef struct {
 } lamphiek_masks;
 
 /* Host 1 or 2: in each lane its registers, then its kept words; and its place (at the end: number of orders, and 0). In
- * a day the order is the quarter from 0, then 96 for the mean, and the end is 97 and 0. */
+ * a day the order is the quarter from 0, one that counts, then 96 for the mean, and the end is 97 and 0. */
 typedef struct {
     uint32_t m[LAMPHIEK_LANE], mask[LAMPHIEK_LANE];
     uint32_t order, turn;
 } lamphiek_state;
+
+/* Which quarters of a day count: quarter q, from 0, at bit q % 32 of bits[q / 32], 1 where it counts. */
+typedef struct {
+    uint32_t bits[3];
+} lamphiek_quarters;
 
 /* The number, and the order's index, which is 0 except for the numbers 3 to 5. What a call does not give is 0, and so
  * are count and word where it is refused. */
@@ -159,6 +195,7 @@ LAMPHIEK_ASSERT(offsetof(lamphiek_masks, l2) == 16 * sizeof(uint32_t));
 LAMPHIEK_ASSERT(sizeof(lamphiek_state) == 50 * sizeof(uint32_t));
 LAMPHIEK_ASSERT(offsetof(lamphiek_state, mask) == 24 * sizeof(uint32_t));
 LAMPHIEK_ASSERT(offsetof(lamphiek_state, order) == 48 * sizeof(uint32_t));
+LAMPHIEK_ASSERT(sizeof(lamphiek_quarters) == 3 * sizeof(uint32_t));
 LAMPHIEK_ASSERT(sizeof(lamphiek_answer) == 4 * sizeof(uint32_t));
 
 /* ---- controller: splits a reading under two mask words, drawn for it alone. Writes the six words of the shares.
@@ -210,31 +247,43 @@ lamphiek_answer lamphiek_hear(lamphiek_state *state, uint32_t host, const uint32
                               const uint32_t *table, size_t table_words, const uint32_t *masks, size_t masks_words,
                               const uint32_t *deals, size_t deals_words, uint32_t heard);
 
-/* ---- a day (R-3): 96 quarter-hour readings, each split. The curve in exact mode on each, in day order; then the mean,
- * the sum of the values times 682, truncated exactly by 16: floor(682 * sum / 65536), a little low, for 682 * 96 is
- * 65472 (96 quarters of 4249 open 4244). A quarter above the table's last count enters the sum as -1 and is counted.
+/* ---- a day (R-3): 96 quarter-hour readings, each split, of which those count that the calendar says for the weekday
+ * (R-6). The curve in exact mode on each of these, in day order; then the mean, the sum of their n values times
+ * floor(65536 / n), truncated exactly by 16. It is a little low where n does not divide 65536: of 96 quarters the
+ * factor is 682, and 682 * 96 is 65472, so that 96 quarters of 4249 open 4244. A quarter above the table's last count
+ * enters the sum as -1 and is counted as above. One that is left out is run by no host, needs no masks or deals and is
+ * never counted as above; its share stands in the list all the same, and makes no difference.
+ *
  * There is no job, and registers start at zero: as a quarter ends, register 0 gets the sum (at the end the mean) and
- * register 1 the count. That count alone says whether readings are missing: with some the mean need not be -1, and
+ * register 1 how many were above. That alone says whether readings are missing: with some the mean need not be -1, and
  * where a table's values fall to 0 it may be -1 with none.
  *
- * shares: the host's 96 shares in day order, two words each: host 0 l1, l2; hosts 1 and 2 m, l. A day uses what 96
- * exact curves and one LAMPHIEK_EXACT use (lamphiek_check counts either): on the house table 11,629 deals, 23,064 words
- * spoken, 23,161 words of list A and 11,532 of list B. lamphiek_unused_a and _b have no form for a day: the words that
- * it leaves are those behind these counts. The index is always 0. */
+ * shares: the host's 96 shares in day order, two words each: host 0 l1, l2; hosts 1 and 2 m, l. calendar and weekday:
+ * the same in every call, and judged in each. A day of n counted quarters uses what n exact curves and one
+ * LAMPHIEK_EXACT use (lamphiek_check counts either): on the house table 121n + 13 deals, 240n + 24 words spoken, 241n +
+ * 25 words of list A and 120n + 12 of list B; of all 96 that is 11,629, 23,064, 23,161 and 11,532. lamphiek_unused_a
+ * and _b have no form for a day: the words that it leaves are those behind these counts. The index is always 0. */
 
-/* Host 0: prepares a day, as lamphiek_prepare a job. The masks are only written. Numbers 12, then 5 to 7. */
+/* Anybody: which quarters count. Writes them. count: n, how many they are. Numbers 16, 17. */
+lamphiek_answer lamphiek_day_quarters(const uint32_t *calendar, size_t calendar_words, uint32_t weekday,
+                                      lamphiek_quarters *quarters);
+
+/* Host 0: prepares a day, as lamphiek_prepare a job. The masks are only written. Numbers 12, 16, 17, then 5 to 7. */
 lamphiek_answer lamphiek_day_prepare(lamphiek_masks *masks, const uint32_t *table, size_t table_words,
-                                     const uint32_t *shares, size_t shares_words, const uint32_t *a, size_t a_words,
+                                     const uint32_t *shares, size_t shares_words, const uint32_t *calendar,
+                                     size_t calendar_words, uint32_t weekday, const uint32_t *a, size_t a_words,
                                      const uint32_t *b, size_t b_words, uint32_t *deals, size_t deals_words);
 
 /* Hosts 1 and 2: as lamphiek_start and lamphiek_hear, word and count too; the end is order 97. Starting only writes the
- * state. Numbers 1, 12, then 5 to 7; hearing also 8 and 9. */
+ * state. Numbers 1, 12, 16, 17, then 5 to 7; hearing also 8, in a quarter that is left out too, and 9. */
 lamphiek_answer lamphiek_day_start(lamphiek_state *state, uint32_t host, const uint32_t *table, size_t table_words,
-                                   const uint32_t *shares, size_t shares_words, const uint32_t *masks,
-                                   size_t masks_words, const uint32_t *deals, size_t deals_words);
+                                   const uint32_t *shares, size_t shares_words, const uint32_t *calendar,
+                                   size_t calendar_words, uint32_t weekday, const uint32_t *masks, size_t masks_words,
+                                   const uint32_t *deals, size_t deals_words);
 lamphiek_answer lamphiek_day_hear(lamphiek_state *state, uint32_t host, const uint32_t *table, size_t table_words,
-                                  const uint32_t *shares, size_t shares_words, const uint32_t *masks,
-                                  size_t masks_words, const uint32_t *deals, size_t deals_words, uint32_t heard);
+                                  const uint32_t *shares, size_t shares_words, const uint32_t *calendar,
+                                  size_t calendar_words, uint32_t weekday, const uint32_t *masks, size_t masks_words,
+                                  const uint32_t *deals, size_t deals_words, uint32_t heard);
 
 #undef LAMPHIEK_ASSERT
 #ifdef __cplusplus

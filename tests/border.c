@@ -1,6 +1,6 @@
-/* Every number of document 01, R-3 and R-5 by every call that can give it. All that a refused call is lent stands on
- * pages that cannot be written (but for the number of unused masks), and every list that is only read ends where a page
- * ends behind which nothing can be read: a store, or a read too far, ends the program. */
+/* Every number of document 01, R-3, R-5 and R-6 by every call that can give it. All that a refused call is lent stands
+ * on pages that cannot be written (but for the number of unused masks), and every list that is only read ends where a
+ * page ends behind which nothing can be read: a store, or a read too far, ends the program. */
 #define _GNU_SOURCE
 #include "border.h"
 #include <stdio.h>
@@ -8,7 +8,7 @@
 #include <sys/mman.h>
 #include <unistd.h>
 
-enum { PAGE = 4096, NUMBERS = 16 };
+enum { PAGE = 4096, NUMBERS = 18 };
 
 /* The numbers that each must give here: bit n for number n. */
 static const struct {
@@ -16,7 +16,8 @@ static const struct {
     uint32_t gives;
 } CALL[CALLS] = {{"split", 0x0800},   {"open", 0x0400},        {"check", 0x003c},     {"unused_a", 0x007c},
                  {"unused_b", 0x007c}, {"load", 0xe000},        {"prepare", 0x00fc},   {"start", 0x00fe},
-                 {"hear", 0x03fe},     {"day_prepare", 0x10e0}, {"day_start", 0x10e2}, {"day_hear", 0x13e2}};
+                 {"hear", 0x03fe},     {"day_quarters", 0x30000}, {"day_prepare", 0x310e0}, {"day_start", 0x310e2},
+                 {"day_hear", 0x313e2}};
 static unsigned reached[CALLS][NUMBERS], failed;
 
 const struct sealed *sealed;
@@ -227,6 +228,7 @@ static void seal(void)
         s->elsewhere[i].turn = places[i][1];
     }
     seal_days(s);
+    seal_left_out(s);
     protect(s, sizeof *s, PROT_READ);
     sealed = s;
 }
@@ -236,8 +238,11 @@ int main(void)
     static const uint32_t order[4] = {LAMPHIEK_CURVE, 0, 0, LAMPHIEK_MODE_EXACT};
     uint32_t rows[LAMPHIEK_HOUSE_WORDS] = {0};
     lamphiek_house(rows);
-    struct given g = {fenced(order, 4),       NONE, fenced(rows, LAMPHIEK_HOUSE_WORDS), fenced(NULL, A_WORDS),
-                      fenced(NULL, B_WORDS), fenced(NULL, DEALS)};
+    struct given g = {.job = fenced(order, 4),
+                      .table = fenced(rows, LAMPHIEK_HOUSE_WORDS),
+                      .a = fenced(NULL, A_WORDS),
+                      .b = fenced(NULL, B_WORDS),
+                      .deals = fenced(NULL, DEALS)};
     seal();
     refuse_jobs(g);
     refuse_tables(g);
@@ -248,6 +253,8 @@ int main(void)
     complete(g);
     refuse_days(g.table);
     complete_day(g.table);
+    refuse_hours(g.table);
+    complete_hours(g.table);
     refuse_loads();
     complete_loads();
     for (int call = 0; call < CALLS; call++)

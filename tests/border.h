@@ -1,14 +1,15 @@
 /* The parts of the border test: what calls are lent and how their answers are judged, jobs (border.c), days
- * (border_day.c) and loading (border_load.c). */
+ * (border_day.c), opening hours (border_hours.c) and loading (border_load.c). */
 #ifndef BORDER_H
 #define BORDER_H
 #include "lamphiek.h"
 
 enum { A_WORDS = 241, B_WORDS = 120, DEALS = 121 };                   /* an exact curve on the house table */
 enum { DAY_A_WORDS = 23161, DAY_B_WORDS = 11532, DAY_DEALS = 11629 }; /* a day on it */
-enum { PLACES = 8, DAY_PLACES = 11 };
+enum { PLACES = 8, DAY_PLACES = 11, LEFT_OUT_PLACES = 9 };
 enum call {
-    SPLIT, OPEN, CHECK, UNUSED_A, UNUSED_B, LOAD, PREPARE, START, HEAR, DAY_PREPARE, DAY_START, DAY_HEAR, CALLS
+    SPLIT, OPEN, CHECK, UNUSED_A, UNUSED_B, LOAD, PREPARE, START, HEAR, DAY_QUARTERS, DAY_PREPARE, DAY_START, DAY_HEAR,
+    CALLS
 };
 
 /* What refused calls are lent to write: read only. */
@@ -17,7 +18,8 @@ struct sealed {
     int64_t value;
     lamphiek_counts counts;
     lamphiek_masks masks;
-    lamphiek_state state, end, elsewhere[PLACES], day_end, day_elsewhere[DAY_PLACES];
+    lamphiek_quarters quarters;
+    lamphiek_state state, end, elsewhere[PLACES], day_end, day_elsewhere[DAY_PLACES], left_out[LEFT_OUT_PLACES];
     uint32_t deals[DAY_DEALS], table[LAMPHIEK_TABLE_WORDS];
 };
 extern const struct sealed *sealed;
@@ -26,11 +28,13 @@ extern const struct sealed *sealed;
 
 struct list { const uint32_t *at; size_t n; };
 
-/* What calls are lent to read: a job's calls the job, a day's calls the shares. */
-struct given { struct list job, shares, table, a, b, deals; };
+/* What calls are lent to read: a job's calls the job, a day's calls the shares, the calendar and the weekday. */
+struct given { struct list job, shares, calendar, table, a, b, deals; uint32_t weekday; };
 
 #define LIST(l) (l).at, (l).n
 #define LISTS(g, host) LIST((host) == 1 ? (g).a : (g).b), LIST((g).deals)
+#define DAY(g) LIST((g).table), LIST((g).shares), LIST((g).calendar), (g).weekday
+#define DAY_HOST(g, host) host, DAY(g), LISTS(g, host)
 
 void expect(int holds, const char *file, int line, const char *what);
 #define EXPECT(test) expect(test, __FILE__, __LINE__, #test)
@@ -48,8 +52,19 @@ static const struct list NONE = {NULL, 0};
 
 /* ---- border_day.c */
 void seal_days(struct sealed *s);
+/* A day on this table with every quarter open, and lists as long as it needs. */
+struct given a_day(struct list table);
+/* By each of the three calls, hearing at the first place and at the end. */
+void refuse_day(struct given g, size_t room, uint32_t number);
 void refuse_days(struct list table);
 void complete_day(struct list table);
+
+/* ---- border_hours.c */
+/* A calendar of which every weekday has one open window, 0 to 1440. */
+void open_always(uint32_t calendar[LAMPHIEK_CALENDAR_WORDS]);
+void seal_left_out(struct sealed *s);
+void refuse_hours(struct list table);
+void complete_hours(struct list table);
 
 /* ---- border_load.c */
 void refuse_loads(void);

@@ -1,16 +1,16 @@
-/* A day's numbers: 1, 12, 5, 6, 7, 8, 9, in this order. */
+/* A day's numbers: 1, 12, 5, 6, 7, 8, 9, in this order; 16 and 17, which stand before 5, are in border_hours.c. */
 #include "border.h"
 #include <string.h>
 
 enum { MEAN = LAMPHIEK_QUARTERS, END, MEAN_TURNS = 12 };
 
-#define DAY(g) LIST((g).table), LIST((g).shares)
-#define HOST(g, host) host, DAY(g), LISTS(g, host)
-
-static struct given a_day(struct list table)
+struct given a_day(struct list table)
 {
+    uint32_t calendar[LAMPHIEK_CALENDAR_WORDS] = {0};
+    open_always(calendar);
     return (struct given){.job = NONE,
                           .shares = fenced(NULL, LAMPHIEK_DAY_WORDS),
+                          .calendar = fenced(calendar, LAMPHIEK_CALENDAR_WORDS),
                           .table = table,
                           .a = fenced(NULL, DAY_A_WORDS),
                           .b = fenced(NULL, DAY_B_WORDS),
@@ -37,20 +37,19 @@ void seal_days(struct sealed *s)
     }
 }
 
-/* By each of the three calls, hearing at the first place and at the end. */
-static void refuse_day(struct given g, size_t room, uint32_t number)
+void refuse_day(struct given g, size_t room, uint32_t number)
 {
     lamphiek_masks *k = WRITABLE(lamphiek_masks, masks);
     lamphiek_state *s = WRITABLE(lamphiek_state, state), *end = WRITABLE(lamphiek_state, day_end);
     IS(DAY_PREPARE, lamphiek_day_prepare(k, DAY(g), LIST(g.a), LIST(g.b), WRITABLE(uint32_t, deals), room), number, 0);
     for (uint32_t host = 1; host <= 2; host++) {
-        IS(DAY_START, lamphiek_day_start(s, HOST(g, host)), number, 0);
-        IS(DAY_HEAR, lamphiek_day_hear(s, HOST(g, host), 7), number, 0);
-        IS(DAY_HEAR, lamphiek_day_hear(end, HOST(g, host), 7), number, 0);
+        IS(DAY_START, lamphiek_day_start(s, DAY_HOST(g, host)), number, 0);
+        IS(DAY_HEAR, lamphiek_day_hear(s, DAY_HOST(g, host), 7), number, 0);
+        IS(DAY_HEAR, lamphiek_day_hear(end, DAY_HOST(g, host), 7), number, 0);
     }
 }
 
-/* 12, whatever the table and the lists are; then 5, whatever the lists are. */
+/* 12, whatever the calendar, the table and the lists are; then 5, whatever the lists are. */
 static void refuse_shares_and_tables(struct given g)
 {
     static const size_t sizes[] = {0, 1, 2, 96, 190, 191, 193, 194, 384};
@@ -63,6 +62,8 @@ static void refuse_shares_and_tables(struct given g)
         other.shares = fenced(NULL, sizes[i]);
         refuse_day(other, DAY_DEALS, LAMPHIEK_DAY_LIST);
         other.table = NONE;
+        other.weekday = i % 2 ? 0 : LAMPHIEK_WEEKDAYS;
+        other.calendar = i % 3 ? g.calendar : NONE;
         refuse_day(other, 0, LAMPHIEK_DAY_LIST);
     }
     for (size_t i = 0; i < sizeof tables / sizeof *tables; i++) {
@@ -79,12 +80,13 @@ static void refuse_shares_and_tables(struct given g)
 static void refuse_day_hosts(struct given g)
 {
     static const uint32_t hosts[] = {0, 3, UINT32_MAX};
+    const struct given none = {.weekday = UINT32_MAX};
     lamphiek_state *s = WRITABLE(lamphiek_state, state);
     for (size_t i = 0; i < 3; i++) {
-        IS(DAY_START, lamphiek_day_start(s, HOST(g, hosts[i])), LAMPHIEK_NO_HOST, 0);
-        IS(DAY_START, lamphiek_day_start(s, hosts[i], NULL, 0, NULL, 0, NULL, 0, NULL, 0), LAMPHIEK_NO_HOST, 0);
-        IS(DAY_HEAR, lamphiek_day_hear(s, HOST(g, hosts[i]), 7), LAMPHIEK_NO_HOST, 0);
-        IS(DAY_HEAR, lamphiek_day_hear(s, hosts[i], NULL, 0, NULL, 0, NULL, 0, NULL, 0, 7), LAMPHIEK_NO_HOST, 0);
+        IS(DAY_START, lamphiek_day_start(s, DAY_HOST(g, hosts[i])), LAMPHIEK_NO_HOST, 0);
+        IS(DAY_START, lamphiek_day_start(s, DAY_HOST(none, hosts[i])), LAMPHIEK_NO_HOST, 0);
+        IS(DAY_HEAR, lamphiek_day_hear(s, DAY_HOST(g, hosts[i]), 7), LAMPHIEK_NO_HOST, 0);
+        IS(DAY_HEAR, lamphiek_day_hear(s, DAY_HOST(none, hosts[i]), 7), LAMPHIEK_NO_HOST, 0);
     }
 }
 
@@ -106,17 +108,17 @@ static void refuse_day_lists(struct given g)
     IS(DAY_PREPARE, lamphiek_day_prepare(k, DAY(g), LIST(less.a), LIST(g.b), d, DAY_DEALS), LAMPHIEK_SHORT_MASKS, 0);
     IS(DAY_PREPARE, lamphiek_day_prepare(k, DAY(g), LIST(g.a), LIST(less.b), d, DAY_DEALS), LAMPHIEK_SHORT_MASKS, 0);
     IS(DAY_PREPARE, lamphiek_day_prepare(k, DAY(g), LIST(g.a), LIST(g.b), d, DAY_DEALS - 1), LAMPHIEK_SHORT_DEALS, 0);
-    IS(DAY_START, lamphiek_day_start(s, HOST(fewer, 2)), LAMPHIEK_SHORT_DEALS, 0);
-    IS(DAY_HEAR, lamphiek_day_hear(s, HOST(fewer, 2), 7), LAMPHIEK_SHORT_DEALS, 0);
+    IS(DAY_START, lamphiek_day_start(s, DAY_HOST(fewer, 2)), LAMPHIEK_SHORT_DEALS, 0);
+    IS(DAY_HEAR, lamphiek_day_hear(s, DAY_HOST(fewer, 2), 7), LAMPHIEK_SHORT_DEALS, 0);
 }
 
 static void refuse_day_places(struct given g)
 {
     for (uint32_t host = 1; host <= 2; host++) {
         for (size_t i = 0; i < DAY_PLACES; i++)
-            IS(DAY_HEAR, lamphiek_day_hear(WRITABLE(lamphiek_state, day_elsewhere[i]), HOST(g, host), 7),
+            IS(DAY_HEAR, lamphiek_day_hear(WRITABLE(lamphiek_state, day_elsewhere[i]), DAY_HOST(g, host), 7),
                LAMPHIEK_PLACE, 0);
-        IS(DAY_HEAR, lamphiek_day_hear(WRITABLE(lamphiek_state, day_end), HOST(g, host), 7), LAMPHIEK_END, 0);
+        IS(DAY_HEAR, lamphiek_day_hear(WRITABLE(lamphiek_state, day_end), DAY_HOST(g, host), 7), LAMPHIEK_END, 0);
     }
 }
 
@@ -153,13 +155,13 @@ void complete_day(struct list table)
     EXPECT(buffer[0] == 0xA5A5A5A5u && buffer[DAY_DEALS + 1] == 0xA5A5A5A5u);
     for (uint32_t host = 1; host <= 2; host++) {
         memset(&s, 0xA5, sizeof s);
-        r = lamphiek_day_start(&s, HOST(g, host));
+        r = lamphiek_day_start(&s, DAY_HOST(g, host));
         EXPECT(r.number == 0 && r.index == 0 && r.count == 1 && zero(s.m, s.mask, 0) && s.order == 0 && s.turn == 0);
         s.order = 40, s.turn = B_WORDS - 1;
-        r = lamphiek_day_hear(&s, HOST(g, host), 7);
+        r = lamphiek_day_hear(&s, DAY_HOST(g, host), 7);
         EXPECT(r.number == 0 && r.count == 41 * B_WORDS + 1 && zero(s.m, s.mask, 2) && s.order == 41 && s.turn == 0);
         s.order = MEAN, s.turn = MEAN_TURNS - 1;
-        r = lamphiek_day_hear(&s, HOST(g, host), 7);
+        r = lamphiek_day_hear(&s, DAY_HOST(g, host), 7);
         EXPECT(r.number == 0 && r.count == DAY_B_WORDS && r.word == 0 && s.order == END && s.turn == 0);
     }
 }

@@ -5,9 +5,35 @@
 enum { DAY_A = 9337, DAY_B = 4620, DAY_DEALS = 4717 }; /* a day's needs on two rows */
 
 static const uint32_t job[LAMPHIEK_ORDER_WORDS] = {LAMPHIEK_ADD, 1, 2, 3}, rows[4] = {1, 0, 2, 0};
-static uint32_t shares[LAMPHIEK_DAY_WORDS], masks_list[DAY_A], deals[DAY_DEALS];
+static uint32_t shares[LAMPHIEK_DAY_WORDS], calendar[LAMPHIEK_CALENDAR_WORDS], masks_list[DAY_A], deals[DAY_DEALS];
 
-#define DAY rows, 4, shares, LAMPHIEK_DAY_WORDS
+#define HOURS calendar, LAMPHIEK_CALENDAR_WORDS, 6
+#define DAY rows, 4, shares, LAMPHIEK_DAY_WORDS, HOURS
+
+/* Weekday 6 has this one open window, and a cleaning window; the others have none. */
+static void open_on_6(uint32_t from, uint32_t to)
+{
+    uint32_t *day = calendar + LAMPHIEK_WEEKDAY_WORDS * (LAMPHIEK_WEEKDAYS - 1);
+    day[LAMPHIEK_OPEN_COUNT] = day[LAMPHIEK_CLEANING_COUNT] = 1;
+    day[LAMPHIEK_OPEN_WINDOWS] = from, day[LAMPHIEK_OPEN_WINDOWS + 1] = to;
+    day[LAMPHIEK_CLEANING_WINDOWS] = 60, day[LAMPHIEK_CLEANING_WINDOWS + 1] = LAMPHIEK_MINUTES;
+}
+
+static int bad_hours(void)
+{
+    lamphiek_quarters quarters = {{7, 7, 7}};
+    lamphiek_answer r = lamphiek_day_quarters(HOURS, &quarters);
+    int bad = r.number != LAMPHIEK_CLOSED || r.count != 0 || quarters.bits[0] != 7;
+    bad |= LAMPHIEK_CALENDAR_WORDS != LAMPHIEK_WEEKDAYS * LAMPHIEK_WEEKDAY_WORDS;
+    bad |= LAMPHIEK_CLEANING_WINDOWS != LAMPHIEK_OPEN_WINDOWS + 2 * LAMPHIEK_OPEN_MOST;
+    bad |= LAMPHIEK_WEEKDAY_WORDS != LAMPHIEK_CLEANING_WINDOWS + 2 * LAMPHIEK_CLEANING_MOST;
+    open_on_6(465, 990); /* quarters 31 to 65 */
+    bad |= lamphiek_day_quarters(calendar, LAMPHIEK_CALENDAR_WORDS, 7, &quarters).number != LAMPHIEK_CALENDAR;
+    bad |= lamphiek_day_quarters(NULL, 0, 6, &quarters).number != LAMPHIEK_CALENDAR || quarters.bits[2] != 7;
+    r = lamphiek_day_quarters(HOURS, &quarters);
+    bad |= r.number != LAMPHIEK_OK || r.index != 0 || r.count != 35 || r.word != 0;
+    return bad | (quarters.bits[0] != 1u << 31 || quarters.bits[1] != UINT32_MAX || quarters.bits[2] != 3);
+}
 
 static int bad_day(void)
 {
@@ -15,9 +41,11 @@ static int bad_day(void)
     lamphiek_state state = {{0}, {0}, 0, 0};
     lamphiek_answer r;
     masks.l2[15] = state.m[0] = state.order = 7;
+    open_on_6(0, LAMPHIEK_MINUTES);
     r = lamphiek_day_prepare(&masks, DAY, masks_list, DAY_A, masks_list, DAY_B, deals, DAY_DEALS);
     int bad = r.number != LAMPHIEK_OK || r.count != DAY_DEALS || masks.l2[15] != 0;
-    r = lamphiek_day_prepare(&masks, rows, 4, shares, 191, masks_list, DAY_A, masks_list, DAY_B, deals, DAY_DEALS);
+    r = lamphiek_day_prepare(&masks, rows, 4, shares, 191, HOURS, masks_list, DAY_A, masks_list, DAY_B, deals,
+                             DAY_DEALS);
     bad |= r.number != LAMPHIEK_DAY_LIST || LAMPHIEK_DAY_WORDS != 2 * LAMPHIEK_QUARTERS;
     r = lamphiek_day_start(&state, 2, DAY, masks_list, DAY_B, deals, DAY_DEALS);
     bad |= r.number != LAMPHIEK_OK || r.count != 1 || state.m[0] != 0 || state.order != 0 || state.turn != 0;
@@ -61,5 +89,6 @@ int main(void)
     bad |= lamphiek_start(&state, 1, job, LAMPHIEK_ORDER_WORDS, NULL, 0, NULL, 0, NULL, 0).number != LAMPHIEK_OK;
     bad |= masks.l2[1] != 9 || state.m[1] != 40 || state.mask[1] != 2 || state.order != 1 || state.turn != 0;
     bad |= lamphiek_hear(&state, 2, job, LAMPHIEK_ORDER_WORDS, NULL, 0, NULL, 0, NULL, 0, 1).number != LAMPHIEK_END;
+    bad |= bad_hours(); /* on a calendar of zeros, which the day then writes */
     return bad | bad_day() | bad_load();
 }

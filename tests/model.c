@@ -1,5 +1,5 @@
-/* The thirteen calls over bench/: preparation, starting and hearing, of a job and of a day, and loading are its
- * engine's, the others are written here from document 01. Nothing here calls the library. */
+/* The fourteen calls over bench/: preparation, starting and hearing, of a job and of a day, its quarters, and loading
+ * are its engine's, the others are written here from document 01. Nothing here calls the library. */
 #include "model.h"
 #include "checks.h"
 #include <string.h>
@@ -132,29 +132,44 @@ lamphiek_answer model_hear(lamphiek_state *state, uint32_t host, const uint32_t 
 
 /* ---- a day */
 
+lamphiek_answer model_day_quarters(const uint32_t *calendar, size_t calendar_words, uint32_t weekday,
+                                   lamphiek_quarters *quarters)
+{
+    struct hours h = judge_hours((struct list){calendar, calendar_words}, weekday);
+    if (h.number == 0)
+        *quarters = (lamphiek_quarters){{(u32)h.counted, (u32)(h.counted >> 32), (u32)(h.counted >> 64)}};
+    return (lamphiek_answer){h.number, 0, h.n, 0};
+}
+
 lamphiek_answer model_day_prepare(lamphiek_masks *masks, const uint32_t *table, size_t table_words,
-                                  const uint32_t *shares, size_t shares_words, const uint32_t *a, size_t a_words,
+                                  const uint32_t *shares, size_t shares_words, const uint32_t *calendar,
+                                  size_t calendar_words, uint32_t weekday, const uint32_t *a, size_t a_words,
                                   const uint32_t *b, size_t b_words, uint32_t *deals, size_t deals_words)
 {
     struct prepared p = prepare_day((struct list){table, table_words}, (struct list){shares, shares_words},
-                                    (struct list){a, a_words}, (struct list){b, b_words}, deals, deals_words);
+                                    (struct list){calendar, calendar_words}, weekday, (struct list){a, a_words},
+                                    (struct list){b, b_words}, deals, deals_words);
     return prepared(masks, &p);
 }
 
 lamphiek_answer model_day_start(lamphiek_state *state, uint32_t host, const uint32_t *table, size_t table_words,
-                                const uint32_t *shares, size_t shares_words, const uint32_t *masks,
-                                size_t masks_words, const uint32_t *deals, size_t deals_words)
+                                const uint32_t *shares, size_t shares_words, const uint32_t *calendar,
+                                size_t calendar_words, uint32_t weekday, const uint32_t *masks, size_t masks_words,
+                                const uint32_t *deals, size_t deals_words)
 {
-    struct day day = {{table, table_words}, {shares, shares_words}, {masks, masks_words}, {deals, deals_words}};
+    struct day day = {{table, table_words}, {shares, shares_words}, {calendar, calendar_words},
+                      weekday,              {masks, masks_words},   {deals, deals_words}};
     struct answer r = start_day(host, &day);
     return told(state, &r);
 }
 
 lamphiek_answer model_day_hear(lamphiek_state *state, uint32_t host, const uint32_t *table, size_t table_words,
-                               const uint32_t *shares, size_t shares_words, const uint32_t *masks, size_t masks_words,
+                               const uint32_t *shares, size_t shares_words, const uint32_t *calendar,
+                               size_t calendar_words, uint32_t weekday, const uint32_t *masks, size_t masks_words,
                                const uint32_t *deals, size_t deals_words, uint32_t heard)
 {
-    struct day day = {{table, table_words}, {shares, shares_words}, {masks, masks_words}, {deals, deals_words}};
+    struct day day = {{table, table_words}, {shares, shares_words}, {calendar, calendar_words},
+                      weekday,              {masks, masks_words},   {deals, deals_words}};
     struct answer r = held(state);
     hear_day_at(&r, host, &day, heard);
     return told(state, &r);

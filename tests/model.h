@@ -22,6 +22,7 @@ extern __typeof__(lamphiek_load) model_load;
 extern __typeof__(lamphiek_prepare) model_prepare;
 extern __typeof__(lamphiek_start) model_start;
 extern __typeof__(lamphiek_hear) model_hear;
+extern __typeof__(lamphiek_day_quarters) model_day_quarters;
 extern __typeof__(lamphiek_day_prepare) model_day_prepare;
 extern __typeof__(lamphiek_day_start) model_day_start;
 extern __typeof__(lamphiek_day_hear) model_day_hear;
@@ -37,6 +38,7 @@ extern __typeof__(lamphiek_day_hear) model_day_hear;
 #define lamphiek_prepare model_prepare
 #define lamphiek_start model_start
 #define lamphiek_hear model_hear
+#define lamphiek_day_quarters model_day_quarters
 #define lamphiek_day_prepare model_day_prepare
 #define lamphiek_day_start model_day_start
 #define lamphiek_day_hear model_day_hear

@@ -1,19 +1,19 @@
 /* random [CALLS [SEED]]: the library held to the model (model.h) on calls at random, the same ones at every time. Ends
  * after the round that reaches CALLS calls; each number comes only after some tens of thousands.
  *
- * First lists of 2^32 words, a run of the largest job and the largest day; then rounds: splitting and opening; calls on
- * accepted and damaged jobs, tables and lists, and on forged states; a host alone that hears words at random from its
- * start to its end; and whole runs of three hosts, whose registers are opened and held to plain arithmetic too. On the
- * way of a run calls are made on copies of a host's state that a run does not make: refused ones, other places, other
- * registers, other words. Now and then the same with a day in a job's place (random_day.c), and texts of tables
- * (random_load.c). */
+ * First lists of 2^32 words, a run of the largest job, the largest day and days of 1 to 96 quarters; then rounds:
+ * splitting and opening; calls on accepted and damaged jobs, tables and lists, and on forged states; a host alone that
+ * hears words at random from its start to its end; and whole runs of three hosts, whose registers are opened and held
+ * to plain arithmetic too. On the way of a run calls are made on copies of a host's state that a run does not make:
+ * refused ones, other places, other registers, other words. Now and then the same with a day in a job's place
+ * (random_day.c), calendars (random_hours.c) and texts of tables (random_load.c). */
 #include "random.h"
 #include <inttypes.h>
 #include <stdio.h>
 #include <stdlib.h>
 #include <string.h>
 
-static const uint64_t CALLS_DEFAULT = 3600000, SEED_DEFAULT = 1;
+static const uint64_t CALLS_DEFAULT = 4000000, SEED_DEFAULT = 1;
 
 static uint64_t runs, values_held[OR_ONE_MORE + 1];
 
@@ -276,10 +276,23 @@ static void round_of_days(void)
     uint32_t which = below(100);
     if (which < 50)
         round_of_day_damage();
-    else if (which < 98)
+    else if (which < 90)
         round_of_hops();
     else
-        round_of_whole_day(2 + below(7));
+        round_of_whole_day(2 + below(7), which < 99 ? 0 : LAMPHIEK_QUARTERS);
+}
+
+/* What comes once: the lists of 2^32 words, what needs most, and days of each number of quarters, which each has its
+ * factor of the mean: it shows less where they are few. */
+static void first_rounds(void)
+{
+    if (!round_of_long_lists())
+        puts("random: no room for lists of 2^32 words, which were not tried");
+    round_of_three_hosts(make_largest());
+    round_of_whole_day(LAMPHIEK_TABLE_WORDS / 2, LAMPHIEK_QUARTERS);
+    for (uint32_t n = 1; n <= LAMPHIEK_QUARTERS; n++)
+        for (uint32_t i = 0; i < 1 + 12 / n; i++)
+            round_of_whole_day(2, n);
 }
 
 /* Argument i as a number, or `otherwise` where it is not given. */
@@ -300,15 +313,14 @@ int main(int argc, char **argv)
 {
     uint64_t most = argument(argc, argv, 1, CALLS_DEFAULT);
     begin(argument(argc, argv, 2, SEED_DEFAULT));
-    if (!round_of_long_lists())
-        puts("random: no room for lists of 2^32 words, which were not tried");
-    round_of_three_hosts(make_largest());
-    round_of_whole_day(LAMPHIEK_TABLE_WORDS / 2);
+    first_rounds();
     while (calls_made() < most) {
         if (chance(1))
             round_of_days();
         if (chance(30))
             round_of_texts();
+        if (chance(30))
+            round_of_hours();
         uint32_t which = below(100);
         if (which < 20)
             round_of_readings();
@@ -319,11 +331,13 @@ int main(int argc, char **argv)
         else
             round_of_three_hosts(make_lent(false));
     }
-    bool all = numbers_came() && values_held[THIS] && values_held[OR_ONE_MORE] && days_held() > 1;
+    struct days_held days = days_held();
+    bool all = numbers_came() && values_held[THIS] && values_held[OR_ONE_MORE] && days.all > 1 && days.some > 1;
     printf("whole runs: %" PRIu64 "; registers that they wrote, opened and as by plain arithmetic: %" PRIu64
            ", or one more: %" PRIu64 ", not known by it: %" PRIu64 "\n",
            runs, values_held[THIS], values_held[OR_ONE_MORE], values_held[UNKNOWN]);
-    printf("whole days, opened and as by plain arithmetic: %" PRIu64 "\n", days_held());
+    printf("whole days, opened and as by plain arithmetic: %" PRIu64 ", and with quarters left out: %" PRIu64 "\n",
+           days.all, days.some);
     if (!all) {
         puts("random: a number that a call can give never came, or one came that it cannot give, or no value was held");
         return 1;

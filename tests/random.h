@@ -1,5 +1,6 @@
 /* The parts of the random test: what is drawn and lent (random_make.c), each call made on the library and on the model
- * (random_both.c), days (random_day.c), loading (random_load.c), and what plain arithmetic says (random_plain.c). */
+ * (random_both.c), days (random_day.c), opening hours (random_hours.c), loading (random_load.c), and what plain
+ * arithmetic says (random_plain.c). */
 #ifndef RANDOM_H
 #define RANDOM_H
 #include "model.h"
@@ -12,7 +13,8 @@ struct words {
 
 /* What a call is lent; a host uses one of the mask lists, and of a day its own list of shares. */
 struct lent {
-    struct words job, table, a, b, deals, shares[3];
+    struct words job, table, a, b, deals, shares[3], calendar;
+    uint32_t weekday;
 };
 
 /* A host's state on either side. */
@@ -40,6 +42,8 @@ enum room {
     ROOM_TEXT,
     ROOM_SHARES, /* of a day: hosts 0, 1 and 2 */
     ROOM_OTHER_SHARES = ROOM_SHARES + 3,
+    ROOM_CALENDAR,
+    ROOM_OTHER_CALENDAR,
     ROOM_DEALS, /* which preparation alone writes; those before it are only read */
     ROOM_DEALS_MODEL,
     ROOMS
@@ -59,7 +63,8 @@ void write_front(struct words all, const uint8_t *bytes, size_t n);
 /* The words of a room: a list in it with what lies before and behind. */
 struct words whole_room(enum room room);
 
-enum { ORDERS = 64, JOB_MOST = 260, TABLE_MOST = 34, KINDS = 11, DAY_MOST = 2 * LAMPHIEK_DAY_WORDS, TEXT_MOST = 128 };
+enum { ORDERS = 64, JOB_MOST = 260, TABLE_MOST = 34, KINDS = 11, TEXT_MOST = 128 };
+enum { DAY_MOST = 2 * LAMPHIEK_DAY_WORDS, CALENDAR_MOST = 2 * LAMPHIEK_CALENDAR_WORDS };
 
 /* How often an order speaks (each host). */
 uint32_t turns(const uint32_t *order, struct words table);
@@ -99,6 +104,7 @@ uint32_t both_check(const struct lent *l, lamphiek_counts *counts);
 void both_unused(const struct lent *l);
 void both_house(uint32_t table[LAMPHIEK_HOUSE_WORDS]);
 lamphiek_answer both_load(const uint8_t *text, size_t bytes, uint32_t table[LAMPHIEK_TABLE_WORDS]);
+lamphiek_answer both_day_quarters(const struct lent *l, lamphiek_quarters *quarters);
 /* The deal buffer is as long as l->deals, which holds the library's deals afterwards. */
 lamphiek_answer both_prepare(lamphiek_masks *masks, const struct lent *l);
 lamphiek_answer both_start(struct host *h, uint32_t number, const struct lent *l);
@@ -121,10 +127,21 @@ void round_of_day_damage(void);
 void round_of_long_days(struct words all);
 /* A host alone, up to the end, which goes from quarter to quarter at will. */
 void round_of_hops(void);
-/* A day of three hosts on a table of so many rows. */
-void round_of_whole_day(uint32_t rows);
-/* How often a whole day opened as by plain arithmetic. */
-uint64_t days_held(void);
+/* A day of three hosts on a table of so many rows, with n quarters, or where n is 0 as a calendar at random says. */
+void round_of_whole_day(uint32_t rows, uint32_t n);
+/* How often a whole day opened as by plain arithmetic, with all quarters counted and with some left out. */
+struct days_held { uint64_t all, some; } days_held(void);
+
+/* ---- random_hours.c */
+
+/* A calendar and a weekday of it that has quarters which count: so many, or at random. */
+void lend_so_many(struct lent *l, uint32_t n);
+void lend_hours(struct lent *l);
+/* Of a sound one: another weekday, length or count, a window that is none, a closed weekday. */
+struct lent damage_hours(struct lent l);
+/* Another calendar and weekday with the same quarters. */
+struct lent same_hours(struct lent l);
+void round_of_hours(void);
 
 /* ---- random_load.c */
 
@@ -147,6 +164,9 @@ int64_t signed_reading(int64_t v);
 bool in_range(int64_t x);
 /* What the registers open after an accepted job. */
 void plain_job(struct value r[LAMPHIEK_REGISTERS], struct words job, struct words table);
-/* What registers 0 and 1 open after a day of these values. */
-void plain_day(const int64_t x[LAMPHIEK_QUARTERS], struct words table, int64_t *mean, int64_t *above);
+/* Which quarters count; the number: 0, 16 or 17. */
+uint32_t plain_hours(struct words calendar, uint32_t weekday, bool counts[LAMPHIEK_QUARTERS]);
+/* What registers 0 and 1 open after a day of these values, of which these count. */
+void plain_day(const int64_t x[LAMPHIEK_QUARTERS], const bool counts[LAMPHIEK_QUARTERS], struct words table,
+               int64_t *mean, int64_t *above);
 #endif

@@ -86,6 +86,18 @@ lamphiek_answer both_load(const uint8_t *text, size_t bytes, uint32_t table[LAMP
     return now.answers[0];
 }
 
+lamphiek_answer both_day_quarters(const struct lent *l, lamphiek_quarters *quarters)
+{
+    struct words c = l->calendar;
+    call_begins(DAY_QUARTERS, l);
+    lend_frames();
+    now.answers[0] = lamphiek_day_quarters(c.at, c.n, l->weekday, &now.library.of.quarters);
+    now.answers[1] = model_day_quarters(c.at, c.n, l->weekday, &now.model.of.quarters);
+    *quarters = now.library.of.quarters;
+    written_alike();
+    return now.answers[0];
+}
+
 void both_house(uint32_t table[LAMPHIEK_HOUSE_WORDS])
 {
     call_begins(HOUSE, NULL);
@@ -122,10 +134,10 @@ static const struct side {
 
 static lamphiek_answer prepare_by(const struct side *by, lamphiek_masks *masks, const struct lent *l, struct words d)
 {
-    struct words shares = l->shares[0];
+    struct words shares = l->shares[0], hours = l->calendar;
     if (is_day())
-        return by->day_prepare(masks, l->table.at, l->table.n, shares.at, shares.n, l->a.at, l->a.n, l->b.at, l->b.n,
-                               d.at, d.n);
+        return by->day_prepare(masks, l->table.at, l->table.n, shares.at, shares.n, hours.at, hours.n, l->weekday,
+                               l->a.at, l->a.n, l->b.at, l->b.n, d.at, d.n);
     return by->prepare(masks, l->job.at, l->job.n, l->table.at, l->table.n, l->a.at, l->a.n, l->b.at, l->b.n, d.at,
                        d.n);
 }
@@ -175,20 +187,20 @@ static struct words shares_of(uint32_t number, const struct lent *l) { return l-
 
 static lamphiek_answer start_by(const struct side *by, lamphiek_state *s, const struct lent *l)
 {
-    struct words masks = masks_of(now.host, l), shares = shares_of(now.host, l);
+    struct words masks = masks_of(now.host, l), shares = shares_of(now.host, l), hours = l->calendar;
     if (is_day())
-        return by->day_start(s, now.host, l->table.at, l->table.n, shares.at, shares.n, masks.at, masks.n, l->deals.at,
-                             l->deals.n);
+        return by->day_start(s, now.host, l->table.at, l->table.n, shares.at, shares.n, hours.at, hours.n, l->weekday,
+                             masks.at, masks.n, l->deals.at, l->deals.n);
     return by->start(s, now.host, l->job.at, l->job.n, l->table.at, l->table.n, masks.at, masks.n, l->deals.at,
                      l->deals.n);
 }
 
 static lamphiek_answer hear_by(const struct side *by, lamphiek_state *s, const struct lent *l)
 {
-    struct words masks = masks_of(now.host, l), shares = shares_of(now.host, l);
+    struct words masks = masks_of(now.host, l), shares = shares_of(now.host, l), hours = l->calendar;
     if (is_day())
-        return by->day_hear(s, now.host, l->table.at, l->table.n, shares.at, shares.n, masks.at, masks.n, l->deals.at,
-                            l->deals.n, now.heard);
+        return by->day_hear(s, now.host, l->table.at, l->table.n, shares.at, shares.n, hours.at, hours.n, l->weekday,
+                            masks.at, masks.n, l->deals.at, l->deals.n, now.heard);
     return by->hear(s, now.host, l->job.at, l->job.n, l->table.at, l->table.n, masks.at, masks.n, l->deals.at,
                     l->deals.n, now.heard);
 }

@@ -7,16 +7,16 @@
 #include <string.h>
 #include <unistd.h>
 
-enum { NUMBERS = 16, TEXT_SHOWN = 128 };
+enum { NUMBERS = 18, TEXT_SHOWN = 128 };
 
 /* The numbers that each can give: bit n for number n. */
 static const struct {
     const char *name;
     uint32_t can;
 } CALL[CALLS] = {{"split", 0x801},     {"open", 0x401},         {"check", 0x03d},      {"unused_a", 0x07d},
-                 {"unused_b", 0x07d}, {"house", 0x001},        {"load", 0xe001},      {"prepare", 0x0fd},
-                 {"day_prepare", 0x10e1}, {"start", 0x0ff},     {"day_start", 0x10e3}, {"hear", 0x3ff},
-                 {"day_hear", 0x13e3}};
+                 {"unused_b", 0x07d}, {"house", 0x001},        {"load", 0xe001},      {"day_quarters", 0x30001},
+                 {"prepare", 0x0fd},  {"day_prepare", 0x310e1}, {"start", 0x0ff},     {"day_start", 0x310e3},
+                 {"hear", 0x3ff},     {"day_hear", 0x313e3}};
 
 struct made now;
 
@@ -45,6 +45,8 @@ static void print_arguments(void)
         print_list("deals", l->deals, 4);
         for (int host = 0; host < 3; host++)
             print_list("shares", l->shares[host], 4);
+        print_list("calendar", l->calendar, CALENDAR_MOST);
+        printf("  weekday %" PRIu32 "\n", l->weekday);
     }
     if (now.call == SPLIT)
         printf("  reading %" PRId64 " under %" PRIu32 " %" PRIu32 "\n", now.reading, g->host0.l1, g->host0.l2);

@@ -4,7 +4,8 @@
 #include "random.h"
 
 enum call {
-    SPLIT, OPEN, CHECK, UNUSED_A, UNUSED_B, HOUSE, LOAD, PREPARE, DAY_PREPARE, START, DAY_START, HEAR, DAY_HEAR, CALLS
+    SPLIT, OPEN, CHECK, UNUSED_A, UNUSED_B, HOUSE, LOAD, DAY_QUARTERS, PREPARE, DAY_PREPARE, START, DAY_START, HEAR,
+    DAY_HEAR, CALLS
 };
 enum { GUARDS = 8 };
 
@@ -16,6 +17,7 @@ struct frame {
         lamphiek_counts counts;
         lamphiek_masks masks;
         lamphiek_state state;
+        lamphiek_quarters quarters;
         uint32_t number;
         int64_t value;
         uint32_t house[LAMPHIEK_HOUSE_WORDS], table[LAMPHIEK_TABLE_WORDS];

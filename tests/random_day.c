@@ -1,12 +1,12 @@
-/* Days at random: damaged and forged calls, a host alone, and whole days of three hosts. */
+/* Days at random: damaged and forged calls, a host alone, and whole days of three hosts. */
 #include "random.h"
 #include <string.h>
 
 enum { MEAN = LAMPHIEK_QUARTERS, END, MEAN_TURNS = 12 };
 
-static uint64_t held;
+static struct days_held held;
 
-uint64_t days_held(void) { return held; }
+struct days_held days_held(void) { return held; }
 
 /* ---- what is drawn and lent */
 
@@ -16,12 +16,24 @@ static uint32_t day_turns(uint32_t order, struct words table)
     return order < MEAN ? turns(curve, table) : order == MEAN ? MEAN_TURNS : 0;
 }
 
-/* 96 exact curves and one exact truncation. */
-static lamphiek_counts day_needs(const uint32_t *table, size_t words)
+/* The quarters that count, in day order, and how many. */
+static uint32_t counted(const struct lent *l, uint32_t quarters[LAMPHIEK_QUARTERS])
+{
+    bool counts[LAMPHIEK_QUARTERS];
+    uint32_t n = 0;
+    if (plain_hours(l->calendar, l->weekday, counts))
+        fail("a sound calendar is none by plain arithmetic");
+    for (uint32_t q = 0; q < LAMPHIEK_QUARTERS; q++)
+        if (counts[q])
+            quarters[n++] = q;
+    return n;
+}
+
+/* So many exact curves and one exact truncation. */
+static lamphiek_counts day_needs(const uint32_t *table, size_t words, uint32_t n)
 {
     static const uint32_t curve[4] = {LAMPHIEK_CURVE, 0, 0, LAMPHIEK_MODE_EXACT}, mean[4] = {LAMPHIEK_EXACT, 0, 0, 16};
     lamphiek_counts q, m;
-    const uint32_t n = LAMPHIEK_QUARTERS;
     if (model_check(curve, 4, table, words, &q).number || model_check(mean, 4, table, words, &m).number)
         fail("a table that keeps the rules was refused");
     return (lamphiek_counts){n * q.deals + m.deals, n * q.words + m.words, n * q.a + m.a, n * q.b + m.b};
@@ -41,20 +53,28 @@ static void lend_shares(struct lent *l, const int64_t x[LAMPHIEK_QUARTERS])
         l->shares[host] = lend((enum room)(ROOM_SHARES + host), lists[host], LAMPHIEK_DAY_WORDS);
 }
 
-static struct lent make_day(uint32_t rows, const int64_t x[LAMPHIEK_QUARTERS])
+static struct lent make_day(uint32_t rows, uint32_t n, const int64_t x[LAMPHIEK_QUARTERS])
 {
-    uint32_t table[TABLE_MOST];
+    uint32_t table[TABLE_MOST], quarters[LAMPHIEK_QUARTERS];
     struct lent l = {.job = {NULL, 0}};
-    size_t n = make_rows(table, rows);
-    lamphiek_counts need = day_needs(table, n);
-    l.table = lend(ROOM_TABLE, table, n);
+    size_t words = make_rows(table, rows);
+    if (n)
+        lend_so_many(&l, n);
+    else
+        lend_hours(&l);
+    lamphiek_counts need = day_needs(table, words, counted(&l, quarters));
+    l.table = lend(ROOM_TABLE, table, words);
     lend_lists(&l, &need);
     lend_shares(&l, x);
     return l;
 }
 
-/* Days on short tables, whose lists are short. */
-static uint32_t few_rows(void) { return 2 + below(3); }
+/* Days on short tables, whose lists are short; now and then with all quarters. */
+static struct lent make_short_day(const int64_t x[LAMPHIEK_QUARTERS])
+{
+    uint32_t rows = 2 + below(3);
+    return make_day(rows, chance(20) ? LAMPHIEK_QUARTERS : 0, x);
+}
 
 /* Every quarter's share the same words. */
 static void level_shares(struct lent *l)
@@ -85,15 +105,19 @@ static struct lent damage_day(struct lent l)
         n = damage_table(table, n);
         l.table = lend(ROOM_OTHER_TABLE, table, n);
     }
+    if (chance(30))
+        l = damage_hours(l);
     return chance(30) ? cut_one(l) : l;
 }
 
-/* A place on the day's way, the end, one off either, or anywhere. */
-static void forge_day_place(lamphiek_state *s, struct words table)
+/* A place on the way of a day, which is sound, in a quarter that is left out, the end, one off either, or anywhere. The
+ * turn goes by another table, which may be damaged. */
+static void forge_day_place(lamphiek_state *s, const struct lent *sound, struct words table)
 {
     static const uint32_t orders[] = {0, 1, 95, 96, 97, 98, UINT32_MAX};
-    uint32_t any = draw();
-    s->order = chance(60) ? below(END + 1) : chance(80) ? one_of(orders, sizeof orders / sizeof *orders) : any;
+    uint32_t quarters[LAMPHIEK_QUARTERS], n = counted(sound, quarters), any = draw();
+    uint32_t one = one_of(quarters, n), beside = one + below(3) - 1, order = chance(50) ? beside : below(END + 1);
+    s->order = chance(40) ? one : chance(70) ? order : chance(80) ? one_of(orders, 7) : any;
     uint32_t spoken = day_turns(s->order, table), near[] = {0, 1, spoken - 1, spoken, spoken + 1, UINT32_MAX, any};
     s->turn = chance(60) ? below(spoken + 1) : one_of(near, sizeof near / sizeof *near);
 }
@@ -111,7 +135,7 @@ void round_of_day_damage(void)
     int64_t x[LAMPHIEK_QUARTERS];
     lamphiek_masks masks;
     any_values(x);
-    struct lent whole = make_day(few_rows(), x);
+    struct lent whole = make_short_day(x);
     for (int turn = 0; turn < 4; turn++) {
         struct lent l = chance(70) ? damage_day(whole) : whole;
         for (int i = 0; i < LAMPHIEK_REGISTERS; i++) {
@@ -124,7 +148,7 @@ void round_of_day_damage(void)
         for (int i = 0; i < 6; i++) {
             struct host forged = make_state();
             if (chance(90))
-                forge_day_place(&forged.library, l.table);
+                forge_day_place(&forged.library, &whole, l.table);
             forged.model = forged.library;
             uint32_t number = make_host(); /* each draw by itself, here and below: every compiler then draws alike */
             both_day_hear(&forged, number, &l, draw(), FORGED);
@@ -135,13 +159,16 @@ void round_of_day_damage(void)
 void round_of_long_days(struct words all)
 {
     const struct words as_a_day = {all.at, ((size_t)1 << 32) + LAMPHIEK_DAY_WORDS};
+    const struct words as_a_calendar = {all.at, ((size_t)1 << 32) + LAMPHIEK_CALENDAR_WORDS};
     int64_t x[LAMPHIEK_QUARTERS];
     any_values(x);
-    for (int i = 0; i < 12; i++) {
-        struct lent l = make_day(few_rows(), x);
-        struct words *lists[6] = {&l.table, &l.a, &l.b, &l.shares[0], &l.shares[1], &l.shares[2]};
-        *lists[i % 6] = i % 6 < 3 ? all : as_a_day;
+    for (int i = 0; i < 14; i++) {
+        struct lent l = make_short_day(x);
+        struct words *lists[7] = {&l.table, &l.a, &l.b, &l.shares[0], &l.shares[1], &l.shares[2], &l.calendar};
+        *lists[i % 7] = i % 7 < 3 ? all : i % 7 < 6 ? as_a_day : as_a_calendar;
         lamphiek_masks masks = {{draw()}, {0}};
+        lamphiek_quarters quarters;
+        both_day_quarters(&l, &quarters);
         both_day_prepare(&masks, &l);
         if (chance(50))
             l.deals = all;
@@ -165,17 +192,22 @@ static struct lent other_quarters(struct lent l, uint32_t number, uint32_t order
     return l;
 }
 
+static void forge_registers(struct host *h)
+{
+    for (int i = 0; i < LAMPHIEK_REGISTERS; i++) {
+        h->library.m[i] = h->model.m[i] = draw();
+        h->library.mask[i] = h->model.mask[i] = draw();
+    }
+}
+
 /* A call on a copy of a state on a day's way that is no call of this day. */
 static void day_astray(struct host h, uint32_t number, const struct lent *l)
 {
     struct lent other = *l;
     uint32_t job[JOB_MOST];
-    switch (below(7)) {
+    switch (below(8)) {
     case 0: /* other registers: no quarter reads one */
-        for (int i = 0; i < LAMPHIEK_REGISTERS; i++) {
-            h.library.m[i] = h.model.m[i] = draw();
-            h.library.mask[i] = h.model.mask[i] = draw();
-        }
+        forge_registers(&h);
         both_day_hear(&h, number, l, draw(), GENUINE);
         break;
     case 1:
@@ -183,11 +215,11 @@ static void day_astray(struct host h, uint32_t number, const struct lent *l)
         both_day_hear(&h, number, &other, draw(), GENUINE);
         break;
     case 2: /* another place */
-        forge_day_place(&h.library, l->table);
+        forge_day_place(&h.library, l, l->table);
         h.model = h.library;
         both_day_hear(&h, number, l, draw(), FORGED);
         break;
-    case 3: /* another table or list of shares, or lists too short */
+    case 3: /* another table, list of shares, calendar or weekday, or lists too short */
         other = damage_day(other);
         h.model = h.library;
         both_day_hear(&h, number, &other, draw(), FORGED);
@@ -201,6 +233,10 @@ static void day_astray(struct host h, uint32_t number, const struct lent *l)
         number = make_host();
         h.model = h.library;
         both_day_hear(&h, number, l, draw(), FORGED);
+        break;
+    case 6: /* the same quarters by another calendar */
+        other = same_hours(other);
+        both_day_hear(&h, number, &other, draw(), GENUINE);
         break;
     default: /* starting again */
         both_day_start(&h, number, l);
@@ -220,8 +256,9 @@ void round_of_hops(void)
 {
     int64_t x[LAMPHIEK_QUARTERS];
     any_values(x);
-    struct lent l = make_day(few_rows(), x);
+    struct lent l = make_short_day(x);
     level_shares(&l);
+    uint32_t quarters[LAMPHIEK_QUARTERS], n = counted(&l, quarters);
     uint32_t number = 1 + below(2), hops = 10 + below(40);
     struct host h = make_state();
     if (number == 1 && chance(50))
@@ -229,7 +266,7 @@ void round_of_hops(void)
     lamphiek_answer r = both_day_start(&h, number, &l);
     while (r.number == 0 && !ended(&h)) {
         if (chance(20) && h.library.order < MEAN) { /* at last into the last quarter, and so to the mean */
-            h.library.order = h.model.order = hops ? below(LAMPHIEK_QUARTERS) : MEAN - 1;
+            h.library.order = h.model.order = quarters[hops ? below(n) : n - 1];
             hops -= hops > 0;
         }
         if (chance(20))
@@ -264,18 +301,23 @@ static void run_day(const struct lent *l, lamphiek_masks *masks, struct host *on
     past_end(*two, 2, l);
 }
 
-void round_of_whole_day(uint32_t rows)
+void round_of_whole_day(uint32_t rows, uint32_t n)
 {
+    bool counts[LAMPHIEK_QUARTERS], left_out = false;
     int64_t x[LAMPHIEK_QUARTERS], expected[LAMPHIEK_REGISTERS] = {0}, opened;
     lamphiek_masks masks = {{draw()}, {0}};
     struct host one = make_state(), two = make_state();
     any_values(x);
-    struct lent l = make_day(rows, x);
-    for (int i = 0; i < LAMPHIEK_QUARTERS; i++)
+    struct lent l = make_day(rows, n, x);
+    if (plain_hours(l.calendar, l.weekday, counts))
+        fail("a sound calendar is none by plain arithmetic");
+    for (int i = 0; i < LAMPHIEK_QUARTERS; i++) {
         x[i] = chance(60) ? make_count(l.table) : x[i];
+        left_out = left_out || !counts[i];
+    }
     lend_shares(&l, x);
     run_day(&l, &masks, &one, &two);
-    plain_day(x, l.table, &expected[0], &expected[1]);
+    plain_day(x, counts, l.table, &expected[0], &expected[1]);
     for (int i = 0; i < LAMPHIEK_REGISTERS; i++) {
         const lamphiek_state *r = &one.library, *s = &two.library;
         lamphiek_shares left = {{masks.l1[i], masks.l2[i]}, {r->m[i], r->mask[i]}, {s->m[i], s->mask[i]}};
@@ -284,5 +326,5 @@ void round_of_whole_day(uint32_t rows)
         if (opened != expected[i])
             fail("a day opens otherwise than by plain arithmetic");
     }
-    held++;
+    (*(left_out ? &held.some : &held.all))++;
 }

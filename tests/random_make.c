@@ -30,9 +30,9 @@ uint32_t one_of(const uint32_t *from, size_t n) { return from[below((uint32_t)n)
 /* ---- rooms */
 
 /* The most words of each: the needs of a day on 16 rows, which are more than any job's, and some more. */
-static const size_t MOST[ROOMS] = {JOB_MOST,   TABLE_MOST,    JOB_MOST, TABLE_MOST, 41593 + 16,
-                                   20748 + 16, TEXT_MOST / 4, DAY_MOST, DAY_MOST,   DAY_MOST,
-                                   DAY_MOST,   20845 + 16,    20845 + 16};
+static const size_t MOST[ROOMS] = {JOB_MOST,   TABLE_MOST,    JOB_MOST,      TABLE_MOST, 41593 + 16,
+                                   20748 + 16, TEXT_MOST / 4, DAY_MOST,      DAY_MOST,   DAY_MOST,
+                                   DAY_MOST,   CALENDAR_MOST, CALENDAR_MOST, 20845 + 16, 20845 + 16};
 
 static struct {
     struct words all;

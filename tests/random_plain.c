@@ -1,5 +1,5 @@
-/* What the registers of a run open, by 64-bit arithmetic (document 01, "Orders" and "The curve"; R-1, R-3): no shares,
- * no gates.
+/* What the registers of a run open, by 64-bit arithmetic (document 01, "Orders" and "The curve"; R-1, R-3, R-6): no
+ * shares, no gates.
  * Of the masks only their sum L is followed, and only through kinds 0 to 3 and 6, since the truncations of kinds 6 and
  * 7 depend on it; elsewhere it is not known, and then neither is what depends on it. */
 #include "random.h"
@@ -95,16 +95,52 @@ static struct value plain_order(const struct value r[LAMPHIEK_REGISTERS], const 
     }
 }
 
-/* the values that the curve gives alone, added, and how many are those above the last row's count. */
-void plain_day(const int64_t x[LAMPHIEK_QUARTERS], struct words table, int64_t *mean, int64_t *above)
+/* ---- days */
+
+static bool are_windows(const uint32_t *w, uint32_t n, uint32_t most)
 {
-    int64_t sum = 0;
-    *above = 0;
-    for (int i = 0; i < LAMPHIEK_QUARTERS; i++) {
-        sum += curve(plainly(x[i]), LAMPHIEK_MODE_EXACT, table).v;
-        *above += signed_reading(table.at[table.n - 2] - x[i]) < 0;
+    bool all = n <= most;
+    for (uint32_t i = 0; all && i < n; i++)
+        all = w[2 * i] < w[2 * i + 1] && w[2 * i + 1] <= LAMPHIEK_MINUTES;
+    return all;
+}
+
+/* R-6, minute by minute. */
+uint32_t plain_hours(struct words calendar, uint32_t weekday, bool counts[LAMPHIEK_QUARTERS])
+{
+    bool open[LAMPHIEK_MINUTES] = {false}, any = false;
+    if (calendar.n != LAMPHIEK_CALENDAR_WORDS || weekday > 6)
+        return LAMPHIEK_CALENDAR;
+    for (uint32_t d = 0; d < LAMPHIEK_WEEKDAYS; d++) {
+        const uint32_t *day = calendar.at + LAMPHIEK_WEEKDAY_WORDS * d, *w = day + LAMPHIEK_OPEN_WINDOWS;
+        if (!are_windows(w, day[LAMPHIEK_OPEN_COUNT], LAMPHIEK_OPEN_MOST) ||
+            !are_windows(day + LAMPHIEK_CLEANING_WINDOWS, day[LAMPHIEK_CLEANING_COUNT], LAMPHIEK_CLEANING_MOST))
+            return LAMPHIEK_CALENDAR;
+        for (uint32_t i = 0; d == weekday && i < day[LAMPHIEK_OPEN_COUNT]; i++)
+            for (uint32_t minute = w[2 * i]; minute < w[2 * i + 1]; minute++)
+                open[minute] = true;
     }
-    *mean = floored(682 * sum, 65536);
+    for (int q = 0; q < LAMPHIEK_QUARTERS; q++) {
+        counts[q] = open[15 * q];
+        any = any || counts[q];
+    }
+    return any ? 0 : LAMPHIEK_CLOSED;
+}
+
+/* R-3, R-6: of the n quarters that count, the values that the curve gives alone, added, and how many are those above
+ * the last row's count. */
+void plain_day(const int64_t x[LAMPHIEK_QUARTERS], const bool counts[LAMPHIEK_QUARTERS], struct words table,
+               int64_t *mean, int64_t *above)
+{
+    int64_t sum = 0, n = 0;
+    *above = 0;
+    for (int i = 0; i < LAMPHIEK_QUARTERS; i++)
+        if (counts[i]) {
+            n++;
+            sum += curve(plainly(x[i]), LAMPHIEK_MODE_EXACT, table).v;
+            *above += signed_reading(table.at[table.n - 2] - x[i]) < 0;
+        }
+    *mean = floored(65536 / n * sum, 65536);
 }
 
 void plain_job(struct value r[LAMPHIEK_REGISTERS], struct words job, struct words table)

@@ -74,6 +74,35 @@ static int set_quarters(const uint32_t *words, size_t n)
     return 1;
 }
 
+/* Windows of a weekday, how many and where: those past the room are counted alone, since the count is refused. */
+static int set_windows(const uint32_t *words, size_t n, size_t count_at, size_t windows_at, size_t most)
+{
+    if (words[0] >= LAMPHIEK_WEEKDAYS || n % 2 == 0)
+        return 0;
+    uint32_t *day = set.calendar + LAMPHIEK_WEEKDAY_WORDS * words[0];
+    size_t windows = n / 2, room = windows < most ? windows : most;
+    day[count_at] = (uint32_t)windows;
+    memcpy(day + windows_at, words + 1, 2 * room * sizeof *words);
+    return 1;
+}
+
+static int set_opening(const uint32_t *words, size_t n)
+{
+    return set_windows(words, n, LAMPHIEK_OPEN_COUNT, LAMPHIEK_OPEN_WINDOWS, LAMPHIEK_OPEN_MOST);
+}
+
+static int set_cleaning(const uint32_t *words, size_t n)
+{
+    return set_windows(words, n, LAMPHIEK_CLEANING_COUNT, LAMPHIEK_CLEANING_WINDOWS, LAMPHIEK_CLEANING_MOST);
+}
+
+static int set_weekday(const uint32_t *words, size_t n)
+{
+    (void)n;
+    set.weekday = words[0];
+    return 1;
+}
+
 static const struct {
     const char *name;
     size_t least, most; /* numbers behind the name */
@@ -85,7 +114,20 @@ static const struct {
     {"lend", 3, 3, do_lend},        {"prepare", 0, 0, do_prepare},  {"start", 1, 1, do_start},
     {"hear", 2, 2, do_hear},        {"talk", 1, 1, do_talk},        {"place", 3, 3, do_place},
     {"state", 1, 1, do_state},      {"unused", 1, 1, do_unused},    {"load", 0, ANY, load_table},
+    {"opening", 1, 1 + 2 * WINDOWS_MOST, set_opening},
+    {"cleaning", 1, 1 + 2 * WINDOWS_MOST, set_cleaning},
+    {"weekday", 1, 1, set_weekday},
 };
+
+/* What no line has set yet: the house table, a whole day, and every weekday open all day. */
+static void set_defaults(void)
+{
+    lamphiek_house(set.table);
+    set.table_words = LAMPHIEK_HOUSE_WORDS;
+    set.quarters = LAMPHIEK_QUARTERS;
+    for (uint32_t d = 0; d < LAMPHIEK_WEEKDAYS; d++)
+        set_opening((const uint32_t[]){d, 0, LAMPHIEK_MINUTES}, 3);
+}
 
 /* ---- lines */
 
@@ -127,9 +169,7 @@ int main(void)
 {
     static char line[LINE_BYTES + 1]; /* one byte more than a line has: it tells a longer one */
     size_t length = 0;
-    lamphiek_house(set.table);
-    set.table_words = LAMPHIEK_HOUSE_WORDS;
-    set.quarters = LAMPHIEK_QUARTERS;
+    set_defaults();
     for (int c; (c = getchar()) != EOF;) {
         if (c == '\n') {
             take(line, length);

@@ -7,6 +7,7 @@
 
 enum { LINE_BYTES = 4096, LINE_WORDS = LINE_BYTES / 2, ANY = LINE_WORDS };
 enum { QUARTERS_MOST = LAMPHIEK_QUARTERS + 1 }; /* one more than a day has can be lent */
+enum { WINDOWS_MOST = 16 };                     /* more than a calendar may have can be set */
 
 /* What the lines so far have set. */
 struct settings {
@@ -15,6 +16,7 @@ struct settings {
     uint32_t m[LAMPHIEK_REGISTERS], l1[LAMPHIEK_REGISTERS], l2[LAMPHIEK_REGISTERS];
     uint32_t day_lists[3][2 * QUARTERS_MOST]; /* hosts 0, 1, 2 */
     size_t quarters;
+    uint32_t calendar[LAMPHIEK_CALENDAR_WORDS], weekday;
 };
 extern struct settings set;
 

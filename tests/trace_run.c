@@ -10,14 +10,16 @@ struct end {
     lamphiek_state first, second;
 };
 
-/* What a day needs: so often an exact curve, and one exact truncation. */
+/* What a day needs: an exact curve for each quarter that counts, and one exact truncation. Where the calendar is
+ * refused, the preparation says so. */
 static lamphiek_counts day_needs(void)
 {
     static const uint32_t curve[4] = {LAMPHIEK_CURVE, 0, 0, LAMPHIEK_MODE_EXACT}, mean[4] = {LAMPHIEK_EXACT, 0, 0, 16};
     lamphiek_counts quarter = {0}, last = {0};
     lamphiek_check(curve, 4, set.table, set.table_words, &quarter);
     lamphiek_check(mean, 4, set.table, set.table_words, &last);
-    const uint32_t n = LAMPHIEK_QUARTERS;
+    lamphiek_quarters counted = {{0}};
+    const uint32_t n = lamphiek_day_quarters(set.calendar, LAMPHIEK_CALENDAR_WORDS, set.weekday, &counted).count;
     return (lamphiek_counts){n * quarter.deals + last.deals, n * quarter.words + last.words, n * quarter.a + last.a,
                              n * quarter.b + last.b};
 }

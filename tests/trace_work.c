@@ -65,7 +65,8 @@ void free_masks(struct work *w)
 /* ---- the calls; a host that is none is lent what host 1 is */
 
 #define JOB(w) (w)->job, (w)->job_words, set.table, set.table_words
-#define DAY(host) set.table, set.table_words, set.day_lists[host], 2 * set.quarters
+#define HOURS set.calendar, LAMPHIEK_CALENDAR_WORDS, set.weekday
+#define DAY(host) set.table, set.table_words, set.day_lists[host], 2 * set.quarters, HOURS
 #define MASKS_1(w) (w)->a, (w)->a_words, NULL, 0
 #define MASKS_2(w) (w)->b, (w)->b_words, (w)->deals, (w)->deals_words
 

@@ -6,6 +6,7 @@ use Rattle.calls.specs.Calls.{State, Answer, start, hear, Prepared}
 use Rattle.runs.specs.Runs.{ready, going, World, Call, lent1, lent2, Dealt, preparation, held, Completes, prepares, starts1, starts2}
 use Rattle.runs.specs.Runs.{hears1, hears2, given-out, Run, begin, complete, refuse}
 use Rattle.runs.proofs.Kept.{refuses-nothing, kept}
+use Rattle.days.specs.Day.{hours}
 use Rattle.days.specs.DayCalls.{own-answer, own-masks}
 use Rattle.day_demands.specs.Settings.{DaySetting, day-staged}
 use Rattle.day_demands.specs.Runs.{unprepared, prepared, resting, running, DayWorld, day-world, answering, prepare0, start1, start2}
@@ -84,6 +85,6 @@ module _ (w : ℕ) (S : DaySetting) where
   led (refuse R c) =
       let f = led R in (
         f .0,
-        day-refuse (f .1) (day-refuses-elsewhere [] [] [] [] [] (none-prepared w)),
+        day-refuse (f .1) (day-refuses-elsewhere [] [] (hours [] 0) [] [] [] (none-prepared w)),
         subst (Same (f .0)) (sym (refuses-nothing (day-staged w S) (kept (day-staged w S) R) c)) (f .2),
       )

@@ -1,6 +1,6 @@
 -- No step of a day writes a slot behind the 24 registers and kept words. Assumes nothing.
 use mathlib.Core.Path.{_≡_}
-use mathlib.Core.Bool.{false}
+use mathlib.Core.Bool.{Bool, true, false, cond}
 use mathlib.Core.List.{List, [], _∷_, _++_}
 use Prim.Native.Nat.{ℕ, zero, suc, _≤_, _<_}
 use native.Mathlib.Omega.{arith}
@@ -13,7 +13,7 @@ use Rattle.programs.specs.Orders.{curve-program}
 use Rattle.programs.proofs.Points.{target, Other}
 use Rattle.runs.proofs.Written.{none, also, spares-append, spared, front-exact, front-curve}
 use Rattle.runs.proofs.Behind.{Low, SparesFrom, AllSpareFrom, low-orders}
-use Rattle.days.specs.Day.{share-slot, quarter-program, mean-program, quarters, day-gates, day-steps}
+use Rattle.days.specs.Day.{share-slot, quarter-program, mean-program, quarters, day-factor, day-gates, day-steps}
 
 -- a slot behind them is no register and no kept word
 not-own : (i t : ℕ) → 24 ≤ i → t < 24 → eqb i t ≡ false
@@ -43,22 +43,28 @@ module _ (w : ℕ) where
       (spared i acc-slot curve (o .i22) (front-curve i o w (share-slot q) acc-slot ps 0))
       (also (not-own i 0 h (lit≤ tt)) (also (not-own i 1 h (lit≤ tt)) none))
 
-  mean-spares : SparesFrom 24 (mean-program w)
+  mean-spares : (by : ℕ) → SparesFrom 24 (mean-program w by)
   unfolding mean-program target
-  mean-spares i h =
+  mean-spares k i h =
       let o = behind-own i h in
       also (o .i22) (spared i 0 (exact-program w 16 acc-slot 0) (not-own i 0 h (lit≤ tt)) (front-exact i o w 16 acc-slot 0))
 
+module _ (w : ℕ) (f : ℕ → Bool) (ps : List Row) where
+  -- a quarter left out has no gates
+  order-spares : (b : Bool) (q : ℕ) → SparesFrom 24 (cond b (quarter-program w q ps) [])
+  order-spares true q i h = quarter-spares w ps q i h
+  order-spares false q i h = none
+
   -- the quarters, and a last program behind them
-  quarters-spare : (ps : List Row) (q n : ℕ) (gs : List Gate) → SparesFrom 24 gs → AllSpareFrom 24 (quarters w ps q n ++ (gs ∷ []))
+  quarters-spare : (q n : ℕ) (gs : List Gate) → SparesFrom 24 gs → AllSpareFrom 24 (quarters w f ps q n ++ (gs ∷ []))
   unfolding quarters
-  quarters-spare ps q zero gs h = (h, tt)
-  quarters-spare ps q (suc n) gs h = (quarter-spares ps q, quarters-spare ps (suc q) n gs h)
+  quarters-spare q zero gs h = (h, tt)
+  quarters-spare q (suc n) gs h = (order-spares (f q) q, quarters-spare (suc q) n gs h)
 
-  day-spares : (ps : List Row) → AllSpareFrom 24 (day-gates w ps)
+  day-spares : AllSpareFrom 24 (day-gates w f ps)
   unfolding day-gates
-  day-spares ps = quarters-spare ps 0 96 (mean-program w) mean-spares
+  day-spares = quarters-spare 0 96 (mean-program w (day-factor f)) (mean-spares w (day-factor f))
 
-  pub day-low : (table : List ℕ) → Low 24 (day-steps w table)
-  unfolding day-steps
-  day-low table = low-orders w 24 (day-gates w (rows table)) (day-spares (rows table))
+pub day-low : (w : ℕ) (table : List ℕ) (f : ℕ → Bool) → Low 24 (day-steps w table f)
+unfolding day-steps
+day-low w table f = low-orders w 24 (day-gates w f (rows table)) (day-spares w f (rows table))

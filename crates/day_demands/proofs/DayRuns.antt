@@ -15,7 +15,7 @@ use Rattle.runs.specs.Runs.{Turned, Call, lent1, lent2, Dealt, preparation, hel
 use Rattle.runs.specs.Runs.{hears1, hears2, given-out, Run, begin, complete, refuse}
 use Rattle.runs.proofs.Refusals.{hear-state, prepare-back, HasSlots, turned-same}
 use Rattle.runs.proofs.Behind.{both-hold}
-use Rattle.days.specs.Day.{day-script}
+use Rattle.days.specs.Day.{Hours, day-script}
 use Rattle.days.specs.DayCalls.{firsts, seconds, day-given, with-shares, own-state, own-answer, own-masks, day-lent, day-hear, day-prepare}
 use Rattle.days.proofs.Lanes.{front-lane}
 use Rattle.day_demands.specs.Settings.{DaySetting, behind-zeros, behind-full, day-staged}
@@ -50,20 +50,20 @@ lane-length : (l : Lane) → 120 ≤ length l → length (take 24 l) ≡ 24
 lane-length l h = length-take 24 l ∙ min-eq-left (omega (arith, h))
 
 module _ (w : ℕ) where
-  heard-back : (h : ℕ) (T L M D : List ℕ) (v : ℕ) (s : State) → HasSlots 120 s
-      → day-hear w h T L M D (own-state s) v .number ≢ 0
-      → day-hear w h T L M D (own-state s) v .state ≡ own-state s
+  heard-back : (h : ℕ) (T L : List ℕ) (H : Hours) (M D : List ℕ) (v : ℕ) (s : State) → HasSlots 120 s
+      → day-hear w h T L H M D (own-state s) v .number ≢ 0
+      → day-hear w h T L H M D (own-state s) v .state ≡ own-state s
   unfolding day-hear with-shares
-  heard-back h T L M D v s z n =
-      ap {B = State} (λ (x : State). own-state x) (hear-state (day-lent w h T L M D) (with-shares (own-state s) L) v n)
+  heard-back h T L H M D v s z n =
+      ap {B = State} (λ (x : State). own-state x) (hear-state (day-lent w h T L H M D) (with-shares (own-state s) L) v n)
       ∙ rw (
         front-lane (take 24 (s .m)) (firsts L) (lane-length (s .m) (z .m)),
         front-lane (take 24 (s .mask)) (seconds L) (lane-length (s .mask) (z .mask)),
       )
 
-  buffer-back : (T L A B buf : List ℕ) → day-prepare w T L A B buf .number ≢ 0 → day-prepare w T L A B buf .buffer ≡ buf
+  buffer-back : (T L : List ℕ) (H : Hours) (A B buf : List ℕ) → day-prepare w T L H A B buf .number ≢ 0 → day-prepare w T L H A B buf .buffer ≡ buf
   unfolding day-prepare
-  buffer-back T L A B buf n = prepare-back (day-script w T (length L)) A B buf (day-given L) n .1
+  buffer-back T L H A B buf n = prepare-back (day-script w T (length L) H) A B buf (day-given L) n .1
 
 -- ---- the run
 
@@ -137,16 +137,16 @@ module _ (w : ℕ) (S : DaySetting) where
   completed (world z′ buf′ (going s1′ t1 said1′) (waiting s′)) R (z, b, p, q) (day-hears2 D d v m n) = absurd q
 
   -- a hearing turned down
-  hearing-back : (x : DayHost) (y : Side) → HasSlots 120 (side-state y) → (h : ℕ) (T L M D : List ℕ) (v : ℕ)
-      → day-hear w h T L M D (host-state x) v .number ≢ 0
+  hearing-back : (x : DayHost) (y : Side) → HasSlots 120 (side-state y) → (h : ℕ) (T L : List ℕ) (H : Hours) (M D : List ℕ) (v : ℕ)
+      → day-hear w h T L H M D (host-state x) v .number ≢ 0
       → SameHost x y
-      → SameHost (with-answer x (day-hear w h T L M D (host-state x) v .state)) y
-  hearing-back (resting s) (waiting s′) z h T L M D v n p = tt
-  hearing-back (resting s) (going s′ t said′) z h T L M D v n p = absurd p
-  hearing-back (running s said) (waiting s′) z h T L M D v n p = absurd p
-  hearing-back (running s said) (going s′ t said′) z h T L M D v n p = (
-    subst (λ (x : State). day-hear w h T L M D x v .number ≢ 0 → day-hear w h T L M D x v .state ≡ own-state s′) (sym (p .0))
-        (heard-back w h T L M D v s′ z) n,
+      → SameHost (with-answer x (day-hear w h T L H M D (host-state x) v .state)) y
+  hearing-back (resting s) (waiting s′) z h T L H M D v n p = tt
+  hearing-back (resting s) (going s′ t said′) z h T L H M D v n p = absurd p
+  hearing-back (running s said) (waiting s′) z h T L H M D v n p = absurd p
+  hearing-back (running s said) (going s′ t said′) z h T L H M D v n p = (
+    subst (λ (x : State). day-hear w h T L H M D x v .number ≢ 0 → day-hear w h T L H M D x v .state ≡ own-state s′) (sym (p .0))
+        (heard-back w h T L H M D v s′ z) n,
     p .1,
   )
 
@@ -171,13 +171,13 @@ module _ (w : ℕ) (S : DaySetting) where
 
   -- calls that are refused: the run's world stays as it is, and the day's is still the same
   refused : {cs : List Call} {u u′ : DayWorld} (v : World) → Run (day-staged w S) cs v → Same u v → DayRefuses w S u u′ → Same u′ v
-  refused (world z′ buf′ one two) R (z, b, p, q) (day-refuses0 {buf = buf} T L A B n) = (z, buffer-back w T L A B buf n ∙ b, p, q)
-  refused v R e (day-refuses-elsewhere T L A B other n) = e
-  refused v R e (day-refuses-start h T L M D n) = e
-  refused (world z′ buf′ one′ two′) R (z, b, p, q) (day-refuses1 {one = one} h T L M D v n) =
-      (z, b, hearing-back one one′ (both-hold (day-staged w S) R .0) h T L M D v n p, q)
-  refused (world z′ buf′ one′ two′) R (z, b, p, q) (day-refuses2 {two = two} h T L M D v n) =
-      (z, b, p, hearing-back two two′ (both-hold (day-staged w S) R .1) h T L M D v n q)
+  refused (world z′ buf′ one two) R (z, b, p, q) (day-refuses0 {buf = buf} T L H A B n) = (z, buffer-back w T L H A B buf n ∙ b, p, q)
+  refused v R e (day-refuses-elsewhere T L H A B other n) = e
+  refused v R e (day-refuses-start h T L H M D n) = e
+  refused (world z′ buf′ one′ two′) R (z, b, p, q) (day-refuses1 {one = one} h T L H M D v n) =
+      (z, b, hearing-back one one′ (both-hold (day-staged w S) R .0) h T L H M D v n p, q)
+  refused (world z′ buf′ one′ two′) R (z, b, p, q) (day-refuses2 {two = two} h T L H M D v n) =
+      (z, b, p, hearing-back two two′ (both-hold (day-staged w S) R .1) h T L H M D v n q)
   refused (world z′ buf′ one two) R (d, b, p, q) (job-refuses0 {z = z} {buf = buf} σ A B given g n) =
       let k = prepare-back σ A B buf given n in
       (masks-given z z′ given (prepare σ A B buf given .masks) g (k .0) d, k .1 ∙ b, p, q)

@@ -1,5 +1,6 @@
 -- R-4 in a day: the sides that are known. Assumes nothing.
 use mathlib.Core.Path.{_≡_, refl, sym, ap, _∙_}
+use mathlib.Core.Bool.{Bool, true, false, cond}
 use mathlib.Core.List.{List, [], _∷_, _++_}
 use Prim.Native.Nat.{ℕ, zero, suc}
 use lib.ListN.{take}
@@ -15,7 +16,7 @@ use Rattle.calls.specs.Calls.{State}
 use Rattle.runs.specs.Runs.{Spoken, going, waiting, World, world, Call, Run}
 use Rattle.runs.specs.KnownSides.{AtKnown, Sides}
 use Rattle.runs.proofs.KnownSides.{sides}
-use Rattle.days.specs.Day.{share-slot, quarter-program, mean-program, quarters, day-gates, day-steps, day-script}
+use Rattle.days.specs.Day.{share-slot, quarter-program, mean-program, quarters, day-factor, day-gates, day-steps, counting, day-script}
 use Rattle.days.specs.DayCalls.{own-state}
 use Rattle.day_demands.specs.Settings.{DaySetting, day-staged}
 use Rattle.day_demands.specs.Runs.{DayDealer, DayHost, running, day-world, DayRun, Same}
@@ -27,22 +28,28 @@ module _ (w : ℕ) where
   unfolding quarter-program meaning saves
   told-quarter q ps = told-append (told-curve w (share-slot q) _ ps 0) (plain refl (plain refl none))
 
-  told-mean : Told w (mean-program w)
+  told-mean : (by : ℕ) → Told w (mean-program w by)
   unfolding mean-program meaning saves
-  told-mean = plain refl (told-exact w 16 _ 0)
+  told-mean k = plain refl (told-exact w 16 _ 0)
 
-  -- n quarters, and orders behind them
-  told-quarters : (ps : List Row) (q n : ℕ) (os : List (List Gate)) → AllTold w os → AllTold w (quarters w ps q n ++ os)
+  -- n quarters, those left out with no gates, and orders behind them
+  told-order : (b : Bool) (q : ℕ) (ps : List Row) → Told w (cond b (quarter-program w q ps) [])
+  told-order true q ps = told-quarter q ps
+  told-order false q ps = none
+
+  told-quarters : (f : ℕ → Bool) (ps : List Row) (q n : ℕ) (os : List (List Gate)) → AllTold w os
+      → AllTold w (quarters w f ps q n ++ os)
   unfolding quarters
-  told-quarters ps q zero os h = h
-  told-quarters ps q (suc n) os h = (told-quarter q ps, told-quarters ps (suc q) n os h)
+  told-quarters f ps q zero os h = h
+  told-quarters f ps q (suc n) os h = (told-order (f q) q ps, told-quarters f ps (suc q) n os h)
 
   day-sides : (S : DaySetting) → Sides (day-staged w S)
   unfolding day-steps day-gates
   day-sides S =
+      let f = counting (S .hours) in
       sides (day-staged w S)
-      (job-known w (S .A) (S .B) (day-gates w (rows (S .table)))
-      (told-quarters (rows (S .table)) 0 96 (mean-program w ∷ []) (told-mean, tt)))
+      (job-known w (S .A) (S .B) (day-gates w f (rows (S .table)))
+      (told-quarters f (rows (S .table)) 0 96 (mean-program w (day-factor f) ∷ []) (told-mean (day-factor f), tt)))
 
 -- ---- the day's own calls
 
@@ -67,7 +74,7 @@ same-place σ s s′ e k =
 
 module _ (w : ℕ) (S : DaySetting) (cs : List Call) (z : DayDealer) (buf : List ℕ) (s : State) (said : List Spoken) where
   abbrev σ : Script
-  σ = day-script w (S .table) 192
+  σ = day-script w (S .table) 192 (S .hours)
 
   own1 : (two : DayHost) → DayRun w S cs (day-world z buf (running s said) two) → (k : AtKnown σ s) → at (s .mask) (k .a) ≡ 0
   unfolding same-place

@@ -5,6 +5,8 @@ pub mod Calls
 pub mod Programs
 pub mod Values
 pub mod Sums
+pub mod Whole
+pub mod Unplaced
 pub mod Opened
 pub mod Holdings
 pub mod DayRuns

@@ -24,8 +24,8 @@ use Rattle.demands.proofs.Curves.{rules-kept, curve-opens}
 use Rattle.demands.proofs.Whole.{accepted-told}
 use Rattle.day_demands.specs.Settings.{DaySetting, day-staged, quarter-share, quarter-reading}
 use Rattle.day_demands.specs.Numbers.{day-terms}
-use Rattle.day_demands.specs.Opened.{curve-alone, sum-of, above-of, Sheet, DayOpens}
-use Rattle.days.specs.Day.{day-of, day-cost}
+use Rattle.day_demands.specs.Opened.{curve-alone, sum-of, above-of, factor-of, Sheet, DayOpens}
+use Rattle.days.specs.Day.{day-of}
 use Rattle.days.proofs.Counts.{day-counts, day-orders, day-orderly}
 use Rattle.day_demands.proofs.Numbers.{told, single}
 use Rattle.day_demands.proofs.Values.{alone-reads, alone-low, alone-high, sheet-keeps, product-within, count-reads}
@@ -40,7 +40,7 @@ module _ (S : DaySetting) (q : ℕ) (v : World) (F : Finishes 32 (day-staged 32 
   others : (i : ℕ) → 1 < i → i < 16 → opened-after 32 v q i ≡ (0, pos 0)
   unfolding signed sub add
   others i a b =
-      let h : q < 97 = rw (day-orders 32 (S .table) 192) at (in-script (day-staged 32 S) v (F .run) q (F .finished .one)) in
+      let h : q < 97 = rw (day-orders 32 (S .table) 192 (S .hours)) at (in-script (day-staged 32 S) v (F .run) q (F .finished .one)) in
       as-number i (ap (λ (x : Share ℕ). signed 32 (value (numbers 32) x)) (other-share S (F .words) q i (omega arith) a b))
 
   module _ (sheet : Sheet S) (h : q < 96) where
@@ -53,7 +53,7 @@ module _ (S : DaySetting) (q : ℕ) (v : World) (F : Finishes 32 (day-staged 32 
     count = as-number 1 (count-reads S (suc q) (omega arith) (count-is S (F .words) sheet (suc q) (omega arith)))
 
 module _ (S : DaySetting) (sheet : Sheet S) (v : World) (F : Finishes 32 (day-staged 32 S) 96 v) where
-  mean : opened-after 32 v 96 0 ≡ (0, floor (pos 682 *ℤ sum-of S 96) 65536)
+  mean : opened-after 32 v 96 0 ≡ (0, floor (pos (factor-of S) *ℤ sum-of S 96) 65536)
   mean = as-number S 96 v F 0 (mean-is S (F .words) sheet)
 
   mean-count : opened-after 32 v 96 1 ≡ (0, pos (above-of S 96))
@@ -62,7 +62,7 @@ module _ (S : DaySetting) (sheet : Sheet S) (v : World) (F : Finishes 32 (day-st
   -- the last order is finished: what the hosts hold is as it left them
   now-as-left : (i : ℕ) → i < 120 → opened-now 32 120 v i ≡ opened-after 32 v 96 i
   now-as-left i h =
-      returned 32 .all-done (day-staged 32 S) (day-orderly 32 (S .table) 192) 96 v F (sym (day-orders 32 (S .table) 192)) i h
+      returned 32 .all-done (day-staged 32 S) (day-orderly 32 (S .table) 192 (S .hours)) 96 v F (sym (day-orders 32 (S .table) 192 (S .hours))) i h
 
 -- a curve order of a job
 alone : (J : Setting) (q : ℕ) (v : World) → Finishes 32 (staged 32 J) q v → Exact J q → T (in-range 32 (reading 32 J q))
@@ -81,7 +81,7 @@ split-reading S q x l1 l2 r h1 h2 e =
     ap (λ (p : ℕ × ℤ). p .1)
     (sym (share-opens 32 (quarter-share S q)) ∙ ap (reconstruction 32) (sym e) ∙ round-trip 32 x l1 l2 (lit≤ tt) r h1 h2 .1)
 
-house-counts : day-cost 8 ≡ cost-of 11629 23064 23161 11532
+house-counts : day-of 96 (kind-cost 10 0 8) ≡ cost-of 11629 23064 23161 11532
 unfolding day-of times-cost kind-cost kind-costs curve-cost plus
 house-counts = refl
 
@@ -105,5 +105,7 @@ day-opens =
       house-counts = house-counts;
       orders = day-orders 32;
       orderly = day-orderly 32;
-      accepted = λ S buf. accepted-told (day-staged 32 S) (day-terms (S .table) 192) (told (S .table) 192) (single (S .table) 192) buf;
+      accepted = λ S buf.
+          accepted-told (day-staged 32 S) (day-terms (S .table) 192 (S .hours)) (told (S .table) 192 (S .hours))
+          (single (S .table) 192 (S .hours)) buf;
     }

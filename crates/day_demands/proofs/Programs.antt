@@ -82,18 +82,18 @@ module _ (w : ℕ) (A B : List ℕ) (hA : Fits w A) (hB : Fits w B) (low : 2 ≤
     unfolding afters target
     quarter-keeps i o i0 i1 = ap (λ (H : Pt). share (H .j) i) parts ∙ (simp keep-share) ∙ curve-kept i o
 
-  -- ---- the mean
+  -- ---- the mean, by a factor
 
-  module _ (G : Pt) where
+  module _ (k : ℕ) (G : Pt) where
     abbrev scaled-at : Pt
-    scaled-at = after w A B hA hB (Scale acc-slot 0 682) G
+    scaled-at = after w A B hA hB (Scale acc-slot 0 k) G
 
-    pub mean-opens : 16 < w → opened (run (mean-program w) G) 0 ≡ shr-signed w 16 (mul w (opened G 0) 682)
+    pub mean-opens : 16 < w → opened (run (mean-program w k) G) 0 ≡ shr-signed w 16 (mul w (opened G 0) k)
     unfolding mean-program afters
     mean-opens h =
-        exact-of w A B hA hB low 16 acc-slot 0 scaled-at refl (lit≤ tt) h ∙ ap (shr-signed w 16) (at-scale w A B hA hB G acc-slot refl 0 682)
+        exact-of w A B hA hB low 16 acc-slot 0 scaled-at refl (lit≤ tt) h ∙ ap (shr-signed w 16) (at-scale w A B hA hB G acc-slot refl 0 k)
 
-    pub mean-keeps : (i : ℕ) → Other 0 i → share (run (mean-program w) G .j) i ≡ share (G .j) i
+    pub mean-keeps : (i : ℕ) → Other 0 i → share (run (mean-program w k) G .j) i ≡ share (G .j) i
     unfolding mean-program afters target
     mean-keeps i o =
-        exact-keeps w A B hA hB 16 acc-slot 0 scaled-at refl low i o ∙ keep-share w A B hA hB (Scale acc-slot 0 682) G i (o .i22)
+        exact-keeps w A B hA hB 16 acc-slot 0 scaled-at refl low i o ∙ keep-share w A B hA hB (Scale acc-slot 0 k) G i (o .i22)

@@ -1,14 +1,15 @@
 -- The runs of a day's own calls are the runs of its script, whole ones exist, and at the day's end they open the mean and
 -- the count. Assumes nothing.
-use mathlib.Core.Path.{_≡_, ap, _∙_, subst}
+use mathlib.Core.Path.{_≡_, ap, ap₂, _∙_, subst}
 use mathlib.Core.List.{List, []}
 use Prim.Native.Nat.{ℕ, _≤_, _<_}
 use native.Mathlib.Nat.{lt-of-lt-of-le}
 use native.Mathlib.Omega.{arith}
 use lib.Dec.{lit<, lit≤}
-use lib.IntN.{ℤ}
+use lib.IntN.{ℤ, pos, _*ℤ_}
 use lib.ListN.{take}
 use lib.Seq.{getD-take}
+use Rattle.words.specs.Signed.{floor}
 use Rattle.gates.specs.Hosts.{Pair}
 use Rattle.calls.specs.Scripts.{orders-in}
 use Rattle.calls.specs.Calls.{State}
@@ -26,8 +27,10 @@ use Rattle.day_demands.specs.Settings.{DaySetting, day-staged}
 use Rattle.day_demands.specs.Runs.{DayDealer, unprepared, prepared, DayHost, resting, running, DayWorld, day-world, host-state, DayCompletes, DayRun}
 use Rattle.day_demands.specs.Runs.{SameDealer, SameHost, Same, day-buffer, dealer-masks, host-lanes, day-opened}
 use Rattle.day_demands.specs.Numbers.{day-terms}
+use Rattle.day_demands.specs.Opened.{sum-of, above-of, factor-of, Sheet}
 use Rattle.day_demands.specs.Returned.{AtEnd, BothAtEnd, DayReturned}
 use Rattle.day_demands.proofs.Opened.{day-opens}
+use Rattle.day_demands.proofs.Whole.{old-factor, old-sum, old-above}
 use Rattle.day_demands.proofs.DayRuns.{given-lanes, given-held, followed}
 use Rattle.day_demands.proofs.Back.{back, led}
 
@@ -119,16 +122,16 @@ module _ (S : DaySetting) where
   the-day = day-staged 32 S
 
   abbrev Unrefused : (buf : List ℕ) → Type 0
-  Unrefused buf = PreparationIs (day-terms (S .table) 192) (S .A) (S .B) buf 0 0
+  Unrefused buf = PreparationIs (day-terms (S .table) 192 (S .hours)) (S .A) (S .B) buf 0 0
 
   last-order : 96 < orders-in (the-day .script)
-  last-order = omega (arith, day-opens .orders (S .table) 192)
+  last-order = omega (arith, day-opens .orders (S .table) 192 (S .hours))
 
   -- the mean finished in the script's run: the day's hosts are at the end
   all-done : {cs : List Call} (u : DayWorld) (v : World) → Run the-day cs v → Same u v → Finished v 96 → BothAtEnd u
   all-done (day-world z b one two) (world z′ b′ one′ two′) R (d, e, p, q) f =
       let o = kept the-day R in
-      let n : orders-in (the-day .script) ≡ 97 = day-opens .orders (S .table) 192 in (
+      let n : orders-in (the-day .script) ≡ 97 = day-opens .orders (S .table) 192 (S .hours) in (
         host-done one one′ p (f .one) (omega (arith, inside1 o, n)),
         host-done two two′ q (f .two) (omega (arith, inside2 o, n)),
       )
@@ -165,6 +168,15 @@ module _ (S : DaySetting) where
       (strict .finishes the-day [] cs (f .0) (n .0) (n .1) (n .2) k (λ c v′ x o. none c _ (back 32 S u (f .1) (f .2) x .1)) 96
       last-order)
 
+-- what a day opens at its end
+module _ (S : DaySetting) (sheet : Sheet S) (W : Words 32 (day-staged 32 S)) (cs : List Call) (u : DayWorld) (r : DayRun 32 S cs u) (e : BothAtEnd u)
+  where
+    mean : day-opened 32 u 0 ≡ (0, floor (pos (factor-of S) *ℤ sum-of S 96) 65536)
+    mean = at-end S W cs u r e 0 (lit< tt) _ (λ v F. day-opens .returned-mean S sheet v F)
+
+    count : day-opened 32 u 1 ≡ (0, pos (above-of S 96))
+    count = at-end S W cs u r e 1 (lit< tt) _ (λ v F. day-opens .returned-count S sheet v F)
+
 pub day-returned : DayReturned
 day-returned =
     record {
@@ -172,6 +184,11 @@ day-returned =
       of-run = λ w S cs v R. led w S R;
       whole = whole-day;
       finishes = finish-day;
-      mean = λ S sheet W cs u r e. at-end S W cs u r e 0 (lit< tt) _ (λ v F. day-opens .returned-mean S sheet v F);
-      count = λ S sheet W cs u r e. at-end S W cs u r e 1 (lit< tt) _ (λ v F. day-opens .returned-count S sheet v F);
+      mean = mean;
+      count = count;
+      old-mean = λ S sheet all W cs u r e.
+          mean S sheet W cs u r e
+          ∙ ap₂ {C = ℕ × ℤ} (λ (k : ℕ) (z : ℤ). (0, floor (pos k *ℤ z) 65536)) (old-factor S all) (old-sum S all 96 (lit≤ tt));
+      old-count = λ S sheet all W cs u r e.
+          count S sheet W cs u r e ∙ ap {B = ℕ × ℤ} (λ (k : ℕ). (0, pos k)) (old-above S all 96 (lit≤ tt));
     }

@@ -1,17 +1,19 @@
--- On the joint walk of a day: after n quarters register 0 opens the sum of their values and register 1 the number above the last row, the
--- lent shares open the readings, and the last order leaves the mean. Assumes nothing.
+-- On the joint walk of a day: after n quarters register 0 opens the sum of the values of those that count and register 1 the number of them
+-- above the last row, the lent shares open the readings, and the last order leaves the mean. Assumes nothing.
 use mathlib.Core.Path.{_≡_, refl, sym, ap, ap₂, _∙_, subst}
-use mathlib.Core.Bool.{false}
+use mathlib.Core.Bool.{Bool, true, false, cond}
 use mathlib.Core.List.{List}
-use Prim.Native.Nat.{ℕ, zero, suc, _+_, _≤_, _<_}
+use mathlib.Core.Logic.{_↔_}
+use Prim.Native.Nat.{ℕ, zero, suc, _+_, _^_, _≤_, _<_}
 use native.Mathlib.Nat.{mod-eq-of-lt}
 use native.Mathlib.Omega.{arith}
 use native.Mathlib.Decide.{decLt}
 use borrow.Author.Tests.{ne-eqb}
 use lib.Dec.{T, eqb, lit≤, lit<}
-use lib.IntN.{ℤ, pos, _+ℤ_, _*ℤ_, *ℤ-comm}
+use lib.IntN.{ℤ, pos, _+ℤ_, _*ℤ_, +ℤ-idr, *ℤ-comm}
 use lib.ListN.{length, replicate, getD-replicate, List·getD-append}
 use lib.Seq.{getD-append-add}
+use lib.Signed.{mag}
 use Rattle.words.specs.Words.{add, sub, mul, numbers}
 use Rattle.words.specs.Signed.{floor, signed, wrap, shr-signed, in-range}
 use Rattle.words.proofs.Words.{sub-lt, mul-lt}
@@ -30,16 +32,37 @@ use Rattle.calls.specs.Scripts.{Orderly}
 use Rattle.runs.specs.Runs.{Stage}
 use Rattle.runs.specs.Orders.{Words, first, after-order, before-order, share-before, share-after, value-before, value-after}
 use Rattle.runs.proofs.Gated as Gated
+use Rattle.runs.proofs.Spared.{slot-kept}
+use Rattle.runs.proofs.Unwritten.{unwritten-gates}
+use Rattle.runs.proofs.Written.{none}
 use Rattle.runs.proofs.Returned.{given-share-is}
-use Rattle.days.specs.Day.{share-slot, quarter-program, mean-program, day-gates}
-use Rattle.days.proofs.Quarters.{day-gates-count, quarter-at, mean-at, day-made}
+use Rattle.calendars.specs.Hours.{Counts}
+use Rattle.calendars.proofs.OpeningHours.{opening-hours}
+use Rattle.days.specs.Day.{share-slot, quarter-program, mean-program, day-gates, day-steps, counting}
+use Rattle.days.proofs.Quarters.{day-gates-count, counted-at, left-out-at, mean-at, day-made}
 use Rattle.day_demands.specs.Settings.{DaySetting, day-staged, behind-zeros, quarter-share, quarter-reading}
-use Rattle.day_demands.specs.Opened.{curve-alone, is-above, sum-of, above-of, Sheet}
-use Rattle.days.proofs.Counts.{day-orderly}
+use Rattle.day_demands.specs.Opened.{curve-alone, is-above, sum-of, above-of, factor-of, Sheet}
+use Rattle.days.proofs.Counts.{day-orders, day-orderly}
 use Rattle.day_demands.proofs.Programs.{quarter-sum, quarter-count, quarter-keeps, mean-opens, mean-keeps}
 use Rattle.day_demands.proofs.Values.{value-lt, alone-reads, above-reads, sheet-keeps, sum-small, product-small, above-most}
 
+-- a quarter counts where the test finds it
+pub tested : (S : DaySetting) (q : ℕ) → (counting (S .hours) q ≡ true) ↔ Counts (S .hours .calendar) (S .hours .weekday) q
+tested S q = opening-hours .quarter (S .hours .calendar) (S .hours .weekday) q
+
+-- a quarter that is left out leaves every slot as it was
+pub left-out : (w : ℕ) (S : DaySetting) (q : ℕ) → q < 96 → counting (S .hours) q ≡ false → (i : ℕ)
+    → share-after (day-staged w S) q i ≡ share-before (day-staged w S) q i
+unfolding day-steps
+left-out w S q h e i =
+    let f = counting (S .hours) in
+    slot-kept (day-staged w S) q i (rw (day-orders w (S .table) 192 (S .hours)) (omega arith))
+    (unwritten-gates w i q (day-gates w f (rows (S .table))) (λ l. rw (left-out-at w f (rows (S .table)) q h e) none))
+
 module _ (S : DaySetting) (words : Words 32 (day-staged 32 S)) where
+  abbrev f : ℕ → Bool
+  f = counting (S .hours)
+
   abbrev D : Stage
   D = day-staged 32 S
 
@@ -47,13 +70,13 @@ module _ (S : DaySetting) (words : Words 32 (day-staged 32 S)) where
   ps = rows (S .table)
 
   abbrev gates : List (List Gate)
-  gates = day-gates 32 ps
+  gates = day-gates 32 f ps
 
   abbrev made : D .script .steps ≡ job-steps 32 gates
-  made = day-made 32 (S .table) 192
+  made = day-made 32 (S .table) 192 (S .hours)
 
   abbrev tidy : Orderly (D .script)
-  tidy = day-orderly 32 (S .table) 192
+  tidy = day-orderly 32 (S .table) 192 (S .hours)
 
   abbrev Pt : Type 0
   Pt = Gated.Pt 32 D tidy words
@@ -65,18 +88,18 @@ module _ (S : DaySetting) (words : Words 32 (day-staged 32 S)) where
   before = Gated.before 32 D tidy words gates made
 
   in-day : (q : ℕ) → q ≤ 96 → q < length gates
-  in-day q h = rw (day-gates-count 32 ps) (omega arith)
+  in-day q h = rw (day-gates-count 32 f ps) (omega arith)
 
   found : (q : ℕ) → q ≤ 96 → before-order D q ≡ before q .j
   found q h = Gated.before-is 32 D tidy words gates made q (in-day q h)
 
-  -- ---- what a quarter leaves
+  -- ---- what a quarter that counts leaves
 
-  module _ (q : ℕ) (h : q < 96) where
+  module _ (q : ℕ) (h : q < 96) (counted : f q ≡ true) where
     quarter-left : after-order D q ≡ run (quarter-program 32 q ps) (before q) .j
     quarter-left =
         Gated.after-is 32 D tidy words gates made q (in-day q (omega arith))
-        ∙ ap (λ (gs : List Gate). run gs (before q) .j) (quarter-at 32 ps q h)
+        ∙ ap (λ (gs : List Gate). run gs (before q) .j) (counted-at 32 f ps q h counted)
 
     sum-left : 0 < length ps
         → value-after 32 D q 0 ≡ add 32 (value-before 32 D q 0) (curve-value 32 ps 0 (value-before 32 D q (share-slot q)) 0)
@@ -96,11 +119,19 @@ module _ (S : DaySetting) (words : Words 32 (day-staged 32 S)) where
         ∙ ap (λ (t : Triple). add 32 (value (numbers 32) (share t 1))
         (above-last 32 (last-count ps) (value (numbers 32) (share t (share-slot q))))) (sym (found q (omega arith)))
 
-    quarter-kept : (i : ℕ) → Aside i → eqb i 0 ≡ false → eqb i 1 ≡ false → share-after D q i ≡ share-before D q i
-    quarter-kept i o i0 i1 =
+    counted-kept : (i : ℕ) → Aside i → eqb i 0 ≡ false → eqb i 1 ≡ false → share-after D q i ≡ share-before D q i
+    counted-kept i o i0 i1 =
         ap (λ (t : Triple). share t i) quarter-left
         ∙ quarter-keeps 32 (S .A) (S .B) (words .A) (words .B) (lit≤ tt) q ps (before q) i o i0 i1
         ∙ ap (λ (t : Triple). share t i) (sym (found q (omega arith)))
+
+  -- whether it counts or not
+  quarter-kept : (q : ℕ) → q < 96 → (i : ℕ) → Aside i → eqb i 0 ≡ false → eqb i 1 ≡ false → share-after D q i ≡ share-before D q i
+  quarter-kept q h i o i0 i1 = go (f q) refl
+    where
+      go : (b : Bool) → f q ≡ b → share-after D q i ≡ share-before D q i
+      go true e = counted-kept q h e i o i0 i1
+      go false e = left-out 32 S q h e i
 
   -- so registers from 2 on and the lent shares stand as they were given
   pub kept-before : (q i : ℕ) → q ≤ 96 → Aside i → eqb i 0 ≡ false → eqb i 1 ≡ false → share-before D q i ≡ share (first D) i
@@ -139,22 +170,22 @@ module _ (S : DaySetting) (words : Words 32 (day-staged 32 S)) where
 
   -- ---- the mean
 
-  mean-left : after-order D 96 ≡ run (mean-program 32) (before 96) .j
+  mean-left : after-order D 96 ≡ run (mean-program 32 (factor-of S)) (before 96) .j
   mean-left =
       Gated.after-is 32 D tidy words gates made 96 (in-day 96 (lit≤ tt))
-      ∙ ap (λ (gs : List Gate). run gs (before 96) .j) (mean-at 32 ps)
+      ∙ ap (λ (gs : List Gate). run gs (before 96) .j) (mean-at 32 f ps)
 
-  pub mean-value : value-after 32 D 96 0 ≡ shr-signed 32 16 (mul 32 (value-before 32 D 96 0) 682)
+  pub mean-value : value-after 32 D 96 0 ≡ shr-signed 32 16 (mul 32 (value-before 32 D 96 0) (factor-of S))
   unfolding num
   mean-value =
       ap (λ (t : Triple). value (numbers 32) (share t 0)) mean-left
-      ∙ mean-opens 32 (S .A) (S .B) (words .A) (words .B) (lit≤ tt) (before 96) (lit< tt)
-      ∙ ap (λ (t : Triple). shr-signed 32 16 (mul 32 (value (numbers 32) (share t 0)) 682)) (sym (found 96 (lit≤ tt)))
+      ∙ mean-opens 32 (S .A) (S .B) (words .A) (words .B) (lit≤ tt) (factor-of S) (before 96) (lit< tt)
+      ∙ ap (λ (t : Triple). shr-signed 32 16 (mul 32 (value (numbers 32) (share t 0)) (factor-of S))) (sym (found 96 (lit≤ tt)))
 
   mean-kept : (i : ℕ) → Other 0 i → share-after D 96 i ≡ share-before D 96 i
   mean-kept i o =
       ap (λ (t : Triple). share t i) mean-left
-      ∙ mean-keeps 32 (S .A) (S .B) (words .A) (words .B) (lit≤ tt) (before 96) i o
+      ∙ mean-keeps 32 (S .A) (S .B) (words .A) (words .B) (lit≤ tt) (factor-of S) (before 96) i o
       ∙ ap (λ (t : Triple). share t i) (sym (found 96 (lit≤ tt)))
 
   -- ---- registers from 2 on, after every order
@@ -174,20 +205,20 @@ module _ (S : DaySetting) (words : Words 32 (day-staged 32 S)) where
           let e : 96 ≡ q = omega arith in
           subst (λ (n : ℕ). share-after D n i ≡ share-before D n i) e (mean-kept i (other 0 i b i0))
 
-  -- ---- what a quarter adds, whatever its share
+  -- ---- what a quarter that counts adds, whatever its share
 
-  module _ (q : ℕ) (h : q < 96) where
+  module _ (q : ℕ) (h : q < 96) (counted : f q ≡ true) where
     abbrev lent-value : ℕ
     lent-value = value (numbers 32) (quarter-share S q)
 
     pub sum-steps : 0 < length ps → value-after 32 D q 0 ≡ add 32 (value-before 32 D q 0) (curve-value 32 ps 0 lent-value 0)
     sum-steps l =
-        sum-left q h l
+        sum-left q h counted l
         ∙ ap (λ (x : Share ℕ). add 32 (value-before 32 D q 0) (curve-value 32 ps 0 (value (numbers 32) x) 0)) (lent-share q h)
 
     pub count-steps : value-after 32 D q 1 ≡ add 32 (value-before 32 D q 1) (above-last 32 (last-count ps) lent-value)
     count-steps =
-        count-left q h
+        count-left q h counted
         ∙ ap (λ (x : Share ℕ). add 32 (value-before 32 D q 1) (above-last 32 (last-count ps) (value (numbers 32) x))) (lent-share q h)
 
   -- ---- the sums, of a sheet
@@ -196,12 +227,12 @@ module _ (S : DaySetting) (words : Words 32 (day-staged 32 S)) where
     some-row : 0 < length ps
     some-row = omega (arith, sheet .table .at-least)
 
-    module _ (q : ℕ) (h : q < 96) where
+    module _ (q : ℕ) (h : q < 96) (counted : f q ≡ true) where
       abbrev x : ℕ
       x = value-before 32 D q (share-slot q)
 
       ranged : T (in-range 32 (signed 32 x))
-      ranged = rw (reading-is q h) (sheet .readings q h)
+      ranged = rw (reading-is q h) (sheet .readings q h (tested S q .0 counted))
 
       value-reads : signed 32 (curve-value 32 ps 0 x 0) ≡ curve-alone (S .table) (quarter-reading 32 S q)
       value-reads = alone-reads (S .table) (sheet-keeps S sheet) x (sub-lt 32 _ _) ranged 0 ∙ ap (curve-alone (S .table)) (reading-is q h)
@@ -209,32 +240,48 @@ module _ (S : DaySetting) (words : Words 32 (day-staged 32 S)) where
       digit-reads : above-last 32 (last-count ps) x ≡ is-above (S .table) (quarter-reading 32 S q)
       digit-reads = above-reads (S .table) (sheet-keeps S sheet) x (sub-lt 32 _ _) ranged ∙ ap (is-above (S .table)) (reading-is q h)
 
+    -- a quarter more, where what it leaves is no large number
+    sum-more : (q : ℕ) → q < 96 → (b : Bool) → f q ≡ b → signed 32 (value-before 32 D q 0) ≡ sum-of S q
+        → mag (sum-of S q +ℤ cond b (curve-alone (S .table) (quarter-reading 32 S q)) (pos 0)) < 2 ^ 31
+        → signed 32 (value-after 32 D q 0) ≡ sum-of S q +ℤ cond b (curve-alone (S .table) (quarter-reading 32 S q)) (pos 0)
+    sum-more q h true e so-far small =
+        ap (signed 32) (sum-left q h e some-row
+        ∙ sum-reads 32 (value-before 32 D q 0) (sub-lt 32 _ _) _ (value-lt 32 ps 0 (x q h e) 0)
+        ∙ ap₂ (λ (a b : ℤ). wrap 32 (a +ℤ b)) so-far (value-reads q h e))
+        ∙ signed-wrap 32 _ (lit≤ tt) small
+    sum-more q h false e so-far small =
+        ap (λ (x : Share ℕ). signed 32 (value (numbers 32) x)) (left-out 32 S q h e 0) ∙ so-far ∙ sym (+ℤ-idr (sum-of S q))
+
+    count-more : (q : ℕ) → q < 96 → (b : Bool) → f q ≡ b → value-before 32 D q 1 ≡ above-of S q
+        → above-of S q + cond b (is-above (S .table) (quarter-reading 32 S q)) 0 < 2 ^ 32
+        → value-after 32 D q 1 ≡ above-of S q + cond b (is-above (S .table) (quarter-reading 32 S q)) 0
+    unfolding add
+    count-more q h true e so-far small =
+        count-left q h e ∙ ap₂ (add 32) so-far (digit-reads q h e) ∙ mod-eq-of-lt small
+    count-more q h false e so-far small =
+        ap (value (numbers 32)) (left-out 32 S q h e 1) ∙ so-far ∙ omega arith
+
     -- no sum wraps
     pub sum-is : (n : ℕ) → n ≤ 96 → signed 32 (value-before 32 D n 0) ≡ sum-of S n
     unfolding before-order sum-of signed
     sum-is zero h = ap (signed 32) (given-zero 0 (lit< tt))
-    sum-is (suc q) h =
-        ap (signed 32) (sum-left q (omega arith) some-row
-        ∙ sum-reads 32 (value-before 32 D q 0) (sub-lt 32 _ _) _ (value-lt 32 ps 0 (x q (omega arith)) 0)
-        ∙ ap₂ (λ (a b : ℤ). wrap 32 (a +ℤ b)) (sum-is q (omega arith)) (value-reads q (omega arith)))
-        ∙ signed-wrap 32 (sum-of S (suc q)) (lit≤ tt) (sum-small S sheet (suc q) h)
+    sum-is (suc q) h = sum-more q (omega arith) (f q) refl (sum-is q (omega arith)) (sum-small S sheet (suc q) h)
 
     pub count-is : (n : ℕ) → n ≤ 96 → value-before 32 D n 1 ≡ above-of S n
-    unfolding before-order above-of add
+    unfolding before-order above-of
     count-is zero h = given-zero 1 (lit< tt)
-    count-is (suc q) h =
-        count-left q (omega arith) ∙ ap₂ (add 32) (count-is q (omega arith)) (digit-reads q (omega arith))
-        ∙ mod-eq-of-lt (omega (arith, above-most S (suc q)))
+    count-is (suc q) h = count-more q (omega arith) (f q) refl (count-is q (omega arith)) (omega (arith, above-most S (suc q)))
 
-    pub mean-is : signed 32 (value-after 32 D 96 0) ≡ floor (pos 682 *ℤ sum-of S 96) 65536
+    pub mean-is : signed 32 (value-after 32 D 96 0) ≡ floor (pos (factor-of S) *ℤ sum-of S 96) 65536
     mean-is =
         let y : ℕ = value-before 32 D 96 0 in
+        let k : ℕ = factor-of S in
         ap (signed 32) mean-value
-        ∙ signed-shr 32 16 (mul 32 y 682) (lit≤ tt) (mul-lt 32 y 682)
+        ∙ signed-shr 32 16 (mul 32 y k) (lit≤ tt) (mul-lt 32 y k)
         ∙ ap (λ (z : ℤ). floor z 65536)
-        (ap (signed 32) (times-reads 32 y (sub-lt 32 _ _) 682
-        ∙ ap (wrap 32) (ap (λ (z : ℤ). z *ℤ pos 682) (sum-is 96 (lit≤ tt)) ∙ *ℤ-comm (sum-of S 96) (pos 682)))
-        ∙ signed-wrap 32 (pos 682 *ℤ sum-of S 96) (lit≤ tt) (product-small S sheet 96 (lit≤ tt)))
+        (ap (signed 32) (times-reads 32 y (sub-lt 32 _ _) k
+        ∙ ap (wrap 32) (ap (λ (z : ℤ). z *ℤ pos k) (sum-is 96 (lit≤ tt)) ∙ *ℤ-comm (sum-of S 96) (pos k)))
+        ∙ signed-wrap 32 (pos k *ℤ sum-of S 96) (lit≤ tt) (product-small S sheet 96 (lit≤ tt)))
 
     pub mean-count-is : value-after 32 D 96 1 ≡ above-of S 96
     mean-count-is =

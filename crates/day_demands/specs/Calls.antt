@@ -1,4 +1,4 @@
--- R-3: the day's calls, lent a host's table and day list, are the calls of the day's runs: what a run's host holds is
+-- R-3: the day's calls, lent a host's table, day list and hours, are the calls of the day's runs: what a run's host holds is
 -- its own state with its shares behind, and a call answers there what the day's call answers on that state. Assumes
 -- nothing.
 use mathlib.Core.Path.{_≡_}
@@ -29,16 +29,16 @@ pub record DayCalls (w : ℕ) : Type 0 where
   -- host 0's preparation
   pub prepares : (S : DaySetting) (cs : List Call) (r : Pair) (buf : List ℕ) (one two : Side)
       → Run (day-staged w S) cs (world (idle r) buf one two)
-      → own-masks (preparation (day-staged w S) buf r) ≡ day-prepare w (S .table) (list0 S) (S .A) (S .B) buf
+      → own-masks (preparation (day-staged w S) buf r) ≡ day-prepare w (S .table) (list0 S) (S .hours) (S .A) (S .B) buf
   -- startings
   pub starts1 : (S : DaySetting) (cs : List Call) (z : Dealer) (buf D : List ℕ) (s : State) (two : Side)
       → Run (day-staged w S) cs (world z buf (waiting s) two)
       → own-answer (start (lent1 (day-staged w S) D) (held (day-staged w S) s))
-      ≡ day-start w 1 (S .table) (list1 S) (S .A) D
+      ≡ day-start w 1 (S .table) (list1 S) (S .hours) (S .A) D
   pub starts2 : (S : DaySetting) (cs : List Call) (z : Dealer) (buf D : List ℕ) (one : Side) (s : State)
       → Run (day-staged w S) cs (world z buf one (waiting s))
       → own-answer (start (lent2 (day-staged w S) D) (held (day-staged w S) s))
-      ≡ day-start w 2 (S .table) (list2 S) (S .B) D
+      ≡ day-start w 2 (S .table) (list2 S) (S .hours) (S .B) D
   -- hearings
   pub holds1 : (S : DaySetting) (cs : List Call) (z : Dealer) (buf : List ℕ) (s : State) (t : List Pair)
       (said : List Spoken) (two : Side)
@@ -49,8 +49,10 @@ pub record DayCalls (w : ℕ) : Type 0 where
   pub hears1 : (S : DaySetting) (cs : List Call) (z : Dealer) (buf D : List ℕ) (s : State) (t : List Pair)
       (said : List Spoken) (two : Side) (v : ℕ)
       → Run (day-staged w S) cs (world z buf (going s t said) two)
-      → own-answer (hear (lent1 (day-staged w S) D) s v) ≡ day-hear w 1 (S .table) (list1 S) (S .A) D (own-state s) v
+      → own-answer (hear (lent1 (day-staged w S) D) s v)
+      ≡ day-hear w 1 (S .table) (list1 S) (S .hours) (S .A) D (own-state s) v
   pub hears2 : (S : DaySetting) (cs : List Call) (z : Dealer) (buf D : List ℕ) (one : Side) (s : State) (t : List Pair)
       (said : List Spoken) (v : ℕ)
       → Run (day-staged w S) cs (world z buf one (going s t said))
-      → own-answer (hear (lent2 (day-staged w S) D) s v) ≡ day-hear w 2 (S .table) (list2 S) (S .B) D (own-state s) v
+      → own-answer (hear (lent2 (day-staged w S) D) s v)
+      ≡ day-hear w 2 (S .table) (list2 S) (S .hours) (S .B) D (own-state s) v

@@ -17,7 +17,7 @@ pub record DayKnownSides : Type 0 where
   -- in every run of the day's own calls: the state that the last call returned
   pub host1 : (w : ℕ) (S : DaySetting) (cs : List Call) (z : DayDealer) (buf : List ℕ) (s : State)
       (said : List Spoken) (two : DayHost) → DayRun w S cs (day-world z buf (running s said) two)
-      → (k : AtKnown (day-script w (S .table) 192) s) → at (s .mask) (k .a) ≡ 0
+      → (k : AtKnown (day-script w (S .table) 192 (S .hours)) s) → at (s .mask) (k .a) ≡ 0
   pub host2 : (w : ℕ) (S : DaySetting) (cs : List Call) (z : DayDealer) (buf : List ℕ) (one : DayHost) (s : State)
       (said : List Spoken) → DayRun w S cs (day-world z buf one (running s said))
-      → (k : AtKnown (day-script w (S .table) 192) s) → at (s .mask) (k .a) ≡ 0
+      → (k : AtKnown (day-script w (S .table) 192 (S .hours)) s) → at (s .mask) (k .a) ≡ 0

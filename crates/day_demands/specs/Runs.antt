@@ -13,6 +13,7 @@ use Rattle.calls.specs.Calls.{State, Answer, Prepared, prepare}
 use Rattle.runs.specs.Runs.{Spoken, placed-word, Among, Dealer, idle, ready, Side, waiting, going, World, world}
 use Rattle.runs.specs.Runs.{Turned, Call, preparing, starting1, starting2, turned-down, hearing1, hearing2, Dealt}
 use Rattle.runs.specs.Runs.{opened-slot}
+use Rattle.days.specs.Day.{Hours}
 use Rattle.days.specs.DayCalls.{own-state, day-start, day-hear, day-prepare}
 use Rattle.day_demands.specs.Settings.{DaySetting, day-staged}
 use Rattle.day_demands.specs.Calls.{list0, list1, list2}
@@ -55,22 +56,22 @@ with-given (prepared r) masks = prepared masks
 
 module _ (w : ℕ) (S : DaySetting) where
   abbrev pub prepare0 : (buf : List ℕ) → Prepared
-  prepare0 buf = day-prepare w (S .table) (list0 S) (S .A) (S .B) buf
+  prepare0 buf = day-prepare w (S .table) (list0 S) (S .hours) (S .A) (S .B) buf
 
   abbrev pub start1 : (D : List ℕ) → Answer
-  start1 D = day-start w 1 (S .table) (list1 S) (S .A) D
+  start1 D = day-start w 1 (S .table) (list1 S) (S .hours) (S .A) D
 
   abbrev pub start2 : (D : List ℕ) → Answer
-  start2 D = day-start w 2 (S .table) (list2 S) (S .B) D
+  start2 D = day-start w 2 (S .table) (list2 S) (S .hours) (S .B) D
 
   abbrev pub hear1 : (D : List ℕ) → State → (v : ℕ) → Answer
-  hear1 D s v = day-hear w 1 (S .table) (list1 S) (S .A) D s v
+  hear1 D s v = day-hear w 1 (S .table) (list1 S) (S .hours) (S .A) D s v
 
   abbrev pub hear2 : (D : List ℕ) → State → (v : ℕ) → Answer
-  hear2 D s v = day-hear w 2 (S .table) (list2 S) (S .B) D s v
+  hear2 D s v = day-hear w 2 (S .table) (list2 S) (S .hours) (S .B) D s v
 
-  -- calls that complete, each lent the day's table, lists and the host's own day list, host 2 "the deals that host 0's
-  -- preparation wrote"
+  -- calls that complete, each lent the day's table, hours, lists and the host's own day list, host 2 "the deals that
+  -- host 0's preparation wrote"
   pub data DayCompletes : Call → DayWorld → DayWorld → Type 0 where
     day-prepares : {buf : List ℕ} {one two : DayHost} → prepare0 buf .number ≡ 0
         → DayCompletes preparing (day-world unprepared buf one two)
@@ -95,20 +96,21 @@ module _ (w : ℕ) (S : DaySetting) where
   -- anything": a hearing gives the state back, and the host goes on from that; a starting or preparation of a day is
   -- given nothing that a host holds
   pub data DayRefuses : DayWorld → DayWorld → Type 0 where
-    day-refuses0 : {z : DayDealer} {buf : List ℕ} {one two : DayHost} (T L A B : List ℕ)
-        → day-prepare w T L A B buf .number ≢ 0
-        → DayRefuses (day-world z buf one two) (day-world z (day-prepare w T L A B buf .buffer) one two)
-    day-refuses-elsewhere : {u : DayWorld} (T L A B other : List ℕ) → day-prepare w T L A B other .number ≢ 0
-        → DayRefuses u u
-    day-refuses-start : {u : DayWorld} (h : ℕ) (T L M D : List ℕ) → day-start w h T L M D .number ≢ 0 → DayRefuses u u
-    day-refuses1 : {z : DayDealer} {buf : List ℕ} {one two : DayHost} (h : ℕ) (T L M D : List ℕ) (v : ℕ)
-        → day-hear w h T L M D (host-state one) v .number ≢ 0
+    day-refuses0 : {z : DayDealer} {buf : List ℕ} {one two : DayHost} (T L : List ℕ) (H : Hours) (A B : List ℕ)
+        → day-prepare w T L H A B buf .number ≢ 0
+        → DayRefuses (day-world z buf one two) (day-world z (day-prepare w T L H A B buf .buffer) one two)
+    day-refuses-elsewhere : {u : DayWorld} (T L : List ℕ) (H : Hours) (A B other : List ℕ)
+        → day-prepare w T L H A B other .number ≢ 0 → DayRefuses u u
+    day-refuses-start : {u : DayWorld} (h : ℕ) (T L : List ℕ) (H : Hours) (M D : List ℕ)
+        → day-start w h T L H M D .number ≢ 0 → DayRefuses u u
+    day-refuses1 : {z : DayDealer} {buf : List ℕ} {one two : DayHost} (h : ℕ) (T L : List ℕ) (H : Hours)
+        (M D : List ℕ) (v : ℕ) → day-hear w h T L H M D (host-state one) v .number ≢ 0
         → DayRefuses (day-world z buf one two)
-        (day-world z buf (with-answer one (day-hear w h T L M D (host-state one) v .state)) two)
-    day-refuses2 : {z : DayDealer} {buf : List ℕ} {one two : DayHost} (h : ℕ) (T L M D : List ℕ) (v : ℕ)
-        → day-hear w h T L M D (host-state two) v .number ≢ 0
+        (day-world z buf (with-answer one (day-hear w h T L H M D (host-state one) v .state)) two)
+    day-refuses2 : {z : DayDealer} {buf : List ℕ} {one two : DayHost} (h : ℕ) (T L : List ℕ) (H : Hours)
+        (M D : List ℕ) (v : ℕ) → day-hear w h T L H M D (host-state two) v .number ≢ 0
         → DayRefuses (day-world z buf one two)
-        (day-world z buf one (with-answer two (day-hear w h T L M D (host-state two) v .state)))
+        (day-world z buf one (with-answer two (day-hear w h T L H M D (host-state two) v .state)))
     -- a job's calls too, since "a state does not say whether it belongs to a job or a day": a preparation, into the
     -- day's buffer or another, a starting, a hearing
     job-refuses0 : {z : DayDealer} {buf : List ℕ} {one two : DayHost} (σ : Script) (A B : List ℕ) (given : Pair)

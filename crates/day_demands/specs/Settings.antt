@@ -10,12 +10,13 @@ use Rattle.words.specs.Signed.{signed}
 use Rattle.shares.specs.Gates.{Share, value}
 use Rattle.gates.specs.Steps.{Lane, at}
 use Rattle.runs.specs.Runs.{Stage}
-use Rattle.days.specs.Day.{day-script}
+use Rattle.days.specs.Day.{Hours, day-script}
 
--- the table, the mask lists, and the 96 shares that the readings were split into: host 0 has l1 and l2, host 1 m and
--- l1, host 2 m and l2
+-- the table, the calendar and the weekday (R-6), the mask lists, and the 96 shares that the readings were split into:
+-- host 0 has l1 and l2, host 1 m and l1, host 2 m and l2
 pub record DaySetting : Type 0 where
   pub table : List ℕ
+  pub hours : Hours
   pub A : List ℕ
   pub B : List ℕ
   pub m : Lane
@@ -42,7 +43,7 @@ behind-full l e = length-append (replicate 24 0) l ∙ ap (λ (n : ℕ). 24 + n)
 abbrev pub day-staged : ℕ → DaySetting → Stage
 day-staged w S =
     record {
-      script = day-script w (S .table) 192;
+      script = day-script w (S .table) 192 (S .hours);
       A = S .A;
       B = S .B;
       rm = behind-zeros (S .m);

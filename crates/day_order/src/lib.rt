@@ -1,11 +1,15 @@
-// An order of a day (R-3) on a host's lanes: its words as one order of a job, the share of its quarter, and what is
-// done before its gates and behind them. All three hosts go through these.
+// An order of a day (R-3) on a host's lanes: whether it is run (R-6), its words as one order of a job, the share of its
+// quarter, and what is done before its gates and behind them. All three hosts go through these.
 ghost use mathlib.Core.Path.{_≡_};
 ghost use Prim.Native.Nat.{_+_, _*_};
 ghost use lib.ListN.{set};
 ghost use Rattle.words.specs.Words.{add};
 ghost use Rattle.gates.specs.Steps as Steps;
-ghost use Rattle.days.specs.Orders.{order-words, with-share, entered, left, summed, counted};
+ghost use Rattle.calendars.specs.Quarters.{held, tabled};
+ghost use Rattle.days.specs.Orders.{is-run, order-words, with-share, entered, left, summed, counted};
+use calendars::Quarters;
+use calendars::counts_at;
+use calendars::factor;
 use programs::ACC_SLOT;
 use programs::T_SLOT;
 use word_lists::at;
@@ -20,9 +24,18 @@ pub const QUARTERS: u32 = 96;
 // The slot of the share at hand, a register that no order of a day writes.
 pub const SHARE_SLOT: u32 = 15;
 
-const FACTOR: u32 = 682;
-
 const SHIFT: u32 = 16;
+
+// A quarter that counts, or the mean.
+pub fn is_run(quarters: Quarters, order: u32) -> bool
+    ensures { λ b. ⌜ b ≡ is-run (held quarters) order ⌝ }
+{
+    if order < QUARTERS {
+        counts_at(quarters, order)
+    } else {
+        true
+    }
+}
 
 // The exact curve of a quarter; the exact truncation of the mean.
 pub fn order_words(order: u32) -> [u32; 4]
@@ -48,24 +61,25 @@ pub fn take_share(shares: &[u32], order: u32, first: &mut [u32; 24], second: &mu
     put(second, SHARE_SLOT, word_after(shares, i));
 }
 
-fn multiply(lane: &mut [u32; 24])
-    ensures { λ r. ⌜ now (lane .exit) ≡ entered 32 96 (now (lane .entry)) ⌝ }
+fn multiply(by: u32, lane: &mut [u32; 24])
+    ensures { λ r. ⌜ now (lane .exit) ≡ entered 32 by 96 (now (lane .entry)) ⌝ }
 {
     let sum = at(lane, 0);
-    put(lane, ACC_SLOT, wrapping_mul(sum, FACTOR));
+    put(lane, ACC_SLOT, wrapping_mul(sum, by));
 }
 
-// Before an order's gates: the mean multiplies the sum.
-pub fn enter(order: u32, first: &mut [u32; 24], second: &mut [u32; 24])
+// Before an order's gates: the mean of n counted quarters multiplies the sum.
+pub fn enter(order: u32, n: u32, first: &mut [u32; 24], second: &mut [u32; 24])
     ensures { λ r.
-        ⌜ (now (first .exit) ≡ entered 32 order (now (first .entry)))
-        × (now (second .exit) ≡ entered 32 order (now (second .entry))) ⌝ }
+        ⌜ (now (first .exit) ≡ entered 32 (tabled n) order (now (first .entry)))
+        × (now (second .exit) ≡ entered 32 (tabled n) order (now (second .entry))) ⌝ }
 {
     if order < QUARTERS {
         return;
     }
-    multiply(first);
-    multiply(second);
+    let by = factor(n);
+    multiply(by, first);
+    multiply(by, second);
 }
 
 // Slot a is added to slot d.

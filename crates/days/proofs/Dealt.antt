@@ -24,15 +24,15 @@ use Rattle.jobs.specs.Job.{job-gates, steps-of}
 use Rattle.walks.specs.Dealers.{Dealer, dealer, dealing, deal-all, Room}
 use Rattle.walks.proofs.Preparing.{deal-append, Midway, begins, done, further, past-end}
 use Rattle.runs.proofs.Written.{Spares, none, also}
-use Rattle.days.specs.Day.{day-gates, day-steps}
-use Rattle.days.specs.Orders.{own-order, order-words, with-share, entered, summed, counted, left}
+use Rattle.days.specs.Day.{day-factor, day-gates, day-steps}
+use Rattle.days.specs.Orders.{own-order, is-run, order-words, with-share, entered, summed, counted, left}
 use Rattle.days.specs.Orders.{front, back, within, first-tail, second-tail}
 use Rattle.days.proofs.Quarters.{day-gates-count}
 use Rattle.days.proofs.Moved.{moved, moved-exchange, Ready, Embeds, Same, same-local, same-deal, same-exchange, same-gate}
 use Rattle.days.proofs.Moved.{still-ready, put-same}
 use Rattle.days.proofs.Lanes.{place, embeds, takes, any-share, first-word, second-word, first-short, second-short}
 use Rattle.days.proofs.Walked.{steps-are}
-use Rattle.days.proofs.Orders.{steps-whole}
+use Rattle.days.proofs.Orders.{steps-whole, idle, steps-idle}
 use Rattle.days.proofs.Own.{own-job, own-spares}
 
 -- host 0 with other lanes
@@ -133,15 +133,15 @@ module _ (A B S : List ℕ) (listed : length S ≡ 192) (w : ℕ) (o : ℕ) wher
   moved-gates gs sp s r =
       gates-alike A B (place o) (at (first-tail S) o) (at (second-tail S) o) (within 0 (first-tail S)) (within 0 (second-tail S)) E₁ E₂ w gs sp s r
 
-  before : (s : Dealer) → Holding s → Passes (front o) s (on-lanes (entered w o) (entered w o) s)
+  before : (k : ℕ) (s : Dealer) → Holding s → Passes (front k o) s (on-lanes (entered w k o) (entered w k o) s)
   unfolding front entered moved place meaning target deal-all dealing shape on-mask
-  before s r = go (ltb o 96)
+  before k s r = go (ltb o 96)
     where
       go : (b : Bool)
-          → Passes (cond b [] (Scale 22 0 682 ∷ [])) s
-          (on-lanes (λ l. cond b l (set l 22 (mul w (at l 0) 682))) (λ l. cond b l (set l 22 (mul w (at l 0) 682))) s)
+          → Passes (cond b [] (Scale 22 0 k ∷ [])) s
+          (on-lanes (λ l. cond b l (set l 22 (mul w (at l 0) k))) (λ l. cond b l (set l 22 (mul w (at l 0) k))) s)
       go true = (refl, r)
-      go false = moved-gates (Scale 22 0 682 ∷ []) (also refl none) s r
+      go false = moved-gates (Scale 22 0 k ∷ []) (also refl none) s r
 
   after : (s : Dealer) → Holding s → Passes (back o) s (on-lanes (left w o) (left w o) s)
   unfolding back left moved place meaning target deal-all dealing shape on-mask
@@ -170,40 +170,56 @@ module _ (A B S : List ℕ) (listed : length S ≡ 192) (w : ℕ) (o : ℕ) wher
 
 -- ---- the code's turns
 
-module _ (A B S : List ℕ) (w : ℕ) (table : List ℕ) (s₀ : Dealer) where
+module _ (A B S : List ℕ) (w : ℕ) (table : List ℕ) (f : ℕ → Bool) (s₀ : Dealer) where
   -- the day's steps from order o on
   abbrev from : (order : ℕ) → List Step
-  from o = job-steps w (drop o (day-gates w (rows table)))
+  from o = job-steps w (drop o (day-gates w f (rows table)))
 
   -- at the head, with the orders before o dealt
   pub record Reached (o : ℕ) (s : Dealer) : Type 0 where
     pub among : o ≤ 97
     pub long₁ : length (s .l1) ≡ 24
     pub long₂ : length (s .l2) ≡ 24
-    pub midway : Midway A B (day-steps w table) (from o) (in-day S s₀) (in-day S s)
+    pub midway : Midway A B (day-steps w table f) (from o) (in-day S s₀) (in-day S s)
 
-  pub day-begins : Room A B (day-steps w table) s₀ → length (s₀ .l1) ≡ 24 → length (s₀ .l2) ≡ 24 → Reached 0 s₀
+  pub day-begins : Room A B (day-steps w table f) s₀ → length (s₀ .l1) ≡ 24 → length (s₀ .l2) ≡ 24 → Reached 0 s₀
   unfolding day-steps
   day-begins r n₁ n₂ =
       record {
         among = omega arith;
         long₁ = n₁;
         long₂ = n₂;
-        midway = begins A B (day-steps w table) (in-day S s₀) (record { a = r .a; b = r .b; deals = r .deals });
+        midway = begins A B (day-steps w table f) (in-day S s₀) (record { a = r .a; b = r .b; deals = r .deals });
       }
 
   -- behind the last order
-  pub day-done : (o : ℕ) (s : Dealer) → 96 < o → Reached o s → in-day S s ≡ deal-all A B (day-steps w table) (in-day S s₀)
+  pub day-done : (o : ℕ) (s : Dealer) → 96 < o → Reached o s → in-day S s ≡ deal-all A B (day-steps w table f) (in-day S s₀)
   unfolding job-steps
   day-done o s l h =
-      let n : length (day-gates w (rows table)) ≤ o = omega (arith, day-gates-count w (rows table)) in
-      done A B (day-steps w table) (in-day S s₀) (in-day S s)
-      (subst (λ (gs : List (List Gate)). Midway A B (day-steps w table) (job-steps w gs) (in-day S s₀) (in-day S s))
-      (drop-of-length-le (day-gates w (rows table)) n) (h .midway))
+      let n : length (day-gates w f (rows table)) ≤ o = omega (arith, day-gates-count w f (rows table)) in
+      done A B (day-steps w table f) (in-day S s₀) (in-day S s)
+      (subst (λ (gs : List (List Gate)). Midway A B (day-steps w table f) (job-steps w gs) (in-day S s₀) (in-day S s))
+      (drop-of-length-le (day-gates w f (rows table)) n) (h .midway))
+
+  -- order o is next, and is left out
+  pub order-idle : (o : ℕ) (s : Dealer) → o ≤ 96 → is-run f o ≡ false → Reached o s → Reached (o + 1) s
+  order-idle o s i e h =
+      let k = idle w f (rows table) o i e in
+      let m : Midway A B (day-steps w table f) (end ∷ from (suc o)) (in-day S s₀) (in-day S s) =
+      subst (λ (ss : List Step). Midway A B (day-steps w table f) ss (in-day S s₀) (in-day S s)) (steps-idle w f (rows table) o i (k .0) (k .1))
+      (h .midway) in
+      let n : Reached (suc o) s =
+      record {
+        among = omega arith;
+        long₁ = h .long₁;
+        long₂ = h .long₂;
+        midway = past-end A B (day-steps w table f) (in-day S s₀) (in-day S s) (from (suc o)) m;
+      } in
+      rw (add-one o) n
 
   -- order o is next, with the code's words of it
-  module _ (o : ℕ) (i : o ≤ 96) (job : List ℕ) (ej : job ≡ order-words o) (u : Used) (c₁ c₂ : Lane) (buf : List ℕ)
-      (h : Reached o (dealer u c₁ c₂ buf)) where
+  module _ (o : ℕ) (i : o ≤ 96) (run : is-run f o ≡ true) (job : List ℕ) (ej : job ≡ order-words o) (u : Used) (c₁ c₂ : Lane)
+      (buf : List ℕ) (h : Reached o (dealer u c₁ c₂ buf)) where
     abbrev gates : List Gate
     gates = program w (rows table) (own-order o)
 
@@ -222,7 +238,7 @@ module _ (A B S : List ℕ) (w : ℕ) (table : List ℕ) (s₀ : Dealer) where
     order-room d₁ d₂ =
         let k = ap cost job-is ∙ cost-append (map (meaning w) gates) (end ∷ []) in
         let m = moved-cost (place o) w gates in
-        let all = ap cost (steps-whole w (rows table) o i) ∙ cost-append (map (meaning w) (front o)) (here ++ later) in
+        let all = ap cost (steps-whole w f (rows table) o i run) ∙ cost-append (map (meaning w) (front (day-factor f) o)) (here ++ later) in
         let rest = cost-append here later in
         let r = h .midway .room in
         record {
@@ -253,22 +269,22 @@ module _ (A B S : List ℕ) (w : ℕ) (table : List ℕ) (s₀ : Dealer) where
         }
 
     -- d₁ and d₂ are the lanes with its share and with what is done before its gates
-    module _ (listed : length S ≡ 192) (d₁ d₂ : Lane) (e₁ : d₁ ≡ entered w o (with-share (at S (o * 2)) c₁))
-        (e₂ : d₂ ≡ entered w o (with-share (at S (o * 2 + 1)) c₂)) where
+    module _ (listed : length S ≡ 192) (d₁ d₂ : Lane) (e₁ : d₁ ≡ entered w (day-factor f) o (with-share (at S (o * 2)) c₁))
+        (e₂ : d₂ ≡ entered w (day-factor f) o (with-share (at S (o * 2 + 1)) c₂)) where
       abbrev d : Dealer
       d = dealer u d₁ d₂ buf
 
-      entered-is : Passes A B S listed w o (front o) (dealer u c₁ c₂ buf) d
+      entered-is : Passes A B S listed w o (front (day-factor f) o) (dealer u c₁ c₂ buf) d
       entered-is =
           let s = dealer u c₁ c₂ buf in
           let t = taken A B S listed w o s (h .long₁) (h .long₂) in
-          let k = before A B S listed w o (sharing A B S listed w o s) (t .1) in
-          rw (e₁, e₂) (ap (deal-all A B (map (meaning w) (front o))) (sym (t .0)) ∙ k .0, k .1)
+          let k = before A B S listed w o (day-factor f) (sharing A B S listed w o s) (t .1) in
+          rw (e₁, e₂) (ap (deal-all A B (map (meaning w) (front (day-factor f) o))) (sym (t .0)) ∙ k .0, k .1)
 
-      halfway : Midway A B (day-steps w table) (here ++ later) (in-day S s₀) (in-day S d)
+      halfway : Midway A B (day-steps w table f) (here ++ later) (in-day S s₀) (in-day S d)
       halfway =
-          further A B (day-steps w table) (in-day S s₀) (in-day S (dealer u c₁ c₂ buf)) (from o) (map (meaning w) (front o)) (here ++ later)
-          (steps-whole w (rows table) o i) (h .midway) (in-day S d) (sym (entered-is .0))
+          further A B (day-steps w table f) (in-day S s₀) (in-day S (dealer u c₁ c₂ buf)) (from o) (map (meaning w) (front (day-factor f) o)) (here ++ later)
+          (steps-whole w f (rows table) o i run) (h .midway) (in-day S d) (sym (entered-is .0))
 
       -- they are dealt, to the lanes f₁ and f₂, and what is done behind them too, to g₁ and g₂
       pub order-done : (v : Used) (f₁ f₂ : Lane) (buf′ : List ℕ)
@@ -276,24 +292,24 @@ module _ (A B S : List ℕ) (w : ℕ) (table : List ℕ) (s₀ : Dealer) where
           → (g₁ g₂ : Lane) → g₁ ≡ left w o f₁ → g₂ ≡ left w o f₂ → Reached (o + 1) (dealer v g₁ g₂ buf′)
       unfolding deal-all dealing shape on-mask
       order-done v f₁ f₂ buf′ e g₁ g₂ p₁ p₂ =
-          let f = dealer v f₁ f₂ buf′ in
-          let ef : f ≡ deal-all A B (map (meaning w) gates) d =
+          let z = dealer v f₁ f₂ buf′ in
+          let ef : z ≡ deal-all A B (map (meaning w) gates) d =
           e ∙ ap (λ (ss : List Step). deal-all A B ss d) job-is ∙ deal-append A B (map (meaning w) gates) (end ∷ []) d in
           let k = moved-gates A B S listed w o gates (own-spares w (rows table) o) d (entered-is .1) in
-          let a = after A B S listed w o f (subst (Holding A B S listed w o) (sym ef) (k .1)) in
+          let a = after A B S listed w o z (subst (Holding A B S listed w o) (sym ef) (k .1)) in
           let g = dealer v g₁ g₂ buf′ in
-          let eg : on-lanes (left w o) (left w o) f ≡ g = rw (p₁, p₂) in
-          let behind : Midway A B (day-steps w table) later (in-day S s₀) (in-day S f) =
-          further A B (day-steps w table) (in-day S s₀) (in-day S d) (here ++ later) here later refl halfway (in-day S f)
+          let eg : on-lanes (left w o) (left w o) z ≡ g = rw (p₁, p₂) in
+          let behind : Midway A B (day-steps w table f) later (in-day S s₀) (in-day S z) =
+          further A B (day-steps w table f) (in-day S s₀) (in-day S d) (here ++ later) here later refl halfway (in-day S z)
           (ap (in-day S) ef ∙ sym (k .0)) in
-          let m : Midway A B (day-steps w table) (end ∷ from (suc o)) (in-day S s₀) (in-day S g) =
-          further A B (day-steps w table) (in-day S s₀) (in-day S f) later (map (meaning w) (back o)) (end ∷ from (suc o)) refl behind
+          let m : Midway A B (day-steps w table f) (end ∷ from (suc o)) (in-day S s₀) (in-day S g) =
+          further A B (day-steps w table f) (in-day S s₀) (in-day S z) later (map (meaning w) (back o)) (end ∷ from (suc o)) refl behind
           (in-day S g) (ap (in-day S) (sym eg) ∙ sym (a .0)) in
           let n : Reached (suc o) g =
           record {
             among = omega arith;
             long₁ = rw p₁ (a .1 .0 .long);
             long₂ = rw p₂ (a .1 .1 .long);
-            midway = past-end A B (day-steps w table) (in-day S s₀) (in-day S g) (from (suc o)) m;
+            midway = past-end A B (day-steps w table f) (in-day S s₀) (in-day S g) (from (suc o)) m;
           } in
           rw (add-one o) n

@@ -5,6 +5,7 @@ pub mod Lanes
 pub mod Parts
 pub mod Walked
 pub mod Orders
+pub mod Idle
 pub mod Counts
 pub mod Sought
 pub mod Heard
@@ -12,3 +13,4 @@ pub mod Places
 pub mod Own
 pub mod Dealt
 pub mod Accepted
+pub mod WholeDay

@@ -26,14 +26,15 @@ use Rattle.walks.specs.Workers.{cursor}
 use Rattle.walks.specs.Halts.{steps-from}
 use Rattle.walks.proofs.Gates.{programs-append}
 use Rattle.walks.proofs.Places.{found-at, no-place}
-use Rattle.days.specs.Day.{day-gates, day-steps}
-use Rattle.days.specs.Orders.{own-order, front, back}
-use Rattle.days.proofs.Quarters.{day-gates-count}
+use Rattle.calendars.specs.Ranges.{number}
+use Rattle.days.specs.Day.{day-factor, day-gates, day-steps}
+use Rattle.days.specs.Orders.{own-order, is-run, front, back}
+use Rattle.days.proofs.Quarters.{day-gates-count, left-out-at}
 use Rattle.days.proofs.Counts.{counts-before}
 use Rattle.days.proofs.Moved.{moved}
 use Rattle.days.proofs.Lanes.{place}
-use Rattle.days.proofs.Orders.{order-is}
-use Rattle.days.proofs.Sought.{behind-gates, sought-in-day}
+use Rattle.days.proofs.Orders.{order-is, idle}
+use Rattle.days.proofs.Sought.{behind-gates, sought-in-day, none-left-out}
 
 -- ---- a search does not change what comes behind all steps
 
@@ -65,23 +66,24 @@ seek-far o x ss c ts d e = sym (ap (far-of (far ss c)) e) ∙ far-sought o x ss 
 
 -- ---- the counts in front of an order
 
-module _ (table : List ℕ) where
+module _ (table : List ℕ) (f : ℕ → Bool) where
   abbrev G : List (List Gate)
-  G = day-gates 32 (rows table)
+  G = day-gates 32 f (rows table)
 
-  abbrev K : Cost
-  K = curve-cost 0 (length (rows table))
+  -- of the orders before q
+  abbrev pub used-by : (q : ℕ) → Cost
+  used-by q = times-cost (number f 0 q) (curve-cost 0 (length (rows table)))
 
   -- where the steps behind are those of the day from order q on
-  pub used-before : (q a b n : ℕ) → q ≤ 96 → far (job-steps 32 (drop q G)) (cursor q 0 a b n) ≡ far (day-steps 32 table) origin
-      → (a ≡ times-cost q K .a) × (b ≡ times-cost q K .b) × (n ≡ times-cost q K .deals)
+  pub used-before : (q a b n : ℕ) → q ≤ 96 → far (job-steps 32 (drop q G)) (cursor q 0 a b n) ≡ far (day-steps 32 table f) origin
+      → (a ≡ used-by q .a) × (b ≡ used-by q .b) × (n ≡ used-by q .deals)
   unfolding day-steps plus
   used-before q a b n h e =
       let rest = job-steps 32 (drop q G) in
       let whole : job-steps 32 G ≡ job-steps 32 (take q G) ++ rest =
       ap (job-steps 32) (sym (take-append-drop q G)) ∙ programs-append 32 (take q G) (drop q G) in
-      let k : cost (job-steps 32 G) ≡ plus (times-cost q K) (cost rest) =
-      ap cost whole ∙ cost-append (job-steps 32 (take q G)) rest ∙ ap (λ (c : Cost). plus c (cost rest)) (counts-before (rows table) q h) in
+      let k : cost (job-steps 32 G) ≡ plus (used-by q) (cost rest) =
+      ap cost whole ∙ cost-append (job-steps 32 (take q G)) rest ∙ ap (λ (c : Cost). plus c (cost rest)) (counts-before f (rows table) q h) in
       let u = far-used rest (cursor q 0 a b n) in
       let v = far-used (job-steps 32 G) origin in (
         omega (arith, u .a, v .a, ap (λ (c : Cursor). c .a) e, ap (λ (c : Cost). c .a) k),
@@ -96,47 +98,64 @@ module _ (table : List ℕ) where
     own = program 32 (rows table) (own-order o)
 
     in-gates : o < length G
-    in-gates = omega (arith, day-gates-count 32 (rows table))
+    in-gates = omega (arith, day-gates-count 32 f (rows table))
 
-    around : (q : ℕ) → length (front q) + length (back q) ≤ 2
+    around : (k q : ℕ) → length (front k q) + length (back q) ≤ 2
     unfolding front back
-    around q = go (ltb q 96)
+    around k q = go (ltb q 96)
       where
-        go : (b : Bool) → length (cond b [] (Scale 22 0 682 ∷ [])) + length (cond b (Add 0 0 22 ∷ Add 1 1 20 ∷ []) []) ≤ 2
+        go : (b : Bool) → length (cond b [] (Scale 22 0 k ∷ [])) + length (cond b (Add 0 0 22 ∷ Add 1 1 20 ∷ []) []) ≤ 2
         go true = omega arith
         go false = omega arith
 
     short : ((q : Order) → length (program 32 (rows table) q) ≤ 1000) → (q : ℕ) → q ≤ o → length (getD G q []) ≤ 1002
-    short few q l =
-        let p = program 32 (rows table) (own-order q) in
-        omega (
-          arith,
-          ap length (order-is 32 (rows table) q (omega arith)),
-          length-append (front q) (map (moved (place q)) p ++ back q),
-          length-append (map (moved (place q)) p) (back q),
-          length-map p (moved (place q)),
-          few (own-order q),
-          around q,
-        )
+    short few q l = go (is-run f q) refl
+      where
+        go : (b : Bool) → is-run f q ≡ b → length (getD G q []) ≤ 1002
+        go true e =
+            let p = program 32 (rows table) (own-order q) in
+            let k = day-factor f in
+            omega (
+              arith,
+              ap length (order-is 32 f (rows table) q (omega arith) e),
+              length-append (front k q) (map (moved (place q)) p ++ back q),
+              length-append (map (moved (place q)) p) (back q),
+              length-map p (moved (place q)),
+              few (own-order q),
+              around k q,
+            )
+        go false e =
+            let i = idle 32 f (rows table) q (omega arith) e in
+            omega (arith, ap length (left-out-at 32 f (rows table) q (i .0) (i .1)))
 
-    -- with little used before it
-    pub found-in-day : ((q : Order) → length (program 32 (rows table) q) ≤ 1000) → (i a n : ℕ) → sought 32 own x 0 0 0 ≡ Found i a n
-        → (seek o x (day-steps 32 table) origin
-        ≡ found (steps-from 32 (length (front o) + i) (drop o G))
-        (cursor o x (times-cost o K .a + a) (times-cost o K .b + x) (times-cost o K .deals + n)))
-        × (times-cost o K .a + a < 200000) × (times-cost o K .b + x < 200000) × (times-cost o K .deals + n < 200000)
-    unfolding day-steps behind-gates
-    found-in-day few i a n e =
-        let s = sought-in-day 32 (rows table) o h x ∙ ap (behind-gates (length (front o))) e in
-        let p = found-at 32 G o x in-gates 1002 (short few) (length (front o) + i) a n s in
-        let k : cost (job-steps 32 (take o G)) ≡ times-cost o K = counts-before (rows table) o h in
-        let l : 1002 * o ≤ 96192 = omega arith in (
-          p .is ∙ ap (λ (k : Cost). found (steps-from 32 (length (front o) + i) (drop o G)) (cursor o x (k .a + a) (k .b + x) (k .deals + n))) k,
-          omega (arith, p .few-a, p .few-gates, ap (λ (c : Cost). c .a) k),
-          omega (arith, p .few-b, p .few-gates, ap (λ (c : Cost). c .b) k),
-          omega (arith, p .few-deals, p .few-gates, ap (λ (c : Cost). c .deals) k),
-        )
+    module _ (run : is-run f o ≡ true) where
+      -- with little used before it
+      pub found-in-day : ((q : Order) → length (program 32 (rows table) q) ≤ 1000) → (i a n : ℕ) → sought 32 own x 0 0 0 ≡ Found i a n
+          → (seek o x (day-steps 32 table f) origin
+          ≡ found (steps-from 32 (length (front (day-factor f) o) + i) (drop o G))
+          (cursor o x (used-by o .a + a) (used-by o .b + x) (used-by o .deals + n)))
+          × (used-by o .a + a < 200000) × (used-by o .b + x < 200000) × (used-by o .deals + n < 200000)
+      unfolding day-steps behind-gates
+      found-in-day few i a n e =
+          let fr = front (day-factor f) o in
+          let s = sought-in-day 32 f (rows table) o h x run ∙ ap (behind-gates (length fr)) e in
+          let p = found-at 32 G o x in-gates 1002 (short few) (length fr + i) a n s in
+          let k : cost (job-steps 32 (take o G)) ≡ used-by o = counts-before f (rows table) o h in
+          let l : 1002 * o ≤ 96192 = omega arith in (
+            p .is ∙ ap (λ (k : Cost). found (steps-from 32 (length fr + i) (drop o G)) (cursor o x (k .a + a) (k .b + x) (k .deals + n))) k,
+            omega (arith, p .few-a, p .few-gates, ap (λ (c : Cost). c .a) k),
+            omega (arith, p .few-b, p .few-gates, ap (λ (c : Cost). c .b) k),
+            omega (arith, p .few-deals, p .few-gates, ap (λ (c : Cost). c .deals) k),
+          )
 
-    pub nowhere-in-day : sought 32 own x 0 0 0 ≡ Nowhere → seek o x (day-steps 32 table) origin ≡ nowhere
-    unfolding day-steps behind-gates
-    nowhere-in-day e = no-place 32 G o x in-gates (sought-in-day 32 (rows table) o h x ∙ ap (behind-gates (length (front o))) e)
+      pub nowhere-in-day : sought 32 own x 0 0 0 ≡ Nowhere → seek o x (day-steps 32 table f) origin ≡ nowhere
+      unfolding day-steps behind-gates
+      nowhere-in-day e =
+          no-place 32 G o x in-gates (sought-in-day 32 f (rows table) o h x run ∙ ap (behind-gates (length (front (day-factor f) o))) e)
+
+    -- "a left-out quarter has no gates, and a place in it is 8"
+    pub nowhere-left-out : is-run f o ≡ false → seek o x (day-steps 32 table f) origin ≡ nowhere
+    unfolding day-steps
+    nowhere-left-out e =
+        let i = idle 32 f (rows table) o h e in
+        no-place 32 G o x in-gates (none-left-out 32 f (rows table) o h x (i .0) (i .1))

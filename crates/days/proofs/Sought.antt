@@ -2,7 +2,7 @@
 use mathlib.Core.Path.{_≡_, refl, sym, ap, _∙_}
 use mathlib.Core.Bool.{Bool, true, false, cond}
 use mathlib.Core.List.{List, [], _∷_, _++_, map}
-use Prim.Native.Nat.{ℕ, zero, suc, _+_, _≤_}
+use Prim.Native.Nat.{ℕ, zero, suc, _+_, _≤_, _<_}
 use native.Mathlib.Nat.{zero-add}
 use native.Mathlib.Omega.{arith}
 use lib.Dec.{ltb}
@@ -18,8 +18,9 @@ use Rattle.programs.specs.Orders.{program}
 use Rattle.programs.specs.declared.Sought.{Sought}
 use Rattle.programs.specs.declared.Sought.the-variants.{Found, Nowhere}
 use Rattle.programs.specs.Seek.{sought-at, sought}
-use Rattle.days.specs.Day.{day-gates}
-use Rattle.days.specs.Orders.{own-order, front, back}
+use Rattle.days.specs.Day.{day-factor, day-gates}
+use Rattle.days.specs.Orders.{own-order, is-run, front, back}
+use Rattle.days.proofs.Quarters.{left-out-at}
 use Rattle.days.proofs.Moved.{moved, moved-exchange, Same, same-local, same-deal, same-exchange, same-gate}
 use Rattle.days.proofs.Lanes.{place}
 use Rattle.days.proofs.Orders.{order-is}
@@ -91,19 +92,25 @@ unfolding behind-gates one-on
 one-before (Found i a n) = let e : suc i ≡ 1 + i = omega arith in ap (λ (j : ℕ). Found j a n) e
 one-before Nowhere = refl
 
-module _ (w : ℕ) (ps : List Row) (o : ℕ) (h : o ≤ 96) (x : ℕ) where
+module _ (w : ℕ) (f : ℕ → Bool) (ps : List Row) (o : ℕ) (h : o ≤ 96) (x : ℕ) where
   abbrev own : List Gate
   own = program w ps (own-order o)
 
-  by-front : (b : Bool) → sought w (cond b [] (Scale 22 0 682 ∷ []) ++ (map (moved (place o)) own ++ back o)) x 0 0 0
-      ≡ behind-gates (length (cond b [] (Scale 22 0 682 ∷ []))) (sought w own x 0 0 0)
+  by-front : (k : ℕ) (b : Bool) → sought w (cond b [] (Scale 22 0 k ∷ []) ++ (map (moved (place o)) own ++ back o)) x 0 0 0
+      ≡ behind-gates (length (cond b [] (Scale 22 0 k ∷ []))) (sought w own x 0 0 0)
   unfolding sought sought-at meaning shape
-  by-front true = sought-moved (place o) w (back o) (back-free w o) own x 0 0 0 ∙ none-before _
-  by-front false =
+  by-front k true = sought-moved (place o) w (back o) (back-free w o) own x 0 0 0 ∙ none-before _
+  by-front k false =
       shift w (map (moved (place o)) own ++ back o) x 0 0 0
       ∙ ap one-on (sought-moved (place o) w (back o) (back-free w o) own x 0 0 0) ∙ one-before _
 
-  pub sought-in-day : sought w (getD (day-gates w ps) o []) x 0 0 0
-      ≡ behind-gates (length (front o)) (sought w (program w ps (own-order o)) x 0 0 0)
+  pub sought-in-day : is-run f o ≡ true
+      → sought w (getD (day-gates w f ps) o []) x 0 0 0
+      ≡ behind-gates (length (front (day-factor f) o)) (sought w (program w ps (own-order o)) x 0 0 0)
   unfolding front
-  sought-in-day = ap (λ (gs : List Gate). sought w gs x 0 0 0) (order-is w ps o h) ∙ by-front (ltb o 96)
+  sought-in-day run = ap (λ (gs : List Gate). sought w gs x 0 0 0) (order-is w f ps o h run) ∙ by-front (day-factor f) (ltb o 96)
+
+  -- a quarter that is left out has none
+  pub none-left-out : o < 96 → f o ≡ false → sought w (getD (day-gates w f ps) o []) x 0 0 0 ≡ Nowhere
+  unfolding sought
+  none-left-out l e = ap (λ (gs : List Gate). sought w gs x 0 0 0) (left-out-at w f ps o l e)

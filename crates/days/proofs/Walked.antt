@@ -76,22 +76,22 @@ module _ (h : ℕ) (M D : List ℕ) (w : ℕ) (o k₁ k₂ : ℕ) (t₁ t₂ : L
   acts-once d f a b n s = acts-local h M D d f f (cursor 0 0 a b n) s
 
   -- before the order
-  pub begins : (ss : List Step) (x a b n : ℕ) (s : Pair) → Held s
-      → (reported P (map (meaning w) (front o) ++ ss) (cursor o x a b n) (inside s)
-      ≡ reported P ss (cursor o x a b n) (inside (entered w o (s .0), entered w o (s .1))))
-      × Held (entered w o (s .0), entered w o (s .1))
+  pub begins : (k : ℕ) (ss : List Step) (x a b n : ℕ) (s : Pair) → Held s
+      → (reported P (map (meaning w) (front k o) ++ ss) (cursor o x a b n) (inside s)
+      ≡ reported P ss (cursor o x a b n) (inside (entered w k o (s .0), entered w k o (s .1))))
+      × Held (entered w k o (s .0), entered w k o (s .1))
   unfolding front entered outcome moved place meaning target
-  begins ss x a b n s r = go (ltb o 96)
+  begins k ss x a b n s r = go (ltb o 96)
     where
       go : (t : Bool)
-          → let u : Pair = (cond t (s .0) (set (s .0) 22 (mul w (at (s .0) 0) 682)), cond t (s .1) (set (s .1) 22 (mul w (at (s .1) 0) 682))) in
-          (reported P (map (meaning w) (cond t [] (Scale 22 0 682 ∷ [])) ++ ss) (cursor o x a b n) (inside s)
+          → let u : Pair = (cond t (s .0) (set (s .0) 22 (mul w (at (s .0) 0) k)), cond t (s .1) (set (s .1) 22 (mul w (at (s .1) 0) k))) in
+          (reported P (map (meaning w) (cond t [] (Scale 22 0 k ∷ [])) ++ ss) (cursor o x a b n) (inside s)
           ≡ reported P ss (cursor o x a b n) (inside u))
           × Held u
       go true = (refl, r)
       go false =
-          at-once (Scale 22 0 682 ∷ []) refl (also refl none) ss x a b n s _ r
-          (ap (goes-by a n) (acts-once 22 (λ l. mul w (at l 0) 682) a b n s))
+          at-once (Scale 22 0 k ∷ []) refl (also refl none) ss x a b n s _ r
+          (ap (goes-by a n) (acts-once 22 (λ l. mul w (at l 0) k) a b n s))
 
   -- behind it, up to the next one
   pub passes-by : (ss : List Step) (x a b n : ℕ) (s : Pair) → Held s

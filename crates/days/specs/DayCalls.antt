@@ -1,6 +1,6 @@
 -- R-3: "The day has its own preparation, starting and hearing, lent the table and the host's 96 shares each time, and
--- no job or registers." Each is the script's call on lanes that have the lent shares behind the registers and kept
--- words, and answers with these alone. Assumes nothing.
+-- no job or registers", and since R-6 the hours. Each is the script's call on lanes that have the lent shares behind
+-- the registers and kept words, and answers with these alone. Assumes nothing.
 use mathlib.Core.List.{List, [], _∷_, _++_}
 use Prim.Native.Nat.{ℕ}
 use lib.ListN.{length, take, replicate}
@@ -8,7 +8,7 @@ use Rattle.gates.specs.Steps.{Lane}
 use Rattle.gates.specs.Hosts.{Pair}
 use Rattle.calls.specs.Lent.{Lent, lent}
 use Rattle.calls.specs.Calls.{State, Answer, fresh, start, hear, Prepared, prepare}
-use Rattle.days.specs.Day.{day-script}
+use Rattle.days.specs.Day.{Hours, day-script}
 
 -- a day list has two words to a share: host 0's L1 and L2, hosts 1 and 2's m and mask. The first word of each, and the
 -- second
@@ -55,14 +55,15 @@ own-masks p =
       buffer = p .buffer;
     }
 
-abbrev pub day-lent : (w host : ℕ) (table shares masks deals : List ℕ) → Lent
-day-lent w h T S M D = lent h (day-script w T (length S)) M D
+abbrev pub day-lent : (w host : ℕ) (table shares : List ℕ) → Hours → (masks deals : List ℕ) → Lent
+day-lent w h T S H M D = lent h (day-script w T (length S) H) M D
 
-unfoldable pub day-start : (w host : ℕ) (table shares masks deals : List ℕ) → Answer
-day-start w h T S M D = own-answer (start (day-lent w h T S M D) (day-given S))
+unfoldable pub day-start : (w host : ℕ) (table shares : List ℕ) → Hours → (masks deals : List ℕ) → Answer
+day-start w h T S H M D = own-answer (start (day-lent w h T S H M D) (day-given S))
 
-unfoldable pub day-hear : (w host : ℕ) (table shares masks deals : List ℕ) → State → (heard : ℕ) → Answer
-day-hear w h T S M D s v = own-answer (hear (day-lent w h T S M D) (with-shares s S) v)
+unfoldable pub day-hear : (w host : ℕ) (table shares : List ℕ) → Hours → (masks deals : List ℕ) → State
+    → (heard : ℕ) → Answer
+day-hear w h T S H M D s v = own-answer (hear (day-lent w h T S H M D) (with-shares s S) v)
 
-unfoldable pub day-prepare : (w : ℕ) (table shares A B buffer : List ℕ) → Prepared
-day-prepare w T S A B D = own-masks (prepare (day-script w T (length S)) A B D (day-given S))
+unfoldable pub day-prepare : (w : ℕ) (table shares : List ℕ) → Hours → (A B buffer : List ℕ) → Prepared
+day-prepare w T S H A B D = own-masks (prepare (day-script w T (length S) H) A B D (day-given S))

@@ -1,3 +1,4 @@
 pub mod Day
 pub mod DayCalls
+pub mod WholeDay
 pub mod Orders

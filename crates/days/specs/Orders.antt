@@ -1,7 +1,7 @@
 -- How the hosts' code runs an order of a day: as one order of a job, on the 24 slots of a state. While it runs, the
 -- share of its quarter stands in slot 15, a register that no order of a day writes. What the calls give is defined
 -- without all this (DayCalls.antt). Assumes nothing.
-use mathlib.Core.Bool.{cond}
+use mathlib.Core.Bool.{Bool, true, cond}
 use mathlib.Core.List.{List, [], _∷_, _++_}
 use Prim.Native.Nat.{ℕ}
 use lib.Dec.{ltb}
@@ -23,6 +23,10 @@ mean-order = record { kind = 8; target = 0; source = acc-slot; fourth = 16 }
 unfoldable pub own-order : (order : ℕ) → Order
 own-order o = cond (ltb o 96) curve-order mean-order
 
+-- whether it is run: R-6, "A quarter left out is run by no host"; f tells which count
+unfoldable pub is-run : (f : ℕ → Bool) (order : ℕ) → Bool
+is-run f o = cond (ltb o 96) (f o) true
+
 -- its four words
 unfoldable pub order-words : (order : ℕ) → List ℕ
 order-words o = own-order o .kind ∷ own-order o .target ∷ own-order o .source ∷ own-order o .fourth ∷ []
@@ -31,9 +35,9 @@ order-words o = own-order o .kind ∷ own-order o .target ∷ own-order o .sourc
 abbrev pub with-share : (word : ℕ) → Lane → Lane
 with-share v l = set l 15 v
 
--- before the mean's truncation: "It multiplies the sum by 682"
-unfoldable pub entered : (w order : ℕ) → Lane → Lane
-entered w o l = cond (ltb o 96) l (set l acc-slot (mul w (at l 0) 682))
+-- before the mean's truncation: "It multiplies the sum by" the factor
+unfoldable pub entered : (w by order : ℕ) → Lane → Lane
+entered w k o l = cond (ltb o 96) l (set l acc-slot (mul w (at l 0) k))
 
 -- "as a quarter ends, 0 gets the sum .. and 1 the count"
 abbrev pub summed : (w : ℕ) → Lane → Lane
@@ -47,8 +51,8 @@ left w o l = cond (ltb o 96) (counted w (summed w l)) l
 
 -- ---- the gates of the day's order around those of the code's own
 
-unfoldable pub front : (order : ℕ) → List Gate
-front o = cond (ltb o 96) [] (Scale acc-slot 0 682 ∷ [])
+unfoldable pub front : (by order : ℕ) → List Gate
+front k o = cond (ltb o 96) [] (Scale acc-slot 0 k ∷ [])
 
 unfoldable pub back : (order : ℕ) → List Gate
 back o = cond (ltb o 96) (Add 0 0 acc-slot ∷ Add 1 1 t-slot ∷ []) []

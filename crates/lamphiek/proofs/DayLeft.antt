@@ -11,7 +11,7 @@ use Rattle.jobs.specs.Job.{Fault}
 use Rattle.calls.specs.Scripts.{Script}
 use Rattle.calls.specs.Lent.{dealer-fault}
 use Rattle.calls.specs.Calls as Calls
-use Rattle.days.specs.Day.{day-script}
+use Rattle.days.specs.Day.{Hours, day-script}
 use Rattle.days.specs.DayCalls.{firsts, seconds, day-given, with-shares, own-state, day-lent, day-start, day-hear, day-prepare}
 use Rattle.lamphiek.specs.Layout.{state-in}
 use Rattle.lamphiek.proofs.Lanes.{Wide, Full, start-full, hear-full, prepare-wide}
@@ -50,18 +50,18 @@ module _ (L : List ℕ) where
   own-full s h =
       record { m = length-take-le 24 (s .m) (omega (arith, h .m)); mask = length-take-le 24 (s .mask) (omega (arith, h .mask)) }
 
-  module _ (h : ℕ) (T M D : List ℕ) where
-    pub start-full-day : Full 24 (day-start 32 h T L M D .state)
+  module _ (h : ℕ) (T : List ℕ) (H : Hours) (M D : List ℕ) where
+    pub start-full-day : Full 24 (day-start 32 h T L H M D .state)
     unfolding day-start
     start-full-day =
-        own-full (Calls.start (day-lent 32 h T L M D) (day-given L) .state)
-        (start-full (24 + many) (day-lent 32 h T L M D) (day-given L) given-wide)
+        own-full (Calls.start (day-lent 32 h T L H M D) (day-given L) .state)
+        (start-full (24 + many) (day-lent 32 h T L H M D) (day-given L) given-wide)
 
-    pub hear-full-day : (s : Calls.State) (v : ℕ) → Full 24 s → Full 24 (day-hear 32 h T L M D s v .state)
+    pub hear-full-day : (s : Calls.State) (v : ℕ) → Full 24 s → Full 24 (day-hear 32 h T L H M D s v .state)
     unfolding day-hear
     hear-full-day s v k =
-        own-full (Calls.hear (day-lent 32 h T L M D) (with-shares s L) v .state)
-        (hear-full (24 + many + 8) (day-lent 32 h T L M D) (with-shares s L) v (shares-full s k))
+        own-full (Calls.hear (day-lent 32 h T L H M D) (with-shares s L) v .state)
+        (hear-full (24 + many + 8) (day-lent 32 h T L H M D) (with-shares s L) v (shares-full s k))
 
   -- the first sixteen of the masks that a preparation gives, or gives back
   module _ (σ : Script) (A B D : List ℕ) (slots : 16 ≤ σ .slots) where
@@ -81,7 +81,7 @@ module _ (L : List ℕ) where
         }
     masks-front (suc n) f = front (24 + many) (day-given L) (omega arith) given-wide
 
-  pub masks-wide-day : (T A B D : List ℕ) → Wide 16 (day-prepare 32 T L A B D .masks)
+  pub masks-wide-day : (T : List ℕ) (H : Hours) (A B D : List ℕ) → Wide 16 (day-prepare 32 T L H A B D .masks)
   unfolding day-prepare Calls.prepare
-  masks-wide-day T A B D =
-      let σ = day-script 32 T (length L) in masks-front σ A B D (omega arith) (dealer-fault σ A B D .0) (dealer-fault σ A B D)
+  masks-wide-day T H A B D =
+      let σ = day-script 32 T (length L) H in masks-front σ A B D (omega arith) (dealer-fault σ A B D .0) (dealer-fault σ A B D)

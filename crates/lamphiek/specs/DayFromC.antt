@@ -10,6 +10,7 @@ use lib.ListN.{length}
 use Rattle.shares.specs.Sharing.{reconstruction}
 use Rattle.calls.specs.Calls as Calls
 use Rattle.runs.specs.Runs.{Spoken, Among, Dealt, preparing, starting1, starting2, hearing1, hearing2}
+use Rattle.days.specs.Day.{Hours}
 use Rattle.days.specs.DayCalls.{day-start, day-hear, day-prepare}
 use Rattle.day_demands.specs.Settings.{DaySetting, day-staged}
 use Rattle.day_demands.specs.Runs.{DayDealer, unprepared, prepared, DayHost, resting, running, day-world, host-state}
@@ -33,11 +34,12 @@ day-on a s said = runs-on (state-left a s) (speaks (state-left a s) (a .word) �
 
 pub record DayFromC : Type 0 where
   -- the words stay as many as the header's structs have
-  pub masks-long : (M T L A B D : List ℕ) → length M ≡ 32 → length (masks-left (day-prepare 32 T L A B D) M) ≡ 32
-  pub start-long : (s : List ℕ) (h : ℕ) (T L M D : List ℕ) → length s ≡ 50
-      → length (state-left (day-start 32 h T L M D) s) ≡ 50
-  pub hear-long : (s : List ℕ) (h : ℕ) (T L M D : List ℕ) (v : ℕ) → length s ≡ 50
-      → length (state-left (day-hear 32 h T L M D (state-in s) v) s) ≡ 50
+  pub masks-long : (M T L : List ℕ) (H : Hours) (A B D : List ℕ) → length M ≡ 32
+      → length (masks-left (day-prepare 32 T L H A B D) M) ≡ 32
+  pub start-long : (s : List ℕ) (h : ℕ) (T L : List ℕ) (H : Hours) (M D : List ℕ) → length s ≡ 50
+      → length (state-left (day-start 32 h T L H M D) s) ≡ 50
+  pub hear-long : (s : List ℕ) (h : ℕ) (T L : List ℕ) (H : Hours) (M D : List ℕ) (v : ℕ) → length s ≡ 50
+      → length (state-left (day-hear 32 h T L H M D (state-in s) v) s) ≡ 50
   -- before the first call, whatever the words hold
   pub begins : (S : DaySetting) (D one two : List ℕ) → DayRun 32 S [] (day-world unprepared D (rests one) (rests two))
   -- a preparation that completes
@@ -67,27 +69,28 @@ pub record DayFromC : Type 0 where
       (day-world z buf (runs-on s1 said1) (day-on (hear2 32 S D (state-in s) v) s said))
   -- refused calls, lent anything: a preparation leaves the words of the masks, and its buffer; a starting the words of
   -- the state
-  pub refused0 : (S : DaySetting) (z : DayDealer) (M T L A B D : List ℕ) (one two : DayHost)
-      → day-prepare 32 T L A B D .number ≢ 0
-      → (masks-left (day-prepare 32 T L A B D) M ≡ M)
-      × DayRefuses 32 S (day-world z D one two) (day-world z (day-prepare 32 T L A B D .buffer) one two)
-  pub refused-start : (s : List ℕ) (h : ℕ) (T L M D : List ℕ) → day-start 32 h T L M D .number ≢ 0
-      → state-left (day-start 32 h T L M D) s ≡ s
+  pub refused0 : (S : DaySetting) (z : DayDealer) (M T L : List ℕ) (H : Hours) (A B D : List ℕ) (one two : DayHost)
+      → day-prepare 32 T L H A B D .number ≢ 0
+      → (masks-left (day-prepare 32 T L H A B D) M ≡ M)
+      × DayRefuses 32 S (day-world z D one two) (day-world z (day-prepare 32 T L H A B D .buffer) one two)
+  pub refused-start : (s : List ℕ) (h : ℕ) (T L : List ℕ) (H : Hours) (M D : List ℕ)
+      → day-start 32 h T L H M D .number ≢ 0
+      → state-left (day-start 32 h T L H M D) s ≡ s
   -- a hearing, of a host that holds what the words read as
   pub refused-hearing1 : (S : DaySetting) (z : DayDealer) (buf s : List ℕ) (one two : DayHost) (h : ℕ)
-      (T L M D : List ℕ) (v : ℕ)
+      (T L : List ℕ) (H : Hours) (M D : List ℕ) (v : ℕ)
       → length s ≡ 50
       → host-state one ≡ state-in s
-      → day-hear 32 h T L M D (state-in s) v .number ≢ 0
+      → day-hear 32 h T L H M D (state-in s) v .number ≢ 0
       → DayRefuses 32 S (day-world z buf one two)
-      (day-world z buf (with-answer one (state-in (state-left (day-hear 32 h T L M D (state-in s) v) s))) two)
+      (day-world z buf (with-answer one (state-in (state-left (day-hear 32 h T L H M D (state-in s) v) s))) two)
   pub refused-hearing2 : (S : DaySetting) (z : DayDealer) (buf s : List ℕ) (one two : DayHost) (h : ℕ)
-      (T L M D : List ℕ) (v : ℕ)
+      (T L : List ℕ) (H : Hours) (M D : List ℕ) (v : ℕ)
       → length s ≡ 50
       → host-state two ≡ state-in s
-      → day-hear 32 h T L M D (state-in s) v .number ≢ 0
+      → day-hear 32 h T L H M D (state-in s) v .number ≢ 0
       → DayRefuses 32 S (day-world z buf one two)
-      (day-world z buf one (with-answer two (state-in (state-left (day-hear 32 h T L M D (state-in s) v) s))))
+      (day-world z buf one (with-answer two (state-in (state-left (day-hear 32 h T L H M D (state-in s) v) s))))
   -- opening, on a register's six words in the structs of the three hosts: what the day's hosts open as they stand, of
   -- which `day-returned` (day_demands/specs/Returned.antt) speaks
   pub opens : (z : DayDealer) (buf M one two : List ℕ) (x y : DayHost) (i : ℕ) → i < 16

@@ -2,6 +2,7 @@ pub mod Layout
 pub mod Readings
 pub mod Checking
 pub mod Loading
+pub mod Hours
 pub mod Stepping
 pub mod FromC
 pub mod DayFromC

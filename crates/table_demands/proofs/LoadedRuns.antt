@@ -32,11 +32,11 @@ use Rattle.demands.specs.Demand3.{Exact, OneBit, Y-of, with-word, eqZ, Covered}
 use Rattle.demands.specs.Whole.{first-world}
 use Rattle.demands.proofs.Demand3.{demand3}
 use Rattle.demands.proofs.Whole.{whole}
-use Rattle.days.specs.Day.{day-cost}
+use Rattle.days.specs.Day.{Hours, day-cost}
 use Rattle.day_demands.specs.Settings.{DaySetting, day-staged}
-use Rattle.day_demands.specs.Numbers.{DayNumbered, no-day, no-table}
+use Rattle.day_demands.specs.Numbers.{DayNumbered, no-day, no-hours, no-table}
 use Rattle.day_demands.specs.Numbers as Day
-use Rattle.day_demands.specs.Opened.{sum-of, above-of, Sheet}
+use Rattle.day_demands.specs.Opened.{sum-of, above-of, factor-of, Sheet}
 use Rattle.day_demands.specs.Runs.{DayWorld, DayRun, day-opened}
 use Rattle.day_demands.specs.Returned.{BothAtEnd}
 use Rattle.day_demands.proofs.Returned.{day-returned}
@@ -44,7 +44,7 @@ use Rattle.table_load.specs.Loading.{records, table-in}
 use Rattle.table_load.proofs.Numbers.{rows-are}
 use Rattle.table_load.proofs.Encodings.{lent-in, kept}
 use Rattle.table_demands.specs.LoadedRuns.{LentFrom, text-Y, text-last, UpToLast, Opened, as-left, as-returned}
-use Rattle.table_demands.specs.LoadedRuns.{Suffice, Splittable, on-table, LoadedRuns}
+use Rattle.table_demands.specs.LoadedRuns.{Suffice, Splittable, OpenDay, on-table, LoadedRuns}
 
 -- ---- a table that loads
 
@@ -85,10 +85,11 @@ alike w T U a b job _ _ (faulty s f) =
       none-before = λ j m l h. f .none-before j m l (meets w U T b _ m h);
     })
 
-day-alike : (T U : List ℕ) → Rules T → Rules U → (words n i : ℕ) → DayNumbered T words n i → DayNumbered U words n i
-day-alike T U a b words _ _ (no-day h) = no-day h
-day-alike T U a b words _ _ (no-table h k) = absurd (k a)
-day-alike T U a b words _ _ (Day.faultless h k) = Day.faultless h b
+day-alike : (T U : List ℕ) → Rules T → Rules U → (words : ℕ) (H : Hours) (n i : ℕ) → DayNumbered T words H n i → DayNumbered U words H n i
+day-alike T U a b words H _ _ (no-day h) = no-day h
+day-alike T U a b words H _ _ (no-hours h k r z) = no-hours h k r z
+day-alike T U a b words H _ _ (no-table h r k) = absurd (k a)
+day-alike T U a b words H _ _ (Day.faultless h r k) = Day.faultless h r b
 
 house-kept : Rules house
 house-kept = rules house .0 house-keeps-rules
@@ -129,11 +130,12 @@ module _ (S : Setting) (buffer : List ℕ) (acc : Accepted (staged 32 S) buffer)
   )
 
 module _ (t : List ℕ) (S : DaySetting) (buffer : List ℕ) (l : LentFrom t (S .table)) where
-  day-runs : Suffice (day-cost (records t)) (S .A) (S .B) buffer → (cs : List Call) × (u : DayWorld) × DayRun 32 S cs u × BothAtEnd u
-  day-runs enough =
-      let s : Suffice (day-cost (length (rows (S .table)))) (S .A) (S .B) buffer =
-      subst (λ (m : ℕ). Suffice (day-cost m) (S .A) (S .B) buffer) (sym (rows-read t (S .table) l)) enough in
-      day-returned .whole S buffer (prepares-well (Day.faultless refl (table-kept t (S .table) l)) (s .a) (s .b) (s .deals))
+  day-runs : OpenDay S → Suffice (day-cost (S .hours) (records t)) (S .A) (S .B) buffer
+      → (cs : List Call) × (u : DayWorld) × DayRun 32 S cs u × BothAtEnd u
+  day-runs opens enough =
+      let s : Suffice (day-cost (S .hours) (length (rows (S .table)))) (S .A) (S .B) buffer =
+      subst (λ (m : ℕ). Suffice (day-cost (S .hours) m) (S .A) (S .B) buffer) (sym (rows-read t (S .table) l)) enough in
+      day-returned .whole S buffer (prepares-well (Day.faultless refl opens (table-kept t (S .table) l)) (s .a) (s .b) (s .deals))
 
 -- ---- what is opened
 
@@ -198,19 +200,19 @@ module _ (t : List ℕ) (S : Setting) (q : ℕ) (l : LentFrom t (S .table)) wher
         ∙ subst (λ (y : ℤ). count (2 ^ 32) (λ a. eqZ (opens 32 S (v a) q .1) (floor y 4096 +ℤ pos 1)) ≡ wrap 12 y * 2 ^ 20) Y-is
         (demand3 .slips S q v W (λ a m. finished (with-word 32 S q a) q (v a) (p a) (o a m) .0) e (covered h))
 
-sheet : (t : List ℕ) (S : DaySetting) → LentFrom t (S .table) → Splittable S → Sheet S
-sheet t S l r = record { table = table-kept t (S .table) l; readings = r }
+sheet : (t : List ℕ) (S : DaySetting) → LentFrom t (S .table) → OpenDay S → Splittable S → Sheet S
+sheet t S l o r = record { table = table-kept t (S .table) l; open-day = o; readings = r }
 
-module _ (t : List ℕ) (S : DaySetting) (l : LentFrom t (S .table)) (r : Splittable S) (W : Words 32 (day-staged 32 S))
+module _ (t : List ℕ) (S : DaySetting) (l : LentFrom t (S .table)) (o : OpenDay S) (r : Splittable S) (W : Words 32 (day-staged 32 S))
     (cs : List Call) (u : DayWorld) (run : DayRun 32 S cs u) (end : BothAtEnd u) where
-  mean : day-opened 32 u 0 ≡ (0, floor (pos 682 *ℤ sum-of (on-table (table-in t) S) 96) 65536)
+  mean : day-opened 32 u 0 ≡ (0, floor (pos (factor-of S) *ℤ sum-of (on-table (table-in t) S) 96) 65536)
   mean =
-      day-returned .mean S (sheet t S l r) W cs u run end
-      ∙ ap (λ (T : List ℕ). (0, floor (pos 682 *ℤ sum-of (on-table T S) 96) 65536)) (table-is t (S .table) l)
+      day-returned .mean S (sheet t S l o r) W cs u run end
+      ∙ ap (λ (T : List ℕ). (0, floor (pos (factor-of S) *ℤ sum-of (on-table T S) 96) 65536)) (table-is t (S .table) l)
 
   day-count : day-opened 32 u 1 ≡ (0, pos (above-of (on-table (table-in t) S) 96))
   day-count =
-      day-returned .count S (sheet t S l r) W cs u run end
+      day-returned .count S (sheet t S l o r) W cs u run end
       ∙ ap (λ (T : List ℕ). (0, pos (above-of (on-table T S) 96))) (table-is t (S .table) l)
 
 pub loaded-runs : LoadedRuns
@@ -218,8 +220,8 @@ loaded-runs = record {
   table-is = table-is;
   job-numbers = λ t T l w job n i.
       (alike w house T house-kept (table-kept t T l) job n i, alike w T house (table-kept t T l) house-kept job n i);
-  day-numbers = λ t T l k n i.
-      (day-alike house T house-kept (table-kept t T l) k n i, day-alike T house (table-kept t T l) house-kept k n i);
+  day-numbers = λ t T l k H n i.
+      (day-alike house T house-kept (table-kept t T l) k H n i, day-alike T house (table-kept t T l) house-kept k H n i);
   job-accepted = job-accepted;
   job-runs = λ t S buf l W own enough. whole-run S buf (job-accepted t S buf l own enough) W;
   day-runs = day-runs;

@@ -22,10 +22,11 @@ use Rattle.runs.specs.Runs.{Setting, staged, World, Call, Accepted}
 use Rattle.runs.specs.Orders.{Words, order-of, refresh-mask, reading, Finishes, opens}
 use Rattle.demands.specs.Demand3.{Exact, OneBit, with-word, eqZ}
 use Rattle.demands.specs.ReturnedCurves.{Stays, target-opens}
-use Rattle.days.specs.Day.{day-cost}
+use Rattle.calendars.specs.Hours.{Counts, HoursNumbered}
+use Rattle.days.specs.Day.{Hours, day-cost}
 use Rattle.day_demands.specs.Settings.{DaySetting, day-staged, quarter-reading}
 use Rattle.day_demands.specs.Numbers.{DayNumbered}
-use Rattle.day_demands.specs.Opened.{sum-of, above-of, Sheet}
+use Rattle.day_demands.specs.Opened.{sum-of, above-of, factor-of, Sheet}
 use Rattle.day_demands.specs.Runs.{DayWorld, DayRun, day-opened}
 use Rattle.day_demands.specs.Returned.{BothAtEnd}
 use Rattle.table_load.specs.Loading.{records, table-in, loading, lent-on}
@@ -62,15 +63,21 @@ pub record Suffice (needs : Cost) (A B buffer : List ℕ) : Type 0 where
   pub b : needs .b ≤ length B
   pub deals : needs .deals ≤ length buffer
 
--- a day on readings that can be split: from -2^30 to 2^30 - 1
+-- a day on readings that can be split, from -2^30 to 2^30 - 1, of the quarters that count
 abbrev pub Splittable : DaySetting → Type 0
-Splittable S = (q : ℕ) → q < 96 → T (in-range 32 (quarter-reading 32 S q))
+Splittable S =
+    (q : ℕ) → q < 96 → Counts (S .hours .calendar) (S .hours .weekday) q → T (in-range 32 (quarter-reading 32 S q))
+
+-- whose calendar and weekday meet neither 16 nor 17
+abbrev pub OpenDay : DaySetting → Type 0
+OpenDay S = HoursNumbered (S .hours .calendar) (S .hours .weekday) 0
 
 -- the same day on another table
 abbrev pub on-table : (table : List ℕ) → DaySetting → DaySetting
 on-table T S =
     record {
       table = T;
+      hours = S .hours;
       A = S .A;
       B = S .B;
       m = S .m;
@@ -87,8 +94,8 @@ pub record LoadedRuns : Type 0 where
   -- on it a job has the number and the index, by 2 to 5, that it has on the house table, at every width; and a day too
   pub job-numbers : (t table : List ℕ) → LentFrom t table → (w : ℕ) (job : List ℕ) (n i : ℕ)
       → Numbered w job house n i ↔ Numbered w job table n i
-  pub day-numbers : (t table : List ℕ) → LentFrom t table → (words n i : ℕ)
-      → DayNumbered house words n i ↔ DayNumbered table words n i
+  pub day-numbers : (t table : List ℕ) → LentFrom t table → (words : ℕ) (H : Hours) (n i : ℕ)
+      → DayNumbered house words H n i ↔ DayNumbered table words H n i
   -- so where that is 0, and the lists suffice by document 01's table of costs, the job is accepted, and all that is
   -- proved of accepted jobs holds: their runs finish (`finishes`, demands/specs/Demand3.antt), and those that `slips`
   -- speaks of exist (`family`, demands/specs/ReturnedCurves.antt)
@@ -101,8 +108,8 @@ pub record LoadedRuns : Type 0 where
       → LentFrom t (S .table) → Words 32 (staged 32 S) → Numbered 32 (S .job) house 0 0
       → Suffice (table-counts (records t) (orders (S .job))) (S .A) (S .B) buffer
       → (v : World) × ((q : ℕ) → q < length (orders (S .job)) → Finishes 32 (staged 32 S) q v)
-  pub day-runs : (t : List ℕ) (S : DaySetting) (buffer : List ℕ) → LentFrom t (S .table)
-      → Suffice (day-cost (records t)) (S .A) (S .B) buffer
+  pub day-runs : (t : List ℕ) (S : DaySetting) (buffer : List ℕ) → LentFrom t (S .table) → OpenDay S
+      → Suffice (day-cost (S .hours) (records t)) (S .A) (S .B) buffer
       → (cs : List Call) × (u : DayWorld) × DayRun 32 S cs u × BothAtEnd u
   -- demand 3, as R-1 changes it: "each finished curve order .. opens exactly floor(Y / 4096) in exact mode"
   pub exact : (t : List ℕ) (S : Setting) (q : ℕ) (v : World) (p : ℕ × ℤ)
@@ -135,15 +142,15 @@ pub record LoadedRuns : Type 0 where
       → LentFrom t (S .table) → Opened S q v p → order-of S q .kind ≡ 10
       → pos (text-last t) <ℤ reading 32 S q
       → p ≡ (0, negℤ (pos 1))
-  -- R-3: "The opened mean is floor(682 × sum / 65536)", and register 1 opens the count, of the masks and states that
-  -- the calls returned; the sum and the count are those on the rows in the text's records
+  -- R-3, R-6: "The opened mean is floor(" factor "× sum / 65536)", and register 1 opens the count, of the masks and
+  -- states that the calls returned; the sum and the count are those on the rows in the text's records
   pub mean : (t : List ℕ) (S : DaySetting)
-      → LentFrom t (S .table) → Splittable S → Words 32 (day-staged 32 S)
+      → LentFrom t (S .table) → OpenDay S → Splittable S → Words 32 (day-staged 32 S)
       → (cs : List Call) (u : DayWorld) → DayRun 32 S cs u → BothAtEnd u
-      → day-opened 32 u 0 ≡ (0, floor (pos 682 *ℤ sum-of (on-table (table-in t) S) 96) 65536)
+      → day-opened 32 u 0 ≡ (0, floor (pos (factor-of S) *ℤ sum-of (on-table (table-in t) S) 96) 65536)
   pub day-count : (t : List ℕ) (S : DaySetting)
-      → LentFrom t (S .table) → Splittable S → Words 32 (day-staged 32 S)
+      → LentFrom t (S .table) → OpenDay S → Splittable S → Words 32 (day-staged 32 S)
       → (cs : List Call) (u : DayWorld) → DayRun 32 S cs u → BothAtEnd u
       → day-opened 32 u 1 ≡ (0, pos (above-of (on-table (table-in t) S) 96))
-  -- what `DayOpens` and `DayReturned` (day_demands/specs) ask of a day's table and readings
-  pub sheet : (t : List ℕ) (S : DaySetting) → LentFrom t (S .table) → Splittable S → Sheet S
+  -- what `DayOpens` and `DayReturned` (day_demands/specs) ask of a day's table, hours and readings
+  pub sheet : (t : List ℕ) (S : DaySetting) → LentFrom t (S .table) → OpenDay S → Splittable S → Sheet S

@@ -4,7 +4,6 @@ use mathlib.Core.Path.{_≡_, sym, ap, ap₂, _∙_}
 use mathlib.Core.Bool.{Bool, true, false, cond}
 use mathlib.Core.List.{List, [], _∷_, _++_, map}
 use Prim.Native.Nat.{ℕ, suc, _+_, _*_, _≤_, _<_}
-use native.Mathlib.Nat.{mul-le-mul-right}
 use native.Mathlib.Numerals.{add-one}
 use native.Mathlib.Omega.{arith}
 use lib.Dec.{ltb}
@@ -21,7 +20,6 @@ use Rattle.gates.specs.Costs.{Cost}
 use Rattle.programs.specs.declared.Order.{Order}
 use Rattle.programs.specs.Orders.{program}
 use Rattle.programs.specs.Costs.{program-cost}
-use Rattle.programs.specs.Sizes.{times-cost}
 use Rattle.programs.specs.Seek.{sought}
 use Rattle.programs.specs.declared.Sought.{Sought}
 use Rattle.programs.specs.declared.Sought.the-variants.{Nowhere}
@@ -36,30 +34,28 @@ use Rattle.calls.specs.Places.{Found, nowhere, found, seek}
 use Rattle.walks.specs.Workers.{cursor}
 use Rattle.walks.specs.Halts.{going-on, reported, steps-from}
 use Rattle.walks.proofs.Halts.{ends}
-use Rattle.days.specs.Day.{day-gates, day-steps}
-use Rattle.days.specs.Orders.{curve-order, mean-order, own-order, order-words, with-share, entered, left, front, within}
+use Rattle.calendars.specs.Quarters.{tabled}
+use Rattle.days.specs.Day.{day-factor, day-gates, day-steps}
+use Rattle.days.specs.Orders.{curve-order, mean-order, own-order, is-run, order-words, with-share, entered, left, front, within}
 use Rattle.days.specs.Orders.{first-tail, second-tail}
-use Rattle.days.proofs.Quarters.{day-gates-count}
+use Rattle.days.proofs.Quarters.{day-gates-count, factor-tabled}
 use Rattle.days.proofs.Moved.{moved, same-gate}
 use Rattle.days.proofs.Lanes.{place, takes, any-share, first-word, second-word, first-short, second-short}
 use Rattle.days.proofs.Walked.{steps-are, day-from, inside, Held, Walked, halted, gone-by, begins, walked}
 use Rattle.days.proofs.Orders.{steps-whole, steps-within}
 use Rattle.days.proofs.Own.{own-job, own-at, own-length, own-spares}
 use Rattle.days.proofs.Heard as Heard
+use Rattle.days.proofs.Idle.{idle-walk}
 use Rattle.days.proofs.Places.{seek-far, used-before, found-in-day, nowhere-in-day}
 use Rattle.worker.proofs.Places.{found-here}
 use Rattle.worker.specs.Answers.{state-with}
 use Rattle.worker.specs.Jobs.{Sized}
-use Rattle.worker.specs.Days.{few-counts, DayLent, DayPlace}
-
--- few words of few curves are few
-pub few-words : (x o : ℕ) → x ≤ 1000 → o ≤ 96 → x * o ≤ 96000
-few-words x o h k = let p : x * o ≤ 1000 * o = mul-le-mul-right o h in omega arith
+use Rattle.worker.specs.Days.{few-counts, used-by, DayLent, DayPlace}
 
 -- one curve's counts
-pub lent-few : (T S : List ℕ) (k : Cost) → DayLent T S k → few-counts k
+pub lent-few : (T S : List ℕ) (k : Cost) (f : ℕ → Bool) (n : ℕ) → DayLent T S k f n → few-counts k
 unfolding curve-cost
-lent-few T S k L =
+lent-few T S k f n L =
     let p : k ≡ curve-cost 0 (length (rows T)) = L .counts in
     let u = L .ruled .at-most in (
       omega (arith, u, ap (λ (c : Cost). c .deals) p),
@@ -98,25 +94,27 @@ own-steps w table o i = rw (own-job o)
 
 -- ---- the place that the code finds, from the order's words in hand
 
-module _ (T : List ℕ) (r : Rules T) (o x : ℕ) (in-day : o ≤ 96) (J : List ℕ) (eJ : J ≡ order-words o) (ord : Order) (eo : ord ≡ order-at J 0)
-    (f : Sought) (ef : f ≡ sought 32 (program 32 (rows T) ord) x 0 0 0) where
-  own-sought : f ≡ sought 32 (program 32 (rows T) (own-order o)) x 0 0 0
-  own-sought = ef ∙ ap (λ (q : Order). sought 32 (program 32 (rows T) q) x 0 0 0) (eo ∙ ap (λ (j : List ℕ). order-at j 0) eJ ∙ own-at o)
+module _ (T : List ℕ) (f : ℕ → Bool) (r : Rules T) (o x : ℕ) (in-day : o ≤ 96) (run : is-run f o ≡ true) (J : List ℕ) (eJ : J ≡ order-words o)
+    (ord : Order) (eo : ord ≡ order-at J 0) (g : Sought) (eg : g ≡ sought 32 (program 32 (rows T) ord) x 0 0 0) where
+  own-sought : g ≡ sought 32 (program 32 (rows T) (own-order o)) x 0 0 0
+  own-sought = eg ∙ ap (λ (q : Order). sought 32 (program 32 (rows T) q) x 0 0 0) (eo ∙ ap (λ (j : List ℕ). order-at j 0) eJ ∙ own-at o)
 
-  pub none-placed : f ≡ Nowhere → seek o x (day-steps 32 T) origin ≡ nowhere
-  none-placed p = nowhere-in-day T o x in-day (sym own-sought ∙ p)
+  pub none-placed : g ≡ Nowhere → seek o x (day-steps 32 T f) origin ≡ nowhere
+  none-placed p = nowhere-in-day T f o x in-day run (sym own-sought ∙ p)
 
-  pub placed-day : (i a n : ℕ) → f ≡ SoughtAt.Found i a n → (k u : Cost) → k ≡ curve-cost 0 (length (rows T)) → u ≡ times-cost o k
-      → DayPlace T o x i (u .a + a) (u .b + x) (u .deals + n)
+  pub placed-day : (i a n : ℕ) → g ≡ SoughtAt.Found i a n → (k u : Cost) → k ≡ curve-cost 0 (length (rows T)) → u ≡ used-by f k o
+      → DayPlace T f o x i (u .a + a) (u .b + x) (u .deals + n)
+  unfolding used-by
   placed-day i a n p k u ek eu =
       let s = sym own-sought ∙ p in
-      let q = found-in-day T o x in-day (λ z. few-gates (rows T) z (λ c. r .at-most)) i a n s in
+      let q = found-in-day T f o x in-day run (λ z. few-gates (rows T) z (λ c. r .at-most)) i a n s in
       let e : sought 32 (program 32 (rows T) (order-at (order-words o) 0)) x 0 0 0 ≡ SoughtAt.Found i a n =
       ap (λ (z : Order). sought 32 (program 32 (rows T) z) x 0 0 0) (own-at o) ∙ s in
       let h = found-here 32 (order-words o) T 0 x (omega (arith, own-length o)) (sized-own T o r) i a n e in
       rw (eu, ek)
       (record {
         in-day = in-day;
+        run = run;
         standing = h .standing;
         few-gates = h .few-gates;
         few-turns = h .few-turns;
@@ -127,22 +125,24 @@ module _ (T : List ℕ) (r : Rules T) (o x : ℕ) (in-day : o ≤ 96) (J : List 
       })
 
 -- by the same numbers
-pub place-at : (T : List ℕ) (o x i a b n i′ a′ n′ : ℕ) → DayPlace T o x i a b n → i′ ≡ i → a′ ≡ a → n′ ≡ n → DayPlace T o x i′ a′ b n′
-place-at T o x i a b n i′ a′ n′ p ei ea en = rw (ei, ea, en) p
+pub place-at : (T : List ℕ) (f : ℕ → Bool) (o x i a b n i′ a′ n′ : ℕ) → DayPlace T f o x i a b n → i′ ≡ i → a′ ≡ a → n′ ≡ n
+    → DayPlace T f o x i′ a′ b n′
+place-at T f o x i a b n i′ a′ n′ p ei ea en = rw (ei, ea, en) p
 
 -- ---- the product or refresh where a state stands, in the day's steps
 
-pub there-in-day : (T : List ℕ) (o x i a b n : ℕ) → DayPlace T o x i a b n
-    → (y : Step) × (ss : List Step) × (steps-from 32 (length (front o) + i) (drop o (day-gates 32 (rows T))) ≡ y ∷ ss) × Exchanging (y ∷ [])
-there-in-day T o x i a b n pl =
+pub there-in-day : (T : List ℕ) (f : ℕ → Bool) (o x i a b n : ℕ) → DayPlace T f o x i a b n
+    → (y : Step) × (ss : List Step)
+    × (steps-from 32 (length (front (day-factor f) o) + i) (drop o (day-gates 32 f (rows T))) ≡ y ∷ ss) × Exchanging (y ∷ [])
+there-in-day T f o x i a b n pl =
     let own = program 32 (rows T) (own-order o) in
     let g = pl .standing .held in
     let there : fetched own i ≡ At g = ap (λ (q : Order). fetched (program 32 (rows T) q) i) (sym (own-at o)) ∙ pl .standing .there in
     let h : i < length own = Fetched.inside own i g there in
-    let rest = job-steps 32 (drop (suc o) (day-gates 32 (rows T))) in (
+    let rest = job-steps 32 (drop (suc o) (day-gates 32 f (rows T))) in (
       meaning 32 (moved (place o) g),
       day-from 32 o (drop (suc i) own) rest,
-      steps-within 32 (rows T) o (pl .in-day) i (omega arith)
+      steps-within 32 f (rows T) o (pl .in-day) (pl .run) i (omega arith)
           ∙ ap (λ (gs : List Gate). day-from 32 o gs rest) (Fetched.first-left own i g there),
       Heard.speaks-same (same-gate (place o) 32 g) (pl .standing .speaks),
     )
@@ -153,7 +153,8 @@ there-in-day T o x i a b n pl =
 abbrev pub Long : Answer → Type 0
 Long a = (length (a .state .m) ≡ 24) × (length (a .state .mask) ≡ 24)
 
-module _ (h : ℕ) (M D T S : List ℕ) (curve : Cost) (L : DayLent T S curve) (o : ℕ) (in-day : o ≤ 96) (k l : ℕ) where
+module _ (h : ℕ) (M D T S : List ℕ) (curve : Cost) (f : ℕ → Bool) (counted : ℕ) (L : DayLent T S curve f counted) (o : ℕ) (in-day : o ≤ 96)
+    (run : is-run f o ≡ true) (k l : ℕ) where
   abbrev P : Worker
   P = worker-with h M D
 
@@ -173,7 +174,7 @@ module _ (h : ℕ) (M D T S : List ℕ) (curve : Cost) (L : DayLent T S curve) (
   s₂ = second-short S (L .listed)
 
   abbrev rest : List Step
-  rest = job-steps 32 (drop (suc o) (day-gates 32 (rows T)))
+  rest = job-steps 32 (drop (suc o) (day-gates 32 f (rows T)))
 
   -- the answer on the day's lanes, at the order's place
   abbrev at-order : Answer → Answer
@@ -192,21 +193,22 @@ module _ (h : ℕ) (M D T S : List ℕ) (curve : Cost) (L : DayLent T S curve) (
     pub same-second : within l t₂ c ≡ within l t₂ c₁
     same-second = rw ec (sym (any-share l t₂ c lc (at S (o * 2 + 1))))
 
-    module _ (a b n : ℕ) (m₂ c₂ : Lane) (fm : m₂ ≡ entered 32 o m₁) (fc : c₂ ≡ entered 32 o c₁) where
+    module _ (a b n : ℕ) (m₂ c₂ : Lane) (fm : m₂ ≡ entered 32 (day-factor f) o m₁)
+        (fc : c₂ ≡ entered 32 (day-factor f) o c₁) where
       abbrev day : Answer
-      day = reported P (job-steps 32 (drop o (day-gates 32 (rows T)))) (cursor o 0 a b n) (within k t₁ m, within l t₂ c)
+      day = reported P (job-steps 32 (drop o (day-gates 32 f (rows T)))) (cursor o 0 a b n) (within k t₁ m, within l t₂ c)
 
       abbrev code : Answer
       code = reported P (steps-from 32 0 (drop 0 (job-gates 32 (order-words o) T))) (cursor 0 0 a b n) (m₂, c₂)
 
-      ready : (reported P (map (meaning 32) (front o) ++ day-from 32 o own rest) (cursor o 0 a b n) (within k t₁ m₁, within l t₂ c₁)
+      ready : (reported P (map (meaning 32) (front (day-factor f) o) ++ day-from 32 o own rest) (cursor o 0 a b n) (within k t₁ m₁, within l t₂ c₁)
           ≡ reported P (day-from 32 o own rest) (cursor o 0 a b n) (within k t₁ m₂, within l t₂ c₂))
           × Held h M D 32 o k l t₁ t₂ s₁ s₂ (m₂, c₂)
-      ready = rw (fm, fc) (begins h M D 32 o k l t₁ t₂ s₁ s₂ (day-from 32 o own rest) 0 a b n (m₁, c₁) taken)
+      ready = rw (fm, fc) (begins h M D 32 o k l t₁ t₂ s₁ s₂ (day-factor f) (day-from 32 o own rest) 0 a b n (m₁, c₁) taken)
 
       day-is : day ≡ reported P (day-from 32 o own rest) (cursor o 0 a b n) (within k t₁ m₂, within l t₂ c₂)
       day-is =
-          ap₂ (λ (ss : List Step) (z : Pair). reported P ss (cursor o 0 a b n) z) (steps-whole 32 (rows T) o in-day)
+          ap₂ (λ (ss : List Step) (z : Pair). reported P ss (cursor o 0 a b n) z) (steps-whole 32 f (rows T) o in-day run)
           (ap₂ {C = Pair} (λ (y z : Lane). (y, z)) same-first same-second)
           ∙ ready .0
 
@@ -221,27 +223,29 @@ module _ (h : ℕ) (M D T S : List ℕ) (curve : Cost) (L : DayLent T S curve) (
               (reported P (day-from 32 o own rest) (cursor o 0 a b n) (within k t₁ m₂, within l t₂ c₂))
               (reported P (map (meaning 32) own ++ (end ∷ [])) (cursor 0 0 a b n) (m₂, c₂))
               → (at-order x ≡ day) × Long x
-          go (halted v s r p q) = let f = e ∙ code-is ∙ p in (ap at-order f ∙ sym (day-is ∙ q), rw f (r .0 .long, r .1 .long))
-          go (gone-by a′ n′ s p r q f none) = absurd (own-speaks (rows T) o none)
+          go (halted v s r p q) = let y = e ∙ code-is ∙ p in (ap at-order y ∙ sym (day-is ∙ q), rw y (r .0 .long, r .1 .long))
+          go (gone-by a′ n′ s p r q y none) = absurd (own-speaks (rows T) o none)
 
     -- as the code has it in hand: the order's words, and what is used before it
-    pub begun-as : (J : List ℕ) → J ≡ order-words o → (u : Cost) → u ≡ times-cost o curve → (m₂ c₂ : Lane) → m₂ ≡ entered 32 o m₁
-        → c₂ ≡ entered 32 o c₁ → (x : Answer)
+    pub begun-as : (J : List ℕ) → J ≡ order-words o → (u : Cost) → u ≡ used-by f curve o → (m₂ c₂ : Lane)
+        → m₂ ≡ entered 32 (tabled counted) o m₁ → c₂ ≡ entered 32 (tabled counted) o c₁ → (x : Answer)
         → x ≡ reported P (steps-from 32 0 (drop 0 (job-gates 32 J T))) (cursor 0 0 (u .a) (u .b) (u .deals)) (m₂, c₂)
         → (at-order x
-        ≡ reported P (job-steps 32 (drop o (day-gates 32 (rows T))))
-        (cursor o 0 (times-cost o curve .a) (times-cost o curve .b) (times-cost o curve .deals)) (within k t₁ m, within l t₂ c))
+        ≡ reported P (job-steps 32 (drop o (day-gates 32 f (rows T))))
+        (cursor o 0 (used-by f curve o .a) (used-by f curve o .b) (used-by f curve o .deals)) (within k t₁ m, within l t₂ c))
         × Long x
     begun-as J eJ u eu m₂ c₂ fm fc x e =
-        begun (times-cost o curve .a) (times-cost o curve .b) (times-cost o curve .deals) m₂ c₂ fm fc x
+        begun (used-by f curve o .a) (used-by f curve o .b) (used-by f curve o .deals) m₂ c₂
+        (fm ∙ ap (λ (q : ℕ). entered 32 q o m₁) (factor-tabled f counted (L .counted)))
+        (fc ∙ ap (λ (q : ℕ). entered 32 q o c₁) (factor-tabled f counted (L .counted))) x
         (e ∙ ap₂ (λ (j : List ℕ) (y : Cost). reported P (steps-from 32 0 (drop 0 (job-gates 32 j T))) (cursor 0 0 (y .a) (y .b) (y .deals)) (m₂, c₂))
         eJ eu)
 
     -- ---- gone on with, from the product or refresh at the place (o, x)
 
-    module _ (x i a b n : ℕ) (pl : DayPlace T o x i a b n) (v : ℕ) where
+    module _ (x i a b n : ℕ) (pl : DayPlace T f o x i a b n) (v : ℕ) where
       abbrev heard-day : Answer
-      heard-day = report P (hear-walk P (state-with (within k t₁ m) (within l t₂ c) o x) v (seek o x (day-steps 32 T) origin))
+      heard-day = report P (hear-walk P (state-with (within k t₁ m) (within l t₂ c) o x) v (seek o x (day-steps 32 T f) origin))
 
       abbrev heard-code : Answer
       heard-code =
@@ -255,16 +259,16 @@ module _ (h : ℕ) (M D T S : List ℕ) (curve : Cost) (L : DayLent T S curve) (
       there = ap (λ (q : Order). fetched (program 32 (rows T) q) i) (sym (own-at o)) ∙ pl .standing .there
 
       -- the place, as the day has it
-      found-is : seek o x (day-steps 32 T) origin ≡ found (day-from 32 o (drop i own) rest) (cursor o x a b n)
+      found-is : seek o x (day-steps 32 T f) origin ≡ found (day-from 32 o (drop i own) rest) (cursor o x a b n)
       found-is =
           let h : i < length own = Fetched.inside own i g there in
-          pl .is ∙ ap (λ (ss : List Step). found ss (cursor o x a b n)) (steps-within 32 (rows T) o in-day i (omega arith))
+          pl .is ∙ ap (λ (ss : List Step). found ss (cursor o x a b n)) (steps-within 32 f (rows T) o in-day run i (omega arith))
 
       day-heard : heard-day ≡ Heard.day h M D 32 o k l t₁ t₂ s₁ s₂ own (own-spares 32 (rows T) o) i g there (pl .standing .speaks) rest
           x a b n m₁ c₁ taken v
       day-heard =
-          ap₂ (λ (y z : Lane). report P (hear-walk P (state-with y z o x) v (seek o x (day-steps 32 T) origin))) same-first same-second
-          ∙ ap (λ (f : Found). report P (hear-walk P (state-with (within k t₁ m₁) (within l t₂ c₁) o x) v f)) found-is
+          ap₂ (λ (y z : Lane). report P (hear-walk P (state-with y z o x) v (seek o x (day-steps 32 T f) origin))) same-first same-second
+          ∙ ap (λ (z : Found). report P (hear-walk P (state-with (within k t₁ m₁) (within l t₂ c₁) o x) v z)) found-is
 
       code-heard : heard-code ≡ Heard.code h M D 32 o k l t₁ t₂ s₁ s₂ own (own-spares 32 (rows T) o) i g there (pl .standing .speaks) rest
           x a b n m₁ c₁ taken v
@@ -278,7 +282,7 @@ module _ (h : ℕ) (M D T S : List ℕ) (curve : Cost) (L : DayLent T S curve) (
         pub day-there : heard-day
             ≡ reported P rest (cursor (suc o) 0 a₁ (z .spoken) n₁) (within k t₁ (left 32 o (z .state .m)), within l t₂ (left 32 o (z .state .mask)))
         pub long-there : (length (left 32 o (z .state .m)) ≡ 24) × (length (left 32 o (z .state .mask)) ≡ 24)
-        pub all-there : far rest (cursor (suc o) 0 a₁ (z .spoken) n₁) ≡ far (day-steps 32 T) origin
+        pub all-there : far rest (cursor (suc o) 0 a₁ (z .spoken) n₁) ≡ far (day-steps 32 T f) origin
 
       abbrev Walks : Type 0
       Walks =
@@ -301,47 +305,49 @@ module _ (h : ℕ) (M D T S : List ℕ) (curve : Cost) (L : DayLent T S curve) (
               (hear-walk P (state-with m₁ c₁ 0 x) v (found (steps-from 32 i (drop 0 (job-gates 32 j T))) (cursor 0 x a b n)))) eJ
 
           pub halts-in : z .state .order ≡ 0 → (at-order z ≡ heard-day) × Long z
-          halts-in f = go both-walk
+          halts-in ends = go both-walk
             where
               go : Walks → (at-order z ≡ heard-day) × Long z
               go (halted u s r p q) = let y = e ∙ code-heard ∙ p in (ap at-order y ∙ sym (day-heard ∙ q), rw y (r .0 .long, r .1 .long))
               go (gone-by a′ n′ s p r q y none) =
-                  let w : _≡_ {A = ℕ} 1 0 = sym (ap (λ (x : Answer). x .state .order) (e ∙ code-heard ∙ p)) ∙ f in absurd (omega arith)
+                  let w : _≡_ {A = ℕ} 1 0 = sym (ap (λ (x : Answer). x .state .order) (e ∙ code-heard ∙ p)) ∙ ends in absurd (omega arith)
 
           goes-by : (z .state .order ≡ 0 → ⊥) → GoneBy z
-          goes-by f = go both-walk
+          goes-by on = go both-walk
             where
               go : Walks → GoneBy z
-              go (halted u s r p q) = absurd (f (ap (λ (x : Answer). x .state .order) (e ∙ code-heard ∙ p)))
+              go (halted u s r p q) = absurd (on (ap (λ (x : Answer). x .state .order) (e ∙ code-heard ∙ p)))
               go (gone-by a′ n′ s p r q y none) =
                   let w = e ∙ code-heard ∙ p in
-                  let f = seek-far o x (day-steps 32 T) origin _ _ found-is in
+                  let all = seek-far o x (day-steps 32 T f) origin _ _ found-is in
                   rw w
-                  (record { a₁ = a′; n₁ = n′; day-there = day-heard ∙ q; long-there = (r .0 .long, r .1 .long); all-there = sym y ∙ f })
+                  (record { a₁ = a′; n₁ = n′; day-there = day-heard ∙ q; long-there = (r .0 .long, r .1 .long); all-there = sym y ∙ all })
 
-          module _ (f : z .state .order ≡ 0 → ⊥) (m₃ c₃ : Lane) (fm : m₃ ≡ left 32 o (z .state .m)) (fc : c₃ ≡ left 32 o (z .state .mask)) where
+          module _ (on : z .state .order ≡ 0 → ⊥) (m₃ c₃ : Lane) (fm : m₃ ≡ left 32 o (z .state .m)) (fc : c₃ ≡ left 32 o (z .state .mask)) where
             pub long-left : (length m₃ ≡ 24) × (length c₃ ≡ 24)
-            long-left = rw (fm, fc) (goes-by f .long-there)
+            long-left = rw (fm, fc) (goes-by on .long-there)
 
             -- the mean is the last order
             pub ends-day : o ≡ 96 → going-on (z .spoken) 0 (within k t₁ m₃) (within l t₂ c₃) (o + 1) 0 ≡ heard-day
             unfolding job-steps
             ends-day last =
-                let q = goes-by f in
-                let none : drop (suc o) (day-gates 32 (rows T)) ≡ [] =
-                drop-of-length-le (day-gates 32 (rows T)) {i = suc o} (omega (arith, day-gates-count 32 (rows T))) in
+                let q = goes-by on in
+                let none : drop (suc o) (day-gates 32 f (rows T)) ≡ [] =
+                drop-of-length-le (day-gates 32 f (rows T)) {i = suc o} (omega (arith, day-gates-count 32 f (rows T))) in
                 rw (fm, fc, add-one o)
                 (sym (q .day-there
                 ∙ ap (λ (os : List (List Gate)). reported P (job-steps 32 os) (cursor (suc o) 0 (q .a₁) (z .spoken) (q .n₁))
                 (within k t₁ (left 32 o (z .state .m)), within l t₂ (left 32 o (z .state .mask)))) none
                 ∙ ends P [] (suc o) 0 (q .a₁) (z .spoken) (q .n₁) _))
 
-            pub next-order : o < 96
-                → reported P (job-steps 32 (drop (o + 1) (day-gates 32 (rows T))))
-                (cursor (o + 1) 0 (times-cost (o + 1) curve .a) (times-cost (o + 1) curve .b) (times-cost (o + 1) curve .deals))
-                (within k t₁ m₃, within l t₂ c₃)
+            -- the quarters up to order o₁ are left out
+            pub next-order : (o₁ : ℕ) → o < o₁ → o₁ ≤ 96 → ((q : ℕ) → suc o ≤ q → q < o₁ → f q ≡ false)
+                → reported P (job-steps 32 (drop o₁ (day-gates 32 f (rows T))))
+                (cursor o₁ 0 (used-by f curve o₁ .a) (used-by f curve o₁ .b) (used-by f curve o₁ .deals)) (within k t₁ m₃, within l t₂ c₃)
                 ≡ heard-day
-            next-order more =
-                let q = goes-by f in
-                let u = used-before T (suc o) (q .a₁) (z .spoken) (q .n₁) (omega arith) (q .all-there) in
-                rw (fm, fc, add-one o, L .counts, ← u .0, ← u .1, ← u .2) (sym (q .day-there))
+            unfolding used-by
+            next-order o₁ later in-day₁ out =
+                let q = goes-by on in
+                let j = idle-walk h M D 32 f (rows T) (suc o) o₁ later in-day₁ out (q .a₁) (z .spoken) (q .n₁) in
+                let u = used-before T f o₁ (q .a₁) (z .spoken) (q .n₁) in-day₁ (sym (j .1) ∙ q .all-there) in
+                rw (fm, fc, L .counts, ← u .0, ← u .1, ← u .2) (sym (q .day-there ∙ j .0 _))

@@ -1,5 +1,6 @@
 -- What the code of a day goes by: what it is lent is checked, and a state's place is found. Assumes nothing.
 use mathlib.Core.Path.{_≡_}
+use mathlib.Core.Bool.{Bool, true}
 use mathlib.Core.List.{List}
 use Prim.Native.Nat.{ℕ, _+_, _^_, _≤_, _<_}
 use lib.ListN.{length, drop}
@@ -10,28 +11,41 @@ use Rattle.jobs.specs.CostTable.{curve-cost}
 use Rattle.calls.specs.Places.{found, seek}
 use Rattle.walks.specs.Workers.{cursor}
 use Rattle.walks.specs.Halts.{steps-from}
-use Rattle.days.specs.Day.{day-gates, day-steps}
-use Rattle.days.specs.Orders.{order-words, front}
+use Rattle.programs.specs.Sizes.{times-cost}
+use Rattle.calendars.specs.Ranges.{number}
+use Rattle.days.specs.Day.{Hours, counting, day-factor, day-gates, day-steps}
+use Rattle.days.specs.Orders.{is-run, order-words, front}
 use Rattle.worker.specs.Jobs.{Standing}
 
 -- few enough that a day of them fits
 abbrev pub few-counts : Cost → Type 0
 few-counts k = (k .deals ≤ 1000) × (k .words ≤ 1000) × (k .a ≤ 1000) × (k .b ≤ 1000)
 
--- a table that keeps the rules, a day list, and the counts of one curve
-pub record DayLent (table shares : List ℕ) (curve : Cost) : Type 0 where
+-- what the orders before q use, where f tells which quarters count
+unfoldable pub used-by : (f : ℕ → Bool) → Cost → (q : ℕ) → Cost
+used-by f k q = times-cost (number f 0 q) k
+
+-- a table that keeps the rules, a day list, the counts of one curve, and how many quarters count
+pub record DayLent (table shares : List ℕ) (curve : Cost) (f : ℕ → Bool) (n : ℕ) : Type 0 where
   pub ruled : Rules table
   pub listed : length shares ≡ 192
   pub counts : curve ≡ curve-cost 0 (length (rows table))
+  pub counted : n ≡ number f 0 96
+
+-- the same quarters count by f and by the hours
+abbrev pub SameDay : (f : ℕ → Bool) → Hours → Type 0
+SameDay f H = (q : ℕ) → q < 96 → f q ≡ counting H q
 
 -- gate i of the code's own order is the product or refresh at the place (o, x) of the day
-pub record DayPlace (table : List ℕ) (o x i a b dealt : ℕ) : Type 0 where
+pub record DayPlace (table : List ℕ) (f : ℕ → Bool) (o x i a b dealt : ℕ) : Type 0 where
   pub in-day : o ≤ 96
+  pub run : is-run f o ≡ true
   pub standing : Standing 32 (order-words o) table 0 i
   pub few-gates : i < 1000
   pub few-turns : x < 1000
   pub few-a : a < 2 ^ 30
   pub few-b : b < 2 ^ 30
   pub few-deals : dealt < 2 ^ 30
-  pub is : seek o x (day-steps 32 table) origin
-      ≡ found (steps-from 32 (length (front o) + i) (drop o (day-gates 32 (rows table)))) (cursor o x a b dealt)
+  pub is : seek o x (day-steps 32 table f) origin
+      ≡ found (steps-from 32 (length (front (day-factor f) o) + i) (drop o (day-gates 32 f (rows table))))
+      (cursor o x a b dealt)

@@ -1,6 +1,7 @@
-// Starting and hearing of a day (R-3). Each order of a day is walked as one order of a job, with the share of its
-// quarter in a slot of the lanes; what stood there is put back before a call answers.
+// Starting and hearing of a day (R-3). Each order of a day that is run (R-6) is walked as one order of a job, with the
+// share of its quarter in a slot of the lanes; what stood there is put back before a call answers.
 ghost use mathlib.Core.Path.{_≡_};
+ghost use mathlib.Core.Bool.{true};
 ghost use Prim.Native.Nat.{ℕ, _+_, _≤_, _<_};
 ghost use lib.ListN.{length, drop};
 ghost use Rattle.tables.specs.Table.{rows};
@@ -13,11 +14,12 @@ ghost use Rattle.calls.specs.Lent.{lent, lent-fault, worker-with};
 ghost use Rattle.calls.specs.Places.{seek};
 ghost use Rattle.walks.specs.Workers.{cursor};
 ghost use Rattle.walks.specs.Halts.{going-on, reported};
-ghost use Rattle.days.specs.Day.{day-gates, day-steps, day-script};
+ghost use Rattle.calendars.specs.Quarters.{held};
+ghost use Rattle.days.specs.Day.{hours, day-gates, day-steps, day-script};
 ghost use Rattle.days.specs.DayCalls.{day-start, day-hear};
-ghost use Rattle.days.specs.Orders.{within, first-tail, second-tail};
+ghost use Rattle.days.specs.Orders.{is-run, within, first-tail, second-tail};
 ghost use Rattle.worker.specs.Answers.{answer-of, state-of, state-with};
-ghost use Rattle.worker.specs.Days.{DayLent, DayPlace, few-counts};
+ghost use Rattle.worker.specs.Days.{DayLent, DayPlace, SameDay, few-counts, used-by};
 use crate::Answer;
 use crate::State;
 use crate::answering::answered;
@@ -28,10 +30,14 @@ use crate::hearing::resume;
 use crate::walk::Halt;
 use crate::walk::advance;
 use crate::walk::halted;
+use calendars::counted_before;
+use calendars::next_counted;
+use call_check::Day;
 use call_check::check_day_lent;
 use day_order::QUARTERS;
 use day_order::SHARE_SLOT;
 use day_order::enter;
+use day_order::is_run;
 use day_order::leave;
 use day_order::order_words;
 use day_order::take_share;
@@ -43,17 +49,27 @@ use word_lists::at;
 use word_lists::put;
 use worker_gate::Reach;
 
-// What the orders before one use, each of them a curve.
-fn used_before(curve: Counts, order: u32) -> Counts
-    requires { ⌜ few-counts (counted curve) × (order ≤ 96) ⌝ }
-    ensures { λ r. ⌜ counted r ≡ times-cost order (counted curve) ⌝ }
+// What n quarters use, each of them a curve.
+fn used_by(curve: Counts, n: u32) -> Counts
+    requires { ⌜ few-counts (counted curve) × (n ≤ 96) ⌝ }
+    ensures { λ r. ⌜ counted r ≡ times-cost n (counted curve) ⌝ }
 {
     Counts {
-        deals: curve.deals * order,
-        words: curve.words * order,
-        a: curve.a * order,
-        b: curve.b * order,
+        deals: curve.deals * n,
+        words: curve.words * n,
+        a: curve.a * n,
+        b: curve.b * n,
     }
+}
+
+// What the orders before one use: the quarters that count.
+fn used_before(day: Day, order: u32) -> Counts
+    requires { ⌜ few-counts (counted (day .curve)) × (order ≤ 96) ⌝ }
+    ensures { λ r. ⌜ counted r ≡ used-by (held (day .quarters)) (counted (day .curve)) order ⌝ }
+{
+    let quarters = day.quarters;
+    let curve = day.curve;
+    used_by(curve, counted_before(quarters, order))
 }
 
 // From the first gate of an order to its first product, on the lanes in place.
@@ -66,9 +82,10 @@ fn begin(
     m: &mut [u32; 24],
     mask: &mut [u32; 24],
     order: u32,
-    curve: Counts,
+    day: Day,
 ) -> Halt
-    requires { ⌜ DayLent (now table) (now shares) (counted curve) × (order ≤ 96)
+    requires { ⌜ DayLent (now table) (now shares) (counted (day .curve)) (held (day .quarters)) (day .n)
+        × (order ≤ 96) × (is-run (held (day .quarters)) order ≡ true)
         × (length (now m) ≡ 24) × (length (now mask) ≡ 24) ⌝ }
     ensures long { λ r. ⌜ (length (now (m .exit)) ≡ 24) × (length (now (mask .exit)) ≡ 24) ⌝ }
     ensures halt { λ r.
@@ -76,16 +93,17 @@ fn begin(
         → going-on (r .spoken) (r .word) (within k (first-tail (now (shares .entry))) (now (m .exit)))
         (within l (second-tail (now (shares .entry))) (now (mask .exit))) (r .order) (r .turn)
         ≡ reported (worker-with host (now (masks .entry)) (now (deals .entry)))
-        (job-steps 32 (drop order (day-gates 32 (rows (now (table .entry))))))
-        (cursor order 0 (times-cost order (counted curve) .a) (times-cost order (counted curve) .b)
-        (times-cost order (counted curve) .deals)) (
+        (job-steps 32 (drop order (day-gates 32 (held (day .quarters)) (rows (now (table .entry))))))
+        (cursor order 0 (used-by (held (day .quarters)) (counted (day .curve)) order .a)
+        (used-by (held (day .quarters)) (counted (day .curve)) order .b)
+        (used-by (held (day .quarters)) (counted (day .curve)) order .deals)) (
           within k (first-tail (now (shares .entry))) (now (m .entry)),
           within l (second-tail (now (shares .entry))) (now (mask .entry)),
         )) ⌝ }
 {
     take_share(shares, order, m, mask);
-    enter(order, m, mask);
-    let used = used_before(curve, order);
+    enter(order, day.n, m, mask);
+    let used = used_before(day, order);
     let from = Reach {
         gate: 0,
         a: used.a as usize,
@@ -108,7 +126,7 @@ fn begin(
     halted(h.spoken, h.word, order, h.turn)
 }
 
-// The other's word is heard at a product of an order. Where the order ends behind it, the next one begins.
+// The other's word is heard at a product of an order. Where the order ends behind it, the next one that is run begins.
 fn go_on(
     host: u32,
     table: &[u32],
@@ -122,10 +140,10 @@ fn go_on(
     heard: u32,
     at: Reach,
     b: usize,
-    curve: Counts,
+    day: Day,
 ) -> Halt
-    requires { ⌜ DayLent (now table) (now shares) (counted curve)
-        × DayPlace (now table) order turn (at .gate) (at .a) b (at .deals)
+    requires { ⌜ DayLent (now table) (now shares) (counted (day .curve)) (held (day .quarters)) (day .n)
+        × DayPlace (now table) (held (day .quarters)) order turn (at .gate) (at .a) b (at .deals)
         × (length (now m) ≡ 24) × (length (now mask) ≡ 24) ⌝ }
     ensures long { λ r. ⌜ (length (now (m .exit)) ≡ 24) × (length (now (mask .exit)) ≡ 24) ⌝ }
     ensures halt { λ r.
@@ -136,7 +154,7 @@ fn go_on(
         (Calls.hear-walk (worker-with host (now (masks .entry)) (now (deals .entry)))
         (state-with (within k (first-tail (now (shares .entry))) (now (m .entry)))
         (within l (second-tail (now (shares .entry))) (now (mask .entry))) order turn) heard
-        (seek order turn (day-steps 32 (now (table .entry))) origin))) ⌝ }
+        (seek order turn (day-steps 32 (now (table .entry)) (held (day .quarters))) origin))) ⌝ }
 {
     take_share(shares, order, m, mask);
     let job = order_words(order);
@@ -161,18 +179,29 @@ fn go_on(
     if order == QUARTERS {
         return halted(h.spoken, 0, order + 1, 0);
     }
-    begin(host, table, shares, masks, deals, m, mask, order + 1, curve)
+    let quarters = day.quarters;
+    let next = next_counted(quarters, order + 1);
+    begin(host, table, shares, masks, deals, m, mask, next, day)
 }
 
-// Checks 1, 12, 5, 6 and 7 come first, and a refusal gives a state of zeros.
-pub fn start_day(host: u32, table: &[u32], shares: &[u32], masks: &[u32], deals: &[u32]) -> Answer
+// Checks 1, 12, 16, 17, 5, 6 and 7 come first, and a refusal gives a state of zeros.
+pub fn start_day(
+    host: u32,
+    table: &[u32],
+    shares: &[u32],
+    calendar: &[u32],
+    weekday: u32,
+    masks: &[u32],
+    deals: &[u32],
+) -> Answer
     ensures { λ r.
         ⌜ answer-of r
-        ≡ day-start 32 host (now (table .entry)) (now (shares .entry)) (now (masks .entry)) (now (deals .entry)) ⌝ }
+        ≡ day-start 32 host (now (table .entry)) (now (shares .entry)) (hours (now (calendar .entry)) weekday)
+        (now (masks .entry)) (now (deals .entry)) ⌝ }
 {
     let mut m = [0u32; 24];
     let mut mask = [0u32; 24];
-    let lent = check_day_lent(host, table, shares, masks, deals);
+    let lent = check_day_lent(host, table, shares, calendar, weekday, masks, deals);
     if lent.number != 0 {
         let nothing = State {
             m,
@@ -180,8 +209,11 @@ pub fn start_day(host: u32, table: &[u32], shares: &[u32], masks: &[u32], deals:
             order: 0,
             turn: 0,
         };
-        return refused(lent.number, lent.index, nothing);
+        return refused(lent.number, 0, nothing);
     }
+    let day = lent.day;
+    let quarters = day.quarters;
+    let first = next_counted(quarters, 0);
     let h = begin(
         host,
         table,
@@ -190,8 +222,8 @@ pub fn start_day(host: u32, table: &[u32], shares: &[u32], masks: &[u32], deals:
         deals,
         &mut m,
         &mut mask,
-        0,
-        lent.counts,
+        first,
+        day,
     );
     put(&mut m, SHARE_SLOT, 0);
     put(&mut mask, SHARE_SLOT, 0);
@@ -214,6 +246,8 @@ fn hear_there(
     host: u32,
     table: &[u32],
     shares: &[u32],
+    calendar: &[u32],
+    weekday: u32,
     masks: &[u32],
     deals: &[u32],
     m: [u32; 24],
@@ -223,15 +257,19 @@ fn hear_there(
     heard: u32,
     place: Reach,
     b: usize,
-    curve: Counts,
+    day: Day,
 ) -> Answer
-    requires { ⌜ DayLent (now table) (now shares) (counted curve)
-        × DayPlace (now table) order turn (place .gate) (place .a) b (place .deals)
-        × (lent-fault (lent host (day-script 32 (now table) (length (now shares))) (now masks) (now deals)) .0 ≡ 0) ⌝ }
+    requires { ⌜ DayLent (now table) (now shares) (counted (day .curve)) (held (day .quarters)) (day .n)
+        × DayPlace (now table) (held (day .quarters)) order turn (place .gate) (place .a) b (place .deals)
+        × SameDay (held (day .quarters)) (hours (now calendar) weekday)
+        × ((0, 0)
+        ≡ lent-fault
+        (lent host (day-script 32 (now table) (length (now shares)) (hours (now calendar) weekday)) (now masks)
+        (now deals))) ⌝ }
     ensures { λ r.
         ⌜ answer-of r
-        ≡ day-hear 32 host (now (table .entry)) (now (shares .entry)) (now (masks .entry)) (now (deals .entry))
-        (state-with m mask order turn) heard ⌝ }
+        ≡ day-hear 32 host (now (table .entry)) (now (shares .entry)) (hours (now (calendar .entry)) weekday)
+        (now (masks .entry)) (now (deals .entry)) (state-with m mask order turn) heard ⌝ }
 {
     let mut m = m;
     let mut mask = mask;
@@ -250,7 +288,7 @@ fn hear_there(
         heard,
         place,
         b,
-        curve,
+        day,
     );
     put(&mut m, SHARE_SLOT, first);
     put(&mut mask, SHARE_SLOT, second);
@@ -262,6 +300,8 @@ fn hear_parts(
     host: u32,
     table: &[u32],
     shares: &[u32],
+    calendar: &[u32],
+    weekday: u32,
     masks: &[u32],
     deals: &[u32],
     m: [u32; 24],
@@ -272,16 +312,21 @@ fn hear_parts(
 ) -> Answer
     ensures { λ r.
         ⌜ answer-of r
-        ≡ day-hear 32 host (now (table .entry)) (now (shares .entry)) (now (masks .entry)) (now (deals .entry))
-        (state-with m mask order turn) heard ⌝ }
+        ≡ day-hear 32 host (now (table .entry)) (now (shares .entry)) (hours (now (calendar .entry)) weekday)
+        (now (masks .entry)) (now (deals .entry)) (state-with m mask order turn) heard ⌝ }
 {
-    let lent = check_day_lent(host, table, shares, masks, deals);
+    let lent = check_day_lent(host, table, shares, calendar, weekday, masks, deals);
     if lent.number != 0 {
-        return refused(lent.number, lent.index, state(m, mask, order, turn));
+        return refused(lent.number, 0, state(m, mask, order, turn));
     }
     if QUARTERS < order {
         let number = end_fault(order as usize, QUARTERS as usize + 1, turn);
         return refused(number, 0, state(m, mask, order, turn));
+    }
+    let day = lent.day;
+    let quarters = day.quarters;
+    if !is_run(quarters, order) {
+        return refused(8, 0, state(m, mask, order, turn));
     }
     let job = order_words(order);
     let Sought::Found {
@@ -292,13 +337,15 @@ fn hear_parts(
     else {
         return refused(8, 0, state(m, mask, order, turn));
     };
-    let used = used_before(lent.counts, order);
+    let used = used_before(day, order);
     let place = reach_of(used, gate, a, dealt);
     let b = used.b as usize + turn as usize;
     hear_there(
         host,
         table,
         shares,
+        calendar,
+        weekday,
         masks,
         deals,
         m,
@@ -308,25 +355,27 @@ fn hear_parts(
         heard,
         place,
         b,
-        lent.counts,
+        day,
     )
 }
 
 impl State {
-    // Checks 1, 12, 5, 6 and 7 come first, then 8 and 9; a refusal gives the state back.
+    // Checks 1, 12, 16, 17, 5, 6 and 7 come first, then 8 and 9; a refusal gives the state back.
     pub fn hear_day(
         self,
         host: u32,
         table: &[u32],
         shares: &[u32],
+        calendar: &[u32],
+        weekday: u32,
         masks: &[u32],
         deals: &[u32],
         heard: u32,
     ) -> Answer
         ensures { λ r.
             ⌜ answer-of r
-            ≡ day-hear 32 host (now (table .entry)) (now (shares .entry)) (now (masks .entry)) (now (deals .entry))
-            (state-of self) heard ⌝ }
+            ≡ day-hear 32 host (now (table .entry)) (now (shares .entry)) (hours (now (calendar .entry)) weekday)
+            (now (masks .entry)) (now (deals .entry)) (state-of self) heard ⌝ }
     {
         let m = self.m;
         let mask = self.mask;
@@ -334,6 +383,8 @@ impl State {
             host,
             table,
             shares,
+            calendar,
+            weekday,
             masks,
             deals,
             m,

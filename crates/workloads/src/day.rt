@@ -1,4 +1,5 @@
-// Digit 9, a day (R-3) on the house table: all of it, or one hearing; and, beside that, the same of a job of one curve.
+// Digit 9, a day (R-3) on the house table: all of it, with all quarters counted or 48 of them (R-6), or one hearing;
+// and, beside that, the same of a job of one curve.
 use crate::add;
 use dealer::prepare_day;
 use tables::HOUSE;
@@ -14,6 +15,11 @@ const END: u32 = 97;
 const JOB: u32 = 98;
 
 const CURVE: [u32; 4] = [10, 0, 0, 0];
+
+// Named instead of a quarter: a day of 48 counted quarters.
+const HALF: u32 = 99;
+
+const WEEKDAY: u32 = 0;
 
 // More than the hearings of a host in a day.
 const HEARINGS: u32 = 12000;
@@ -40,11 +46,25 @@ fn day_list(first: u32, first_step: u32, second: u32, second_step: u32) -> [u32;
     list
 }
 
+// A calendar with one open window on each weekday.
+fn open_calendar(start: u32, end: u32) -> [u32; 182] {
+    let mut calendar = [0u32; 182];
+    let mut day = 0;
+    while day < 7 {
+        calendar[26 * day] = 1;
+        calendar[26 * day + 2] = start;
+        calendar[26 * day + 3] = end;
+        day += 1;
+    }
+    calendar
+}
+
 // Each host hears the word that the other spoke last.
 fn exchange(
     table: &[u32],
     one: &[u32],
     two: &[u32],
+    calendar: &[u32],
     a: &[u32],
     b: &[u32],
     deals: &[u32],
@@ -53,8 +73,8 @@ fn exchange(
     let first = s.one.state;
     let second = s.two.state;
     Workers {
-        one: first.hear_day(1, table, one, a, deals, s.two.word),
-        two: second.hear_day(2, table, two, b, deals, s.one.word),
+        one: first.hear_day(1, table, one, calendar, WEEKDAY, a, deals, s.two.word),
+        two: second.hear_day(2, table, two, calendar, WEEKDAY, b, deals, s.one.word),
     }
 }
 
@@ -63,29 +83,38 @@ fn to_the_end(
     table: &[u32],
     one: &[u32],
     two: &[u32],
+    calendar: &[u32],
     a: &[u32],
     b: &[u32],
     deals: &[u32],
 ) -> Workers {
     let mut s = Workers {
-        one: start_day(1, table, one, a, deals),
-        two: start_day(2, table, two, b, deals),
+        one: start_day(1, table, one, calendar, WEEKDAY, a, deals),
+        two: start_day(2, table, two, calendar, WEEKDAY, b, deals),
     };
     let mut i = 0;
     while i < HEARINGS {
         if s.one.state.order == END {
             return s;
         }
-        s = exchange(table, one, two, a, b, deals, s);
+        s = exchange(table, one, two, calendar, a, b, deals, s);
         i += 1;
     }
     s
 }
 
-fn running(zero: &[u32], one: &[u32], two: &[u32], a: &[u32], b: &[u32], deals: &mut [u32]) -> u32 {
+fn running(
+    zero: &[u32],
+    one: &[u32],
+    two: &[u32],
+    calendar: &[u32],
+    a: &[u32],
+    b: &[u32],
+    deals: &mut [u32],
+) -> u32 {
     let table = HOUSE;
-    let p = prepare_day(&table, zero, a, b, deals);
-    let s = to_the_end(&table, one, two, a, b, deals);
+    let p = prepare_day(&table, zero, calendar, WEEKDAY, a, b, deals);
+    let s = to_the_end(&table, one, two, calendar, a, b, deals);
     let left = p.masks;
     let state = s.one.state;
     let results = add(state.m[0], state.m[1]);
@@ -105,36 +134,45 @@ fn in_curve(order: u32, x: u32) -> State {
 }
 
 // Its hearing in a quarter, refused in the mean, which has no such turn; or in the job's curve.
-fn heard(quarter: u32, one: &[u32], a: &[u32], deals: &[u32], x: u32) -> Answer {
+fn heard(quarter: u32, one: &[u32], calendar: &[u32], a: &[u32], deals: &[u32], x: u32) -> Answer {
     if quarter == JOB {
         return in_curve(0, x).hear(1, &CURVE, &HOUSE, a, deals, 5);
     }
-    in_curve(quarter, x).hear_day(1, &HOUSE, one, a, deals, 5)
+    in_curve(quarter, x).hear_day(1, &HOUSE, one, calendar, WEEKDAY, a, deals, 5)
 }
 
-fn hearing(quarter: u32, one: &[u32], a: &[u32], deals: &[u32], x: u32) -> u32 {
-    let r = heard(quarter, one, a, deals, x);
+fn hearing(quarter: u32, one: &[u32], calendar: &[u32], a: &[u32], deals: &[u32], x: u32) -> u32 {
+    let r = heard(quarter, one, calendar, a, deals, x);
     let state = r.state;
     let said = add(wrapping_mul(r.number, 65537), wrapping_mul(r.spoken, 257));
     let place = add(wrapping_mul(state.order, 31), state.turn);
     add(said, add(place, state.m[0]))
 }
 
-// One turn: a hearing in a quarter, or, where the end is named, the whole day.
+// One turn: a hearing in a quarter, or, where the end or the day of 48 quarters is named, the whole day.
 fn once(
     quarter: u32,
     zero: &[u32],
     one: &[u32],
     two: &[u32],
+    calendar: &[u32],
     a: &[u32],
     b: &[u32],
     deals: &mut [u32],
     x: u32,
 ) -> u32 {
-    if quarter == END {
-        return running(zero, one, two, a, b, deals);
+    match quarter {
+        END | HALF => running(zero, one, two, calendar, a, b, deals),
+        _ => hearing(quarter, one, calendar, a, deals, x),
     }
-    hearing(quarter, one, a, deals, x)
+}
+
+// What the day of 48 quarters is open from and to, and the others.
+fn calendar_of(quarter: u32) -> [u32; 182] {
+    if quarter == HALF {
+        return open_calendar(480, 1200);
+    }
+    open_calendar(0, 1440)
 }
 
 // The sum over n turns.
@@ -142,11 +180,15 @@ pub(crate) fn summed_day(quarter: u32, a: &[u32], b: &[u32], deals: &mut [u32], 
     let zero = day_list(1, 3, 2, 5);
     let one = day_list(3, 48, 1, 3);
     let two = day_list(3, 48, 2, 5);
+    let calendar = calendar_of(quarter);
     let mut sum = 0;
     let mut i = 0;
     while i < n {
         let x = add(sum, i);
-        sum = add(sum, once(quarter, &zero, &one, &two, a, b, deals, x));
+        sum = add(
+            sum,
+            once(quarter, &zero, &one, &two, &calendar, a, b, deals, x),
+        );
         i += 1;
     }
     sum

@@ -20,8 +20,8 @@ returns : tie.Need-returns
 unfolding entered
 returns c =
     let m = c .before in
-    let l = m .before .before .before .before .args .lane in
-    c .put .ensures ∙ ap (set (l .now) 22) (m .wrapping-mul .ensures ∙ ap (λ (x : ℕ). mul 32 x 682) (m .before .before .at .ensures))
+    let a = m .before .before .before .before .args in
+    c .put .ensures ∙ ap (set (a .lane .now) 22) (m .wrapping-mul .ensures ∙ ap (λ (x : ℕ). mul 32 x (a .by)) (m .before .before .at .ensures))
 
 pub multiply-spec : {M : Type 1} → statement M
 multiply-spec = tie.close (tie.spec at-requires wrapping-mul-requires put-requires returns)

@@ -1,11 +1,13 @@
-use mathlib.Core.Path.{refl, sym, ap, _∙_}
+use mathlib.Core.Path.{_≡_, refl, sym, ap, subst, _∙_}
+use Prim.Native.Nat.{ℕ}
 use native.Mathlib.Omega.{arith}
 use denote.Ref.{now}
 use lib.ListN.{length, take}
 use Rattle.jobs.specs.Job.{Fault}
-use Rattle.walks.proofs.Prepared.{room-outset}
-use Rattle.days.specs.Day.{day-script}
-use Rattle.dealer.proofs.Days.{day-refused, day-lent, few-dealt, day-answer}
+use Rattle.calls.specs.Lent.{dealer-fault}
+use Rattle.days.specs.Day.{hours, day-script}
+use Rattle.call_check.specs.Days.{DayIs}
+use Rattle.dealer.proofs.Days.{day-refused, day-lent, n-is, day-room, few-dealt, day-answer}
 use borrow.Author.Needs.{needs}
 use Rattle.dealer.proofs.day.prepare_day.Statement.{statement}
 use Rattle.dealer.proofs.day.prepare_day.Tie as tie
@@ -19,20 +21,40 @@ same-length c = search needs
 returns : tie.Need-returns
 returns c =
     let d = c .before .before in
-    let s = d .before .before .before .before .before .before .before .args in
-    day-refused (now (s .table)) (now (s .shares)) (now (s .a)) (now (s .b)) (now (s .deals)) _ _ (d .check-day-dealer .ensures .0) (c .if1 .taken)
+    let s = d .before .before .before .before .before .before .before .before .args in
+    day-refused (now (s .table)) (now (s .shares)) (hours (now (s .calendar)) (s .weekday)) (now (s .a)) (now (s .b)) (now (s .deals)) _
+    (d .check-day-dealer .ensures .0) (c .if1 .taken)
+
+-- no number was found
+faultless : (c : tie.Else1)
+    → let s = c .before .before .before .before .before .before .before .before .before .before .args in
+    dealer-fault (day-script 32 (now (s .table)) (length (now (s .shares))) (hours (now (s .calendar)) (s .weekday))) (now (s .a)) (now (s .b))
+    (now (s .deals)) .0
+    ≡ 0
+faultless c = sym (ap (λ (f : Fault). f .0) (c .before .before .check-day-dealer .ensures .0)) ∙ c .if1 .left
+
+-- and the day was
+found-day : (c : tie.Else1)
+    → let d = c .before .before in
+    let s = d .before .before .before .before .before .before .before .before .args in
+    DayIs 0 (now (s .table)) (hours (now (s .calendar)) (s .weekday)) (d .check-day-dealer .result .day)
+found-day c =
+    let d = c .before .before in
+    let s = d .before .before .before .before .before .before .before .before .args in
+    subst (λ (n : ℕ). DayIs n (now (s .table)) (hours (now (s .calendar)) (s .weekday)) (d .check-day-dealer .result .day)) (c .if1 .left)
+    (d .check-day-dealer .ensures .1)
 
 deal-day-requires : tie.Need-deal-day-requires
 deal-day-requires c κs =
-    let f = c .before .before .before in
+    let f = c .before .before .before .before .before in
     let d = f .before .before in
-    let s = d .before .before .before .before .before .before .before .args in
-    let e = sym (ap (λ (f : Fault). f .0) (d .check-day-dealer .ensures .0)) ∙ f .if1 .left in
-    let σ = day-script 32 (now (s .table)) (length (now (s .shares))) in (
-      day-lent (now (s .table)) (now (s .shares)) (now (s .a)) (now (s .b)) (now (s .deals)) e .0,
+    let s = d .before .before .before .before .before .before .before .before .args in
+    let H = hours (now (s .calendar)) (s .weekday) in (
+      day-lent (now (s .table)) (now (s .shares)) H (now (s .a)) (now (s .b)) (now (s .deals)) (faultless f) .0,
       refl,
       refl,
-      room-outset σ (now (s .a)) (now (s .b)) (now (s .deals)) _ _ e,
+      n-is (now (s .table)) (now (s .shares)) H (now (s .a)) (now (s .b)) (now (s .deals)) (faultless f) _ (found-day f),
+      day-room (now (s .table)) (now (s .shares)) H (now (s .a)) (now (s .b)) (now (s .deals)) (faultless f) _ (found-day f) _ _,
     )
 
 put-requires : tie.Need-put-requires
@@ -47,14 +69,16 @@ registers-requires c κs = search needs
 registers-requires-2 : tie.Need-registers-requires-2
 registers-requires-2 c κs = search needs
 
-cast-t26 : tie.Need-cast-t26
-cast-t26 c =
+cast-t30 : tie.Need-cast-t30
+cast-t30 c =
     let j = c .before .before .before .before .before .before .before .before .before in
-    let f = j .before .before .before .before in
-    let d = f .before .before in
-    let s = d .before .before .before .before .before .before .before .args in
-    let e = sym (ap (λ (f : Fault). f .0) (d .check-day-dealer .ensures .0)) ∙ f .if1 .left in
-    omega (arith, few-dealt (now (s .table)) (now (s .shares)) (now (s .a)) (now (s .b)) (now (s .deals)) e _ _ _ _ (j .deal-day .ensures .1))
+    let f = j .before .before .before .before .before .before in
+    let s = f .before .before .before .before .before .before .before .before .before .before .args in
+    omega (
+      arith,
+      few-dealt (now (s .table)) (now (s .shares)) (hours (now (s .calendar)) (s .weekday)) (now (s .a)) (now (s .b)) (now (s .deals)) (faultless f) _
+          (found-day f) _ _ _ _ (j .deal-day .ensures .1),
+    )
 
 same-length-2 : tie.Need-same-length-2
 same-length-2 c = search needs
@@ -64,12 +88,10 @@ returns-2 c =
     let r = c .before .before in
     let p = r .before .before .before in
     let j = p .before .before .before .before in
-    let f = j .before .before .before .before in
-    let d = f .before .before in
-    let s = d .before .before .before .before .before .before .before .args in
-    let e = sym (ap (λ (f : Fault). f .0) (d .check-day-dealer .ensures .0)) ∙ f .if1 .left in
-    day-answer (now (s .table)) (now (s .shares)) (now (s .a)) (now (s .b)) (now (s .deals)) e _ _ _ _ (j .deal-day .ensures .1)
-    (j .deal-day .ensures .0 .0) (j .deal-day .ensures .0 .1)
+    let f = j .before .before .before .before .before .before in
+    let s = f .before .before .before .before .before .before .before .before .before .before .args in
+    day-answer (now (s .table)) (now (s .shares)) (hours (now (s .calendar)) (s .weekday)) (now (s .a)) (now (s .b)) (now (s .deals)) (faultless f) _
+    (found-day f) _ _ _ _ (j .deal-day .ensures .1) (j .deal-day .ensures .0 .0) (j .deal-day .ensures .0 .1)
     _ _ (r .registers .ensures ∙ ap (take 16) (p .put .ensures)) (c .before .registers2 .ensures ∙ ap (take 16) (r .before .put2 .ensures))
 
 pub prepare-day-spec : {M : Type 1} → statement M
@@ -84,6 +106,6 @@ prepare-day-spec =
     put-requires-2
     registers-requires
     registers-requires-2
-    cast-t26
+    cast-t30
     same-length-2
     returns-2)

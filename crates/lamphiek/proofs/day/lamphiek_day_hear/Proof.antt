@@ -1,6 +1,7 @@
 use mathlib.Core.Path.{ap, _∙_}
 use denote.Ref.{now}
 use Rattle.calls.specs.Calls as Calls
+use Rattle.days.specs.Day.{hours}
 use Rattle.days.specs.DayCalls.{day-hear}
 use Rattle.lamphiek.specs.Stepping.{spoken, state-left}
 use borrow.Author.Needs.{needs}
@@ -20,9 +21,9 @@ returns : tie.Need-returns
 returns c =
     let h = c .before .before in
     let s = h .before in
-    let a = s .before .before .before .before .before .before .args in
+    let a = s .before .before .before .before .before .before .before .args in
     let same = h .hear-day .ensures
-    ∙ ap (λ (x : Calls.State). day-hear 32 (a .host) (now (a .table)) (now (a .shares)) (now (a .masks)) (now (a .deals)) x (a .heard))
+    ∙ ap (λ (x : Calls.State). day-hear 32 (a .host) (now (a .table)) (now (a .shares)) (hours (now (a .calendar)) (a .weekday)) (now (a .masks)) (now (a .deals)) x (a .heard))
     (s .state-in .ensures) in
     (c .put-answer .ensures .0 ∙ ap spoken same, c .put-answer .ensures .1 ∙ ap (λ (x : Calls.Answer). state-left x (now (a .state))) same)
 

@@ -17,7 +17,7 @@ same-length c = search needs
 returns : tie.Need-returns
 returns c =
     let h = c .before .before .before .before in
-    let a = h .before .before .before .before .before .before .before .args in
+    let a = h .before .before .before .before .before .before .before .before .args in
     from-dealer _ _ _ _ (now (a .masks)) (h .prepare-day .ensures) (c .put-prepared .ensures .0 []) (c .put-prepared .ensures .1 [])
 
 pub lamphiek-day-prepare-spec : {M : Type 1} → statement M

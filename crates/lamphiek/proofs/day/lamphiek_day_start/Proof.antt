@@ -15,7 +15,7 @@ put-answer-requires c κs = search needs
 returns : tie.Need-returns
 returns c =
     let h = c .before .before in
-    let a = h .before .before .before .before .before .args in
+    let a = h .before .before .before .before .before .before .args in
     let same = h .start-day .ensures in
     (c .put-answer .ensures .0 ∙ ap spoken same, c .put-answer .ensures .1 ∙ ap (λ (x : Calls.Answer). state-left x (now (a .state))) same)
 

@@ -7,7 +7,12 @@ use Rattle.gates.specs.Costs.{Cost}
 use Rattle.programs.specs.Sizes.{times-cost}
 use Rattle.jobs.specs.Counts.{counted}
 use Rattle.worker.specs.Jobs.{Sized}
-use Rattle.worker.proofs.Days.{few-words, lent-few, sized-own, begun-as}
+use Rattle.calendars.specs.Quarters.{held}
+use Rattle.calendars.specs.Ranges.{number}
+use Rattle.calendars.proofs.Counting.{number-le}
+use Rattle.days.proofs.Counts.{few-words}
+use Rattle.worker.specs.Days.{used-by}
+use Rattle.worker.proofs.Days.{lent-few, sized-own, begun-as}
 use borrow.Author.Needs.{needs}
 use Rattle.worker.proofs.day.begin.Statement.{statement}
 use Rattle.worker.proofs.day.begin.Tie as tie
@@ -21,19 +26,22 @@ enter-requires c κs = search needs
 used-before-requires : tie.Need-used-before-requires
 used-before-requires c κs =
     let s = c .before .before .before .before .before .before .before .before .before .before in
-    (lent-few _ _ _ (s .pre .0), s .pre .1)
+    (lent-few _ _ _ _ _ (s .pre .0), s .pre .1)
 
 -- what the orders before use is little
 few-used : (c : tie.After-used-before)
     → let u = c .used-before .result in (u .a ≤ 96000) × (u .b ≤ 96000) × (u .deals ≤ 96000)
-unfolding times-cost
+unfolding times-cost used-by
 few-used c =
     let s = c .before .before .before .before .before .before .before .before .before .before .before in
-    let f = lent-few _ _ _ (s .pre .0) in
+    let k = s .args .day .curve in
+    let n = number (held (s .args .day .quarters)) 0 (s .args .order) in
+    let l : n ≤ 96 = omega (arith, number-le (held (s .args .day .quarters)) 0 (s .args .order), s .pre .1) in
+    let f = lent-few _ _ _ _ _ (s .pre .0) in
     let e = c .used-before .ensures in (
-      omega (arith, ap (λ (k : Cost). k .a) e, few-words (s .args .curve .a) (s .args .order) (f .2) (s .pre .1)),
-      omega (arith, ap (λ (k : Cost). k .b) e, few-words (s .args .curve .b) (s .args .order) (f .3) (s .pre .1)),
-      omega (arith, ap (λ (k : Cost). k .deals) e, few-words (s .args .curve .deals) (s .args .order) (f .0) (s .pre .1)),
+      omega (arith, ap (λ (k : Cost). k .a) e, few-words (k .a) n (f .2) l),
+      omega (arith, ap (λ (k : Cost). k .b) e, few-words (k .b) n (f .3) l),
+      omega (arith, ap (λ (k : Cost). k .deals) e, few-words (k .deals) n (f .0) l),
     )
 
 cast-advance : tie.Need-cast-advance
@@ -78,8 +86,8 @@ returns c =
     let s = ts .before .before .before .before .before .before .before in
     let a = s .args in
     let w : (k l : ℕ) → _ = λ k l.
-    begun-as (a .host) (now (a .masks)) (now (a .deals)) (now (a .table)) (now (a .shares)) (counted (a .curve)) (s .pre .0) (a .order)
-    (s .pre .1) k l (now (a .m)) (now (a .mask)) _ _ (s .pre .2) (s .pre .3) (ts .take-share .ensures .0)
+    begun-as (a .host) (now (a .masks)) (now (a .deals)) (now (a .table)) (now (a .shares)) (counted (a .day .curve)) _ (a .day .n) (s .pre .0) (a .order)
+    (s .pre .1) (s .pre .2) k l (now (a .m)) (now (a .mask)) _ _ (s .pre .3) (s .pre .4) (ts .take-share .ensures .0)
     (ts .take-share .ensures .1) _ (ow .order-words .ensures) (counted (ub .used-before .result)) (ub .used-before .ensures) _ _
     (en .enter .ensures .0) (en .enter .ensures .1) _ (ad .advance .ensures) in
     (w 0 0 .1, λ k l. c .halted .ensures _ _ ∙ w k l .0)

@@ -1,10 +1,14 @@
 use mathlib.Core.Path.{_≡_, sym, subst, _∙_}
+use mathlib.Core.Bool.{true, false}
 use mathlib.Core.List.{List}
-use Prim.Native.Nat.{ℕ}
+use Prim.Native.Nat.{ℕ, _+_, _≤_, _<_}
 use native.Mathlib.Omega.{arith}
 use lib.ListN.{length}
 use denote.Ref.{now}
 use Rattle.jobs.specs.Counts.{counted}
+use Rattle.calendars.specs.Quarters.{held}
+use Rattle.days.specs.Orders.{is-run}
+use Rattle.days.proofs.Idle.{next-run}
 use Rattle.worker.specs.Jobs.{Sized, Standing}
 use Rattle.worker.proofs.Days.{sized-own, halts-in, long-left, ends-day, next-order}
 use borrow.Author.Needs.{needs}
@@ -47,8 +51,8 @@ returns c =
     let s = ts .before .before .before .before .before .before .before in
     let a = s .args in
     let w : (k l : ℕ) → _ = λ k l.
-    halts-in (a .host) (now (a .masks)) (now (a .deals)) (now (a .table)) (now (a .shares)) (counted (a .curve)) (s .pre .0) (a .order)
-    (s .pre .1 .in-day) k l (now (a .m)) (now (a .mask)) _ _ (s .pre .2) (s .pre .3) (ts .take-share .ensures .0) (ts .take-share .ensures .1)
+    halts-in (a .host) (now (a .masks)) (now (a .deals)) (now (a .table)) (now (a .shares)) (counted (a .day .curve)) _ (a .day .n) (s .pre .0)
+    (a .order) (s .pre .1 .in-day) (s .pre .1 .run) k l (now (a .m)) (now (a .mask)) _ _ (s .pre .2) (s .pre .3) (ts .take-share .ensures .0) (ts .take-share .ensures .1)
     (a .turn) (a .at .gate) (a .at .a) (a .b) (a .at .deals) (s .pre .1) (a .heard) _ (ow .order-words .ensures) _ (rs .resume .ensures)
     (c .before .if1 .taken) in
     (w 0 0 .1, λ k l. c .halted .ensures _ _ ∙ w k l .0)
@@ -62,8 +66,8 @@ long-left-of c =
     let ts = ow .before in
     let s = ts .before .before .before .before .before .before .before in
     let a = s .args in
-    long-left (a .host) (now (a .masks)) (now (a .deals)) (now (a .table)) (now (a .shares)) (counted (a .curve)) (s .pre .0) (a .order)
-    (s .pre .1 .in-day) 0 0 (now (a .m)) (now (a .mask)) _ _ (s .pre .2) (s .pre .3) (ts .take-share .ensures .0) (ts .take-share .ensures .1)
+    long-left (a .host) (now (a .masks)) (now (a .deals)) (now (a .table)) (now (a .shares)) (counted (a .day .curve)) _ (a .day .n) (s .pre .0)
+    (a .order) (s .pre .1 .in-day) (s .pre .1 .run) 0 0 (now (a .m)) (now (a .mask)) _ _ (s .pre .2) (s .pre .3) (ts .take-share .ensures .0) (ts .take-share .ensures .1)
     (a .turn) (a .at .gate) (a .at .a) (a .b) (a .at .deals) (s .pre .1) (a .heard) _ (ow .order-words .ensures) _ (rs .resume .ensures)
     (el .if1 .left) _ _ (c .leave .ensures .0) (c .leave .ensures .1)
 
@@ -87,46 +91,67 @@ returns-2 c =
     let a = s .args in (
       long-left-of lv,
       λ k l. c .halted2 .ensures _ _
-          ∙ ends-day (a .host) (now (a .masks)) (now (a .deals)) (now (a .table)) (now (a .shares)) (counted (a .curve)) (s .pre .0) (a .order)
-          (s .pre .1 .in-day) k l (now (a .m)) (now (a .mask)) _ _ (s .pre .2) (s .pre .3) (ts .take-share .ensures .0) (ts .take-share .ensures .1)
+          ∙ ends-day (a .host) (now (a .masks)) (now (a .deals)) (now (a .table)) (now (a .shares)) (counted (a .day .curve)) _ (a .day .n) (s .pre .0)
+          (a .order) (s .pre .1 .in-day) (s .pre .1 .run) k l (now (a .m)) (now (a .mask)) _ _ (s .pre .2) (s .pre .3) (ts .take-share .ensures .0) (ts .take-share .ensures .1)
           (a .turn) (a .at .gate) (a .at .a) (a .b) (a .at .deals) (s .pre .1) (a .heard) _ (ow .order-words .ensures) _ (rs .resume .ensures)
           (el .if1 .left) _ _ (lv .leave .ensures .0) (lv .leave .ensures .1) (c .before .if2 .taken),
     )
 
-add-begin : tie.Need-add-begin
-add-begin c =
-    let rs = c .before .before .before .before .before .before .before .before in
+add-next-counted : tie.Need-add-next-counted
+add-next-counted c =
+    let rs = c .before .before .before .before .before .before .before in
     let ow = rs .before .before .before .before in
     let ts = ow .before in
     let s = ts .before .before .before .before .before .before .before in
     omega (arith, s .pre .1 .in-day)
 
+next-counted-requires : tie.Need-next-counted-requires
+next-counted-requires c κs = search needs
+
+-- the order that is run next
+next-of : (c : tie.After-next-counted)
+    → let s = c .before .before .before .before .before .before .before .before .before .before .before .before .before .before .before .before .before
+    .before .before .before in
+    let f = held (s .args .day .quarters) in
+    let r = c .next-counted .result in
+    (s .args .order + 1 ≤ r) × (r ≤ 96) × (is-run f r ≡ true) × ((k : ℕ) → s .args .order + 1 ≤ k → k < r → f k ≡ false)
+next-of c =
+    let el = c .before .before in
+    let rs = el .before .before .before .before .before .before in
+    let ow = rs .before .before .before .before in
+    let ts = ow .before in
+    let s = ts .before .before .before .before .before .before .before in
+    next-run (held (s .args .day .quarters)) (s .args .order + 1) (c .next-counted .result) (omega (arith, s .pre .1 .in-day, el .if2 .left))
+    (c .next-counted .ensures)
+
 begin-requires : tie.Need-begin-requires
 begin-requires c κs =
-    let el = c .before .before in
-    let lv = el .before in
+    let nc = c .before .before in
+    let lv = nc .before .before .before in
     let rs = lv .before .before .before .before .before in
     let ow = rs .before .before .before .before in
     let ts = ow .before in
     let s = ts .before .before .before .before .before .before .before in
-    (s .pre .0, omega (arith, s .pre .1 .in-day, el .if2 .left), long-left-of lv .0, long-left-of lv .1)
+    (s .pre .0, next-of nc .1, next-of nc .2, long-left-of lv .0, long-left-of lv .1)
 
 returns-3 : tie.Need-returns-3
 returns-3 c =
-    let e2 = c .before .before .before in
-    let lv = e2 .before in
+    let nc = c .before .before .before in
+    let lv = nc .before .before .before in
     let el = lv .before .before .before in
     let rs = el .before .before in
     let ow = rs .before .before .before .before in
     let ts = ow .before in
     let s = ts .before .before .before .before .before .before .before in
-    let a = s .args in (
+    let a = s .args in
+    let n = next-of nc in (
       c .begin .ensures .0,
       λ k l. c .begin .ensures .1 k l
-          ∙ next-order (a .host) (now (a .masks)) (now (a .deals)) (now (a .table)) (now (a .shares)) (counted (a .curve)) (s .pre .0) (a .order)
-          (s .pre .1 .in-day) k l (now (a .m)) (now (a .mask)) _ _ (s .pre .2) (s .pre .3) (ts .take-share .ensures .0) (ts .take-share .ensures .1)
-          (a .turn) (a .at .gate) (a .at .a) (a .b) (a .at .deals) (s .pre .1) (a .heard) _ (ow .order-words .ensures) _ (rs .resume .ensures)
-          (el .if1 .left) _ _ (lv .leave .ensures .0) (lv .leave .ensures .1) (omega (arith, s .pre .1 .in-day, e2 .if2 .left)),
+          ∙ next-order (a .host) (now (a .masks)) (now (a .deals)) (now (a .table)) (now (a .shares)) (counted (a .day .curve)) _ (a .day .n) (s .pre .0)
+          (a .order) (s .pre .1 .in-day) (s .pre .1 .run) k l (now (a .m)) (now (a .mask)) _ _ (s .pre .2) (s .pre .3) (ts .take-share .ensures .0)
+          (ts .take-share .ensures .1) (a .turn) (a .at .gate) (a .at .a) (a .b) (a .at .deals) (s .pre .1) (a .heard) _ (ow .order-words .ensures) _
+          (rs .resume .ensures) (el .if1 .left) _ _ (lv .leave .ensures .0) (lv .leave .ensures .1) (nc .next-counted .result)
+          (omega (arith, n .0)) (n .1) (λ q u v. n .3 q (omega (arith, u)) v),
     )
 
 pub go-on-spec : {M : Type 1} → statement M
@@ -143,6 +168,7 @@ go-on-spec =
     add-halted
     halted-requires-2
     returns-2
-    add-begin
+    add-next-counted
+    next-counted-requires
     begin-requires
     returns-3)

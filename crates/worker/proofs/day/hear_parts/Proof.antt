@@ -1,14 +1,20 @@
-use mathlib.Core.Path.{sym, ap, _∙_}
-use Prim.Native.Nat.{_+_}
+use mathlib.Core.Path.{_≡_, sym, ap, _∙_}
+use mathlib.Core.Bool.{Bool, true}
+use Prim.Native.Nat.{ℕ, _+_}
 use native.Mathlib.Omega.{arith}
+use borrow.Author.Tests.{not-true, not-false}
 use denote.Ref.{now}
 use Rattle.jobs.specs.Job.{Fault}
 use Rattle.jobs.specs.Counts.{counted}
 use Rattle.calls.specs.Calls.{refused}
+use Rattle.calendars.specs.Quarters.{held}
+use Rattle.days.specs.Day.{hours}
+use Rattle.days.specs.Orders.{is-run}
+use Rattle.days.proofs.Places.{nowhere-left-out}
 use Rattle.worker.specs.Answers.{state-with}
-use Rattle.worker.specs.Days.{DayLent, DayPlace}
+use Rattle.worker.specs.Days.{DayLent, DayPlace, SameDay}
 use Rattle.worker.proofs.Days.{lent-few, none-placed, placed-day, place-at}
-use Rattle.worker.proofs.DayCalls.{day-lent, hear-turned, hear-past, hear-nowhere}
+use Rattle.worker.proofs.DayCalls.{same-day, day-lent, hear-turned, hear-past, hear-nowhere}
 use borrow.Author.Needs.{needs}
 use Rattle.worker.proofs.day.hear_parts.Statement.{statement}
 use Rattle.worker.proofs.day.hear_parts.Tie as tie
@@ -27,10 +33,10 @@ returns c =
     let t = c .before in
     let th = t .before in
     let cd = th .before .before in
-    let s = cd .before .before .before .before .before in
+    let s = cd .before .before .before .before .before .before in
     let a = s .args in
     c .refused .ensures ∙ ap (refused _) (t .state .ensures)
-    ∙ hear-turned (a .host) (now (a .table)) (now (a .shares)) (now (a .masks)) (now (a .deals)) _ _ (cd .check-day-lent .ensures .0) (state-with (a .m) (a .mask) (a .order) (a .turn))
+    ∙ hear-turned (a .host) (now (a .table)) (now (a .shares)) (hours (now (a .calendar)) (a .weekday)) (now (a .masks)) (now (a .deals)) _ (cd .check-day-lent .ensures .0) (state-with (a .m) (a .mask) (a .order) (a .turn))
     (omega (arith, s .good)) (omega (arith, s .good)) (a .heard) (th .if1 .taken)
 
 cast-end-fault : tie.Need-cast-end-fault
@@ -55,23 +61,68 @@ returns-2 c =
     let th = ef .before in
     let el = th .before in
     let cd = el .before .before in
-    let s = cd .before .before .before .before .before in
+    let s = cd .before .before .before .before .before .before in
     let a = s .args in
     c .refused2 .ensures ∙ ap (refused _) (t .state2 .ensures)
-    ∙ hear-past (a .host) (now (a .table)) (now (a .shares)) (now (a .masks)) (now (a .deals)) _ _ (cd .check-day-lent .ensures .0) (state-with (a .m) (a .mask) (a .order) (a .turn))
+    ∙ hear-past (a .host) (now (a .table)) (now (a .shares)) (hours (now (a .calendar)) (a .weekday)) (now (a .masks)) (now (a .deals)) _ (cd .check-day-lent .ensures .0) (state-with (a .m) (a .mask) (a .order) (a .turn))
     (omega (arith, s .good)) (omega (arith, s .good)) (a .heard) (el .if1 .left) _ (omega (arith, th .if2 .taken)) (ef .end-fault .ensures)
 
 -- what is lent has passed its checks
 lent-there : (c : tie.Else2)
     → let cd = c .before .before .before in
-    let a = cd .before .before .before .before .before .args in
-    DayLent (now (a .table)) (now (a .shares)) (counted (cd .check-day-lent .result .counts))
+    let a = cd .before .before .before .before .before .before .args in
+    let d = cd .check-day-lent .result .day in
+    DayLent (now (a .table)) (now (a .shares)) (counted (d .curve)) (held (d .quarters)) (d .n)
 lent-there c =
     let el = c .before in
     let cd = el .before .before in
-    let a = cd .before .before .before .before .before .args in
-    day-lent (a .host) (now (a .table)) (now (a .shares)) (now (a .masks)) (now (a .deals)) _ _ (cd .check-day-lent .ensures .0) (el .if1 .left) _
-    (cd .check-day-lent .ensures .1)
+    let a = cd .before .before .before .before .before .before .args in
+    day-lent (a .host) (now (a .table)) (now (a .shares)) (hours (now (a .calendar)) (a .weekday)) (now (a .masks)) (now (a .deals)) _
+    (cd .check-day-lent .ensures .0) (el .if1 .left) _ (cd .check-day-lent .ensures .1)
+
+-- and its quarters count by the hours
+same-there : (c : tie.Else2)
+    → let cd = c .before .before .before in
+    let a = cd .before .before .before .before .before .before .args in
+    SameDay (held (cd .check-day-lent .result .day .quarters)) (hours (now (a .calendar)) (a .weekday))
+same-there c =
+    let el = c .before in
+    let cd = el .before .before in
+    let a = cd .before .before .before .before .before .before .args in
+    same-day (a .host) (now (a .table)) (now (a .shares)) (hours (now (a .calendar)) (a .weekday)) (now (a .masks)) (now (a .deals)) _
+    (cd .check-day-lent .ensures .0) (el .if1 .left) _ (cd .check-day-lent .ensures .1)
+
+is-run-requires : tie.Need-is-run-requires
+is-run-requires c κs = search needs
+
+state-requires-3 : tie.Need-state-requires-3
+state-requires-3 c κs = search needs
+
+refused-requires-3 : tie.Need-refused-requires-3
+refused-requires-3 c κs = search needs
+
+-- a quarter that is left out
+returns-3 : tie.Need-returns-3
+returns-3 c =
+    let t = c .before in
+    let th = t .before in
+    let ir = th .before in
+    let e2 = ir .before .before .before in
+    let el = e2 .before in
+    let cd = el .before .before in
+    let s = cd .before .before .before .before .before .before in
+    let a = s .args in
+    let f = held (cd .check-day-lent .result .day .quarters) in
+    c .refused3 .ensures ∙ ap (refused _) (t .state3 .ensures)
+    ∙ hear-nowhere (a .host) (now (a .table)) (now (a .shares)) (hours (now (a .calendar)) (a .weekday)) (now (a .masks)) (now (a .deals)) _
+    (cd .check-day-lent .ensures .0) (state-with (a .m) (a .mask) (a .order) (a .turn)) (omega (arith, s .good)) (omega (arith, s .good)) (a .heard)
+    (el .if1 .left) f (same-there e2)
+    (nowhere-left-out (now (a .table)) f (a .order) (a .turn) (omega (arith, e2 .if2 .left)) (sym (ir .is-run .ensures) ∙ not-true _ (th .if3 .taken)))
+
+-- the order is run
+runs-there : (c : tie.Else3) → _≡_ {A = Bool} (is-run (held (c .before .before .before .before .before .before .before .check-day-lent .result .day .quarters))
+    (c .before .before .before .before .before .before .before .before .before .before .before .before .before .args .order)) true
+runs-there c = sym (c .before .is-run .ensures) ∙ not-false _ (c .if3 .left)
 
 order-words-requires : tie.Need-order-words-requires
 order-words-requires c κs = search needs
@@ -91,54 +142,61 @@ enum-known-gate c = search needs
 enum-told : tie.Need-enum-told
 enum-told c = search needs
 
-state-requires-3 : tie.Need-state-requires-3
-state-requires-3 c κs = search needs
+state-requires-4 : tie.Need-state-requires-4
+state-requires-4 c κs = search needs
 
-refused-requires-3 : tie.Need-refused-requires-3
-refused-requires-3 c κs = search needs
+refused-requires-4 : tie.Need-refused-requires-4
+refused-requires-4 c κs = search needs
 
-returns-3 : tie.Need-returns-3
-returns-3 c =
+returns-4 : tie.Need-returns-4
+returns-4 c =
     let t = c .before in
     let et = t .before in
     let sk = et .before .before in
     let oa = sk .before in
     let ow = oa .before .before in
-    let e2 = ow .before in
+    let e3 = ow .before in
+    let e2 = e3 .before .before .before .before in
     let el = e2 .before in
     let cd = el .before .before in
-    let s = cd .before .before .before .before .before in
+    let s = cd .before .before .before .before .before .before in
     let a = s .args in
-    c .refused3 .ensures ∙ ap (refused _) (t .state3 .ensures)
-    ∙ hear-nowhere (a .host) (now (a .table)) (now (a .shares)) (now (a .masks)) (now (a .deals)) _ _ (cd .check-day-lent .ensures .0) (state-with (a .m) (a .mask) (a .order) (a .turn))
-    (omega (arith, s .good)) (omega (arith, s .good)) (a .heard) (el .if1 .left)
-    (none-placed (now (a .table)) (lent-there e2 .ruled) (a .order) (a .turn) (omega (arith, e2 .if2 .left)) _ (ow .order-words .ensures) _
-    (oa .order-at .ensures) _ (sk .seek .ensures .is) (et .enum-told .given .1))
+    let f = held (cd .check-day-lent .result .day .quarters) in
+    c .refused4 .ensures ∙ ap (refused _) (t .state4 .ensures)
+    ∙ hear-nowhere (a .host) (now (a .table)) (now (a .shares)) (hours (now (a .calendar)) (a .weekday)) (now (a .masks)) (now (a .deals)) _
+    (cd .check-day-lent .ensures .0) (state-with (a .m) (a .mask) (a .order) (a .turn)) (omega (arith, s .good)) (omega (arith, s .good)) (a .heard)
+    (el .if1 .left) f (same-there e2)
+    (none-placed (now (a .table)) f (lent-there e2 .ruled) (a .order) (a .turn) (omega (arith, e2 .if2 .left)) (runs-there e3) _
+    (ow .order-words .ensures) _ (oa .order-at .ensures) _ (sk .seek .ensures .is) (et .enum-told .given .1))
 
 used-before-requires : tie.Need-used-before-requires
 used-before-requires c κs =
-    let e2 = c .before .before .before .before .before .before .before in
-    (lent-few _ _ _ (lent-there e2), omega (arith, e2 .if2 .left))
+    let e2 = c .before .before .before .before .before .before .before .before .before .before .before in
+    (lent-few _ _ _ _ _ (lent-there e2), omega (arith, e2 .if2 .left))
 
 -- the place that was found, with what the orders before it use
 placed : (c : tie.After-used-before)
     → let kt = c .before in
-    let f = kt .before .gate .given .0 in
-    let e2 = kt .before .before .before .before .before .before .before in
-    let a = e2 .before .before .before .before .before .before .before .before .args in
+    let g = kt .before .gate .given .0 in
+    let e2 = kt .before .before .before .before .before .before .before .before .before .before .before in
+    let cd = e2 .before .before .before in
+    let a = cd .before .before .before .before .before .before .args in
     let u = c .used-before .result in
-    DayPlace (now (a .table)) (a .order) (a .turn) (f .0) (u .a + f .1 .0) (u .b + a .turn) (u .deals + f .1 .1 .0)
+    DayPlace (now (a .table)) (held (cd .check-day-lent .result .day .quarters)) (a .order) (a .turn) (g .0) (u .a + g .1 .0) (u .b + a .turn)
+    (u .deals + g .1 .1 .0)
 placed c =
     let kt = c .before in
     let sk = kt .before .before .before in
     let oa = sk .before in
     let ow = oa .before .before in
-    let e2 = ow .before in
+    let e3 = ow .before in
+    let e2 = e3 .before .before .before .before in
     let cd = e2 .before .before .before in
-    let a = cd .before .before .before .before .before .args in
+    let a = cd .before .before .before .before .before .before .args in
+    let d = cd .check-day-lent .result .day in
     let L = lent-there e2 in
-    placed-day (now (a .table)) (L .ruled) (a .order) (a .turn) (omega (arith, e2 .if2 .left)) _ (ow .order-words .ensures) _
-    (oa .order-at .ensures) _ (sk .seek .ensures .is) _ _ _ (kt .before .gate .given .1) (counted (cd .check-day-lent .result .counts))
+    placed-day (now (a .table)) (held (d .quarters)) (L .ruled) (a .order) (a .turn) (omega (arith, e2 .if2 .left)) (runs-there e3) _
+    (ow .order-words .ensures) _ (oa .order-at .ensures) _ (sk .seek .ensures .is) _ _ _ (kt .before .gate .given .1) (counted (d .curve))
     (counted (c .used-before .result)) (L .counts) (c .used-before .ensures)
 
 reach-of-requires : tie.Need-reach-of-requires
@@ -154,14 +212,18 @@ hear-there-requires : tie.Need-hear-there-requires
 hear-there-requires c κs =
     let ro = c .before in
     let ub = ro .before in
-    let e2 = ub .before .before .before .before .before .before .before .before in
+    let e2 = ub .before .before .before .before .before .before .before .before .before .before .before .before in
     let el = e2 .before in
     let cd = el .before .before in
-    let r = ro .reach-of .ensures in
-    (lent-there e2, place-at _ _ _ _ _ _ _ _ _ _ (placed ub) (r .0) (r .1) (r .2), ap (λ (f : Fault). f .0) (sym (cd .check-day-lent .ensures .0)) ∙ el .if1 .left)
+    let r = ro .reach-of .ensures in (
+      lent-there e2,
+      place-at _ _ _ _ _ _ _ _ _ _ _ (placed ub) (r .0) (r .1) (r .2),
+      same-there e2,
+      ap {B = Fault} (λ (n : ℕ). (n, 0)) (sym (el .if1 .left)) ∙ cd .check-day-lent .ensures .0,
+    )
 
-returns-4 : tie.Need-returns-4
-returns-4 c = search needs
+returns-5 : tie.Need-returns-5
+returns-5 c = search needs
 
 pub hear-parts-spec : {M : Type 1} → statement M
 hear-parts-spec =
@@ -177,18 +239,22 @@ hear-parts-spec =
     state-requires-2
     refused-requires-2
     returns-2
+    is-run-requires
+    state-requires-3
+    refused-requires-3
+    returns-3
     order-words-requires
     slice-aggregate-order-at
     order-at-requires
     seek-requires
     enum-known-gate
     enum-told
-    state-requires-3
-    refused-requires-3
-    returns-3
+    state-requires-4
+    refused-requires-4
+    returns-4
     used-before-requires
     reach-of-requires
     cast-b
     add-b
     hear-there-requires
-    returns-4)
+    returns-5)

@@ -1,6 +1,8 @@
 use mathlib.Core.Path.{refl, _∙_}
 use native.Mathlib.Omega.{arith}
 use denote.Ref.{now}
+use Rattle.calendars.specs.Quarters.{held}
+use Rattle.days.specs.Day.{hours}
 use Rattle.worker.specs.Answers.{state-with}
 use Rattle.worker.proofs.DayCalls.{hear-done}
 use borrow.Author.Needs.{needs}
@@ -32,13 +34,15 @@ returns c =
     let g = p1 .before .before in
     let a2 = g .before .before .before in
     let a1 = a2 .before .before in
-    let s = a1 .before .before .before .before .before .before in
+    let s = a1 .before .before .before .before .before .before .before in
     let a = s .args in
     let h = g .go-on .result in
     c .answered .ensures
     ∙ rw (p1 .put .ensures, p2 .put2 .ensures)
-    (hear-done (a .host) (now (a .table)) (now (a .shares)) (now (a .masks)) (now (a .deals)) _ _ refl
-    (state-with (a .m) (a .mask) (a .order) (a .turn)) (omega (arith, s .good)) (omega (arith, s .good)) (a .heard) (s .pre .2) _ _ _ _
+    (hear-done (a .host) (now (a .table)) (now (a .shares)) (hours (now (a .calendar)) (a .weekday)) (now (a .masks)) (now (a .deals)) _
+    (s .pre .3)
+    (state-with (a .m) (a .mask) (a .order) (a .turn)) (omega (arith, s .good)) (omega (arith, s .good)) (a .heard) refl
+    (held (a .day .quarters)) (s .pre .2) _ _ _ _
     (s .pre .1) (h .spoken) (h .word) (h .order) (h .turn) _ _ _ _ (g .go-on .ensures .0 .0) (g .go-on .ensures .0 .1) (a1 .at .ensures)
     (a2 .at2 .ensures) (g .go-on .ensures .1 _ _))
 

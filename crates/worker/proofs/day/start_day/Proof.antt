@@ -1,8 +1,12 @@
 use mathlib.Core.Path.{refl, _∙_}
+use Prim.Native.Nat.{_≤_, _-_}
 use native.Mathlib.Omega.{arith}
 use denote.Ref.{now}
 use Rattle.jobs.specs.Counts.{counted}
-use Rattle.worker.proofs.DayCalls.{day-lent, start-turned, start-done}
+use Rattle.calendars.specs.Quarters.{held}
+use Rattle.days.specs.Day.{hours}
+use Rattle.days.proofs.Idle.{next-run}
+use Rattle.worker.proofs.DayCalls.{same-day, day-lent, start-turned, start-done}
 use borrow.Author.Needs.{needs}
 use Rattle.worker.proofs.day.start_day.Statement.{statement}
 use Rattle.worker.proofs.day.start_day.Tie as tie
@@ -16,19 +20,25 @@ refused-requires c κs = search needs
 returns : tie.Need-returns
 returns c =
     let cd = c .before .before .before in
-    let a = cd .before .before .before .before .before .args in
+    let a = cd .before .before .before .before .before .before .args in
     c .refused .ensures
-    ∙ start-turned (a .host) (now (a .table)) (now (a .shares)) (now (a .masks)) (now (a .deals)) _ _ (cd .check-day-lent .ensures .0)
-    (c .before .if1 .taken)
+    ∙ start-turned (a .host) (now (a .table)) (now (a .shares)) (hours (now (a .calendar)) (a .weekday)) (now (a .masks)) (now (a .deals)) _
+    (cd .check-day-lent .ensures .0) (c .before .if1 .taken)
+
+next-counted-requires : tie.Need-next-counted-requires
+next-counted-requires c κs = search needs
 
 begin-requires : tie.Need-begin-requires
 begin-requires c κs =
-    let el = c .before .before in
+    let nc = c .before .before in
+    let el = nc .before .before .before in
     let cd = el .before .before in
-    let a = cd .before .before .before .before .before .args in (
-      day-lent (a .host) (now (a .table)) (now (a .shares)) (now (a .masks)) (now (a .deals)) _ _ (cd .check-day-lent .ensures .0)
-          (el .if1 .left) _ (cd .check-day-lent .ensures .1),
-      omega arith,
+    let a = cd .before .before .before .before .before .before .args in
+    let n = next-run (held (cd .check-day-lent .result .day .quarters)) 0 _ (omega arith) (nc .next-counted .ensures) in (
+      day-lent (a .host) (now (a .table)) (now (a .shares)) (hours (now (a .calendar)) (a .weekday)) (now (a .masks)) (now (a .deals)) _
+          (cd .check-day-lent .ensures .0) (el .if1 .left) _ (cd .check-day-lent .ensures .1),
+      n .1,
+      n .2,
       refl,
       refl,
     )
@@ -47,15 +57,22 @@ returns-2 c =
     let p2 = c .before in
     let p1 = p2 .before .before in
     let bg = p1 .before .before in
-    let el = bg .before .before .before in
+    let nc = bg .before .before .before in
+    let el = nc .before .before .before in
     let cd = el .before .before in
-    let a = cd .before .before .before .before .before .args in
+    let a = cd .before .before .before .before .before .before .args in
+    let H = hours (now (a .calendar)) (a .weekday) in
+    let d = cd .check-day-lent .result .day in
     let h = bg .begin .result in
+    let n = next-run (held (d .quarters)) 0 _ (omega arith) (nc .next-counted .ensures) in
     c .answered .ensures
     ∙ rw (p1 .put .ensures, p2 .put2 .ensures)
-    (start-done (a .host) (now (a .table)) (now (a .shares)) (now (a .masks)) (now (a .deals)) _ _ (cd .check-day-lent .ensures .0)
-    (el .if1 .left) (counted (cd .check-day-lent .result .counts)) (h .spoken) (h .word) (h .order) (h .turn) _ _ (bg .begin .ensures .0 .0)
-    (bg .begin .ensures .0 .1) (bg .begin .ensures .1 0 0))
+    (start-done (a .host) (now (a .table)) (now (a .shares)) H (now (a .masks)) (now (a .deals)) _ (cd .check-day-lent .ensures .0)
+    (held (d .quarters))
+    (same-day (a .host) (now (a .table)) (now (a .shares)) H (now (a .masks)) (now (a .deals)) _ (cd .check-day-lent .ensures .0) (el .if1 .left) d
+    (cd .check-day-lent .ensures .1))
+    (el .if1 .left) (counted (d .curve)) (nc .next-counted .result) (n .1) (n .3) (h .spoken) (h .word) (h .order) (h .turn) _ _
+    (bg .begin .ensures .0 .0) (bg .begin .ensures .0 .1) (bg .begin .ensures .1 0 0))
 
 pub start-day-spec : {M : Type 1} → statement M
 start-day-spec =
@@ -64,6 +81,7 @@ start-day-spec =
     check-day-lent-requires
     refused-requires
     returns
+    next-counted-requires
     begin-requires
     put-requires
     put-requires-2

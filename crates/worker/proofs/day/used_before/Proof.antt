@@ -1,26 +1,29 @@
-use mathlib.Core.Path.{refl}
+use mathlib.Core.Path.{ap, _∙_}
+use Prim.Native.Nat.{ℕ}
 use native.Mathlib.Omega.{arith}
 use Rattle.programs.specs.Sizes.{times-cost}
-use Rattle.worker.proofs.Days.{few-words}
+use Rattle.jobs.specs.Counts.{counted}
+use Rattle.calendars.specs.Quarters.{held}
+use Rattle.calendars.proofs.Counting.{number-le}
+use Rattle.worker.specs.Days.{used-by}
+use borrow.Author.Needs.{needs}
 use Rattle.worker.proofs.day.used_before.Statement.{statement}
 use Rattle.worker.proofs.day.used_before.Tie as tie
 
-mul-t3 : tie.Need-mul-t3
-mul-t3 c = let s = c .before in omega (arith, few-words (s .args .curve .deals) (s .args .order) (s .pre .0 .0) (s .pre .1))
+counted-before-requires : tie.Need-counted-before-requires
+counted-before-requires c κs = search needs
 
-mul-t4 : tie.Need-mul-t4
-mul-t4 c = let s = c .before .before in omega (arith, few-words (s .args .curve .words) (s .args .order) (s .pre .0 .1) (s .pre .1))
-
-mul-t5 : tie.Need-mul-t5
-mul-t5 c = let s = c .before .before .before in omega (arith, few-words (s .args .curve .a) (s .args .order) (s .pre .0 .2) (s .pre .1))
-
-mul-t6 : tie.Need-mul-t6
-mul-t6 c =
-    let s = c .before .before .before .before in omega (arith, few-words (s .args .curve .b) (s .args .order) (s .pre .0 .3) (s .pre .1))
+used-by-requires : tie.Need-used-by-requires
+used-by-requires c κs =
+    let s = c .before .before .before in
+    (s .pre .0, omega (arith, c .counted-before .ensures, number-le (held (s .args .day .quarters)) 0 (s .args .order), s .pre .1))
 
 returns : tie.Need-returns
-unfolding times-cost
-returns c = refl
+unfolding used-by
+returns c =
+    let b = c .before in
+    let s = b .before .before .before in
+    c .used-by .ensures ∙ ap (λ (n : ℕ). times-cost n (counted (s .args .day .curve))) (b .counted-before .ensures)
 
 pub used-before-spec : {M : Type 1} → statement M
-used-before-spec = tie.close (tie.spec mul-t3 mul-t4 mul-t5 mul-t6 returns)
+used-before-spec = tie.close (tie.spec counted-before-requires used-by-requires returns)

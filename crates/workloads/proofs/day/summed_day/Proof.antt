@@ -7,10 +7,10 @@ use Rattle.workloads.proofs.day.summed_day.Statement.{statement}
 use Rattle.workloads.proofs.day.summed_day.Tie as tie
 
 abbrev Inv-loop : tie.InvT-loop
-Inv-loop quarter a b deals₀ n zero one two sum₀ i₀ deals sum i = length deals ≡ length deals₀
+Inv-loop quarter a b deals₀ n zero one two calendar sum₀ i₀ deals sum i = length deals ≡ length deals₀
 
 abbrev μ-loop : tie.MeasureT-loop
-μ-loop quarter a b deals₀ n zero one two sum₀ i₀ deals sum i = n - i
+μ-loop quarter a b deals₀ n zero one two calendar sum₀ i₀ deals sum i = n - i
 
 day-list-requires : tie.Need-day-list-requires Inv-loop μ-loop
 day-list-requires c κs = search needs
@@ -20,6 +20,9 @@ day-list-requires-2 c κs = search needs
 
 day-list-requires-3 : tie.Need-day-list-requires-3 Inv-loop μ-loop
 day-list-requires-3 c κs = search needs
+
+calendar-of-requires : tie.Need-calendar-of-requires Inv-loop μ-loop
+calendar-of-requires c κs = search needs
 
 loop-holds : tie.Need-loop-holds Inv-loop μ-loop
 loop-holds c = search needs
@@ -35,6 +38,9 @@ slice-aggregate-once-2 c = search needs
 
 slice-aggregate-once-3 : tie.Need-slice-aggregate-once-3 Inv-loop μ-loop
 slice-aggregate-once-3 c = search needs
+
+slice-aggregate-once-4 : tie.Need-slice-aggregate-once-4 Inv-loop μ-loop
+slice-aggregate-once-4 c = search needs
 
 once-requires : tie.Need-once-requires Inv-loop μ-loop
 once-requires c κs = search needs
@@ -66,11 +72,13 @@ summed-day-spec =
     day-list-requires
     day-list-requires-2
     day-list-requires-3
+    calendar-of-requires
     loop-holds
     add-requires
     slice-aggregate-once
     slice-aggregate-once-2
     slice-aggregate-once-3
+    slice-aggregate-once-4
     once-requires
     add-requires-2
     add-i

@@ -5,10 +5,10 @@ use Rattle.workloads.proofs.day.to_the_end.Statement.{statement}
 use Rattle.workloads.proofs.day.to_the_end.Tie as tie
 
 abbrev Inv-loop : tie.InvT-loop
-Inv-loop table one two a b deals s₀ i₀ s i = Unit
+Inv-loop table one two calendar a b deals s₀ i₀ s i = Unit
 
 abbrev μ-loop : tie.MeasureT-loop
-μ-loop table one two a b deals s₀ i₀ s i = 12000 - i
+μ-loop table one two calendar a b deals s₀ i₀ s i = 12000 - i
 
 start-day-requires : tie.Need-start-day-requires Inv-loop μ-loop
 start-day-requires c κs = search needs
