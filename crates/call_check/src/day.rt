@@ -103,7 +103,8 @@ fn check_day(
 ) -> DayFinding
     ensures fault { λ r.
         ⌜ (r .number, 0)
-        ≡ or-else (day-fault (now (table .entry)) (length (now (shares .entry))) (hours (now (calendar .entry)) weekday))
+        ≡ or-else
+        (day-fault (now (table .entry)) (length (now (shares .entry))) (hours (now (calendar .entry)) weekday))
         (dealer-lists-fault (needs-of host (day-of (counted-quarters (now (calendar .entry)) weekday)
         (curve-cost 0 (length (rows (now (table .entry)))))))
         (now (a .entry)) (now (b .entry)) (now (deals .entry))) ⌝ }

@@ -1,6 +1,6 @@
--- R-3: the day's calls, lent a host's table, day list and hours, are the calls of the day's runs: what a run's host holds is
--- its own state with its shares behind, and a call answers there what the day's call answers on that state. Assumes
--- nothing.
+-- R-3: the day's calls, lent a host's table, day list and hours, are the calls of the day's runs: what a run's host
+-- holds is its own state with its shares behind, and a call answers there what the day's call answers on that state.
+-- Assumes nothing.
 use mathlib.Core.Path.{_≡_}
 use mathlib.Core.List.{List}
 use Prim.Native.Nat.{ℕ}

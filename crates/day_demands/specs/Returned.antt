@@ -32,7 +32,8 @@ pub record DayReturned : Type 0 where
   pub of-run : (w : ℕ) (S : DaySetting) (cs : List Call) (v : World) → Run (day-staged w S) cs v
       → (u : DayWorld) × DayRun w S cs u × Same u v
   -- runs exist: where none of 12, 16, 17, 5, 6 and 7 is met, there are calls of a day that bring both hosts to the end
-  pub whole : (S : DaySetting) (buf : List ℕ) → PreparationIs (day-terms (S .table) 192 (S .hours)) (S .A) (S .B) buf 0 0
+  pub whole : (S : DaySetting) (buf : List ℕ)
+      → PreparationIs (day-terms (S .table) 192 (S .hours)) (S .A) (S .B) buf 0 0
       → (cs : List Call) × (u : DayWorld) × DayRun 32 S cs u × BothAtEnd u
   -- and a run, with its day accepted, after which no call can complete has brought both hosts to the end
   pub finishes : (S : DaySetting) (cs : List Call) (u : DayWorld) → DayRun 32 S cs u

@@ -13,7 +13,7 @@ use crate::Masks;
 use crate::Prepared;
 use crate::preparing::deal_job;
 use crate::preparing::registers;
-use calendars::Quarters;
+use call_check::Day;
 use call_check::check_day_dealer;
 use day_order::QUARTERS;
 use day_order::SHARE_SLOT;
@@ -29,8 +29,7 @@ use word_lists::put;
 fn deal_day(
     table: &[u32],
     shares: &[u32],
-    quarters: Quarters,
-    n: u32,
+    day: Day,
     a: &[u32],
     b: &[u32],
     l1: &mut [u32; 24],
@@ -38,16 +37,18 @@ fn deal_day(
     deals: &mut [u32],
 ) -> Used
     requires { ⌜ (length (now shares) ≡ 192) × (length (now l1) ≡ 24) × (length (now l2) ≡ 24)
-        × (n ≡ number (held quarters) 0 96)
-        × Room (now a) (now b) (day-steps 32 (now table) (held quarters)) (outset (now l1) (now l2) (now deals)) ⌝ }
+        × (day .n ≡ number (held (day .quarters)) 0 96)
+        × Room (now a) (now b) (day-steps 32 (now table) (held (day .quarters)))
+        (outset (now l1) (now l2) (now deals)) ⌝ }
     ensures long { λ r. ⌜ (length (now (l1 .exit)) ≡ 24) × (length (now (l2 .exit)) ≡ 24) ⌝ }
     ensures dealt { λ r.
         ⌜ dealer r (within 0 (first-tail (now (shares .entry))) (now (l1 .exit)))
         (within 0 (second-tail (now (shares .entry))) (now (l2 .exit))) (now (deals .exit))
-        ≡ deal-all (now (a .entry)) (now (b .entry)) (day-steps 32 (now (table .entry)) (held quarters))
+        ≡ deal-all (now (a .entry)) (now (b .entry)) (day-steps 32 (now (table .entry)) (held (day .quarters)))
         (outset (within 0 (first-tail (now (shares .entry))) (now (l1 .entry)))
         (within 0 (second-tail (now (shares .entry))) (now (l2 .entry))) (now (deals .entry))) ⌝ }
 {
+    let quarters = day.quarters;
     let mut used = Used {
         a: 0,
         b: 0,
@@ -60,7 +61,7 @@ fn deal_day(
             continue;
         }
         take_share(shares, o, l1, l2);
-        enter(o, n, l1, l2);
+        enter(o, day.n, l1, l2);
         let job = order_words(o);
         used = deal_job(&job, table, a, b, used, l1, l2, deals);
         leave(o, l1, l2);
@@ -98,19 +99,7 @@ pub fn prepare_day(
     }
     let mut l1 = [0u32; 24];
     let mut l2 = [0u32; 24];
-    let day = found.day;
-    let quarters = day.quarters;
-    let used = deal_day(
-        table,
-        shares,
-        quarters,
-        day.n,
-        a,
-        b,
-        &mut l1,
-        &mut l2,
-        deals,
-    );
+    let used = deal_day(table, shares, found.day, a, b, &mut l1, &mut l2, deals);
     put(&mut l1, SHARE_SLOT, 0);
     put(&mut l2, SHARE_SLOT, 0);
     let kept1 = registers(l1);

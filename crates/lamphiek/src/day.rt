@@ -88,7 +88,8 @@ pub extern "C" fn lamphiek_day_start(
         (now (masks .entry)) (now (deals .entry))) ⌝ }
     ensures state { λ r.
         ⌜ now (state .exit)
-        ≡ state-left (day-start 32 host (now (table .entry)) (now (shares .entry)) (hours (now (calendar .entry)) weekday)
+        ≡ state-left
+        (day-start 32 host (now (table .entry)) (now (shares .entry)) (hours (now (calendar .entry)) weekday)
         (now (masks .entry)) (now (deals .entry)))
         (now (state .entry)) ⌝ }
 {
@@ -116,7 +117,8 @@ pub extern "C" fn lamphiek_day_hear(
         (now (masks .entry)) (now (deals .entry)) (state-in (now (state .entry))) heard) ⌝ }
     ensures state { λ r.
         ⌜ now (state .exit)
-        ≡ state-left (day-hear 32 host (now (table .entry)) (now (shares .entry)) (hours (now (calendar .entry)) weekday)
+        ≡ state-left
+        (day-hear 32 host (now (table .entry)) (now (shares .entry)) (hours (now (calendar .entry)) weekday)
         (now (masks .entry)) (now (deals .entry)) (state-in (now (state .entry))) heard)
         (now (state .entry)) ⌝ }
 {

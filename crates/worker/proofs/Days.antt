@@ -1,6 +1,6 @@
 -- A day's order, begun or gone on with by the code of host 1 or 2 as its own order, gives what the day's walk gives; on plain values.
 -- Assumes nothing.
-use mathlib.Core.Path.{_≡_, sym, ap, ap₂, _∙_}
+use mathlib.Core.Path.{_≡_, refl, sym, ap, ap₂, _∙_}
 use mathlib.Core.Bool.{Bool, true, false, cond}
 use mathlib.Core.List.{List, [], _∷_, _++_, map}
 use Prim.Native.Nat.{ℕ, suc, _+_, _*_, _≤_, _<_}
@@ -46,11 +46,11 @@ use Rattle.days.proofs.Orders.{steps-whole, steps-within}
 use Rattle.days.proofs.Own.{own-job, own-at, own-length, own-spares}
 use Rattle.days.proofs.Heard as Heard
 use Rattle.days.proofs.Idle.{idle-walk}
-use Rattle.days.proofs.Places.{seek-far, used-before, found-in-day, nowhere-in-day}
+use Rattle.days.proofs.Places.{seek-far, used-before, found-in-day, nowhere-in-day, nowhere-left-out}
 use Rattle.worker.proofs.Places.{found-here}
 use Rattle.worker.specs.Answers.{state-with}
 use Rattle.worker.specs.Jobs.{Sized}
-use Rattle.worker.specs.Days.{few-counts, used-by, DayLent, DayPlace}
+use Rattle.worker.specs.Days.{few-counts, used-by, sought-run, DayLent, DayPlace}
 
 -- one curve's counts
 pub lent-few : (T S : List ℕ) (k : Cost) (f : ℕ → Bool) (n : ℕ) → DayLent T S k f n → few-counts k
@@ -92,21 +92,45 @@ own-steps : (w : ℕ) (table : List ℕ) (o i : ℕ)
 unfolding job-gates steps-from job-steps
 own-steps w table o i = rw (own-job o)
 
--- ---- the place that the code finds, from the order's words in hand
+-- ---- the place that the code finds
 
-module _ (T : List ℕ) (f : ℕ → Bool) (r : Rules T) (o x : ℕ) (in-day : o ≤ 96) (run : is-run f o ≡ true) (J : List ℕ) (eJ : J ≡ order-words o)
-    (ord : Order) (eo : ord ≡ order-at J 0) (g : Sought) (eg : g ≡ sought 32 (program 32 (rows T) ord) x 0 0 0) where
-  own-sought : g ≡ sought 32 (program 32 (rows T) (own-order o)) x 0 0 0
-  own-sought = eg ∙ ap (λ (q : Order). sought 32 (program 32 (rows T) q) x 0 0 0) (eo ∙ ap (λ (j : List ℕ). order-at j 0) eJ ∙ own-at o)
+-- from the order's words in hand
+pub own-sought : (T : List ℕ) (o x : ℕ) (J : List ℕ) → J ≡ order-words o → (ord : Order) → ord ≡ order-at J 0
+    → sought 32 (program 32 (rows T) ord) x 0 0 0 ≡ sought 32 (program 32 (rows T) (own-order o)) x 0 0 0
+own-sought T o x J eJ ord eo =
+    ap (λ (q : Order). sought 32 (program 32 (rows T) q) x 0 0 0) (eo ∙ ap (λ (j : List ℕ). order-at j 0) eJ ∙ own-at o)
 
+module _ (T : List ℕ) (f : ℕ → Bool) (o x : ℕ) (in-day : o ≤ 96) (g : Sought) (eg : g ≡ sought-run f T o x) where
   pub none-placed : g ≡ Nowhere → seek o x (day-steps 32 T f) origin ≡ nowhere
-  none-placed p = nowhere-in-day T f o x in-day run (sym own-sought ∙ p)
+  unfolding sought-run
+  none-placed p = go (is-run f o) refl (sym eg ∙ p)
+    where
+      go : (b : Bool) → is-run f o ≡ b → cond b (sought 32 (program 32 (rows T) (own-order o)) x 0 0 0) Nowhere ≡ Nowhere
+          → seek o x (day-steps 32 T f) origin ≡ nowhere
+      go true run e = nowhere-in-day T f o x in-day run e
+      go false idle e = nowhere-left-out T f o x in-day idle
 
-  pub placed-day : (i a n : ℕ) → g ≡ SoughtAt.Found i a n → (k u : Cost) → k ≡ curve-cost 0 (length (rows T)) → u ≡ used-by f k o
+  -- a place is found in an order that is run alone
+  found-run : (i a n : ℕ) → g ≡ SoughtAt.Found i a n
+      → (is-run f o ≡ true) × (sought 32 (program 32 (rows T) (own-order o)) x 0 0 0 ≡ SoughtAt.Found i a n)
+  unfolding sought-run
+  found-run i a n p = go (is-run f o) refl (sym eg ∙ p)
+    where
+      tag : Sought → ℕ
+      tag (SoughtAt.Found i a n) = 1
+      tag Nowhere = 0
+
+      go : (b : Bool) → is-run f o ≡ b → cond b (sought 32 (program 32 (rows T) (own-order o)) x 0 0 0) Nowhere ≡ SoughtAt.Found i a n
+          → (is-run f o ≡ true) × (sought 32 (program 32 (rows T) (own-order o)) x 0 0 0 ≡ SoughtAt.Found i a n)
+      go true run e = (run, e)
+      go false idle e = let z : _≡_ {A = ℕ} 0 1 = ap tag e in absurd (omega arith)
+
+  pub placed-day : Rules T → (i a n : ℕ) → g ≡ SoughtAt.Found i a n → (k u : Cost) → k ≡ curve-cost 0 (length (rows T)) → u ≡ used-by f k o
       → DayPlace T f o x i (u .a + a) (u .b + x) (u .deals + n)
   unfolding used-by
-  placed-day i a n p k u ek eu =
-      let s = sym own-sought ∙ p in
+  placed-day r i a n p k u ek eu =
+      let run = found-run i a n p .0 in
+      let s = found-run i a n p .1 in
       let q = found-in-day T f o x in-day run (λ z. few-gates (rows T) z (λ c. r .at-most)) i a n s in
       let e : sought 32 (program 32 (rows T) (order-at (order-words o) 0)) x 0 0 0 ≡ SoughtAt.Found i a n =
       ap (λ (z : Order). sought 32 (program 32 (rows T) z) x 0 0 0) (own-at o) ∙ s in

@@ -1,6 +1,6 @@
 -- What the code of a day goes by: what it is lent is checked, and a state's place is found. Assumes nothing.
 use mathlib.Core.Path.{_≡_}
-use mathlib.Core.Bool.{Bool, true}
+use mathlib.Core.Bool.{Bool, true, cond}
 use mathlib.Core.List.{List}
 use Prim.Native.Nat.{ℕ, _+_, _^_, _≤_, _<_}
 use lib.ListN.{length, drop}
@@ -14,7 +14,11 @@ use Rattle.walks.specs.Halts.{steps-from}
 use Rattle.programs.specs.Sizes.{times-cost}
 use Rattle.calendars.specs.Ranges.{number}
 use Rattle.days.specs.Day.{Hours, counting, day-factor, day-gates, day-steps}
-use Rattle.days.specs.Orders.{is-run, order-words, front}
+use Rattle.programs.specs.declared.Sought.{Sought}
+use Rattle.programs.specs.declared.Sought.the-variants.{Nowhere}
+use Rattle.programs.specs.Orders.{program}
+use Rattle.programs.specs.Seek.{sought}
+use Rattle.days.specs.Orders.{own-order, is-run, order-words, front}
 use Rattle.worker.specs.Jobs.{Standing}
 
 -- few enough that a day of them fits
@@ -24,6 +28,11 @@ few-counts k = (k .deals ≤ 1000) × (k .words ≤ 1000) × (k .a ≤ 1000) × 
 -- what the orders before q use, where f tells which quarters count
 unfoldable pub used-by : (f : ℕ → Bool) → Cost → (q : ℕ) → Cost
 used-by f k q = times-cost (number f 0 q) k
+
+-- where an order of a day has its x-th product or refresh, among the gates of the code's own order; one that is not run
+-- has none
+unfoldable pub sought-run : (f : ℕ → Bool) (table : List ℕ) (o x : ℕ) → Sought
+sought-run f T o x = cond (is-run f o) (sought 32 (program 32 (rows T) (own-order o)) x 0 0 0) Nowhere
 
 -- a table that keeps the rules, a day list, the counts of one curve, and how many quarters count
 pub record DayLent (table shares : List ℕ) (curve : Cost) (f : ℕ → Bool) (n : ℕ) : Type 0 where

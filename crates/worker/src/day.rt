@@ -7,7 +7,6 @@ ghost use lib.ListN.{length, drop};
 ghost use Rattle.tables.specs.Table.{rows};
 ghost use Rattle.gates.specs.Meaning.{job-steps};
 ghost use Rattle.gates.specs.Steps.{origin};
-ghost use Rattle.programs.specs.Sizes.{times-cost};
 ghost use Rattle.jobs.specs.Counts.{counted};
 ghost use Rattle.calls.specs.Calls as Calls;
 ghost use Rattle.calls.specs.Lent.{lent, lent-fault, worker-with};
@@ -19,58 +18,32 @@ ghost use Rattle.days.specs.Day.{hours, day-gates, day-steps, day-script};
 ghost use Rattle.days.specs.DayCalls.{day-start, day-hear};
 ghost use Rattle.days.specs.Orders.{is-run, within, first-tail, second-tail};
 ghost use Rattle.worker.specs.Answers.{answer-of, state-of, state-with};
-ghost use Rattle.worker.specs.Days.{DayLent, DayPlace, SameDay, few-counts, used-by};
+ghost use Rattle.worker.specs.Days.{DayLent, DayPlace, SameDay, used-by};
 use crate::Answer;
 use crate::State;
 use crate::answering::answered;
 use crate::answering::refused;
+use crate::day_place::place_in;
+use crate::day_place::used_before;
 use crate::hearing::end_fault;
 use crate::hearing::reach_of;
 use crate::hearing::resume;
 use crate::walk::Halt;
 use crate::walk::advance;
 use crate::walk::halted;
-use calendars::counted_before;
 use calendars::next_counted;
 use call_check::Day;
 use call_check::check_day_lent;
 use day_order::QUARTERS;
 use day_order::SHARE_SLOT;
 use day_order::enter;
-use day_order::is_run;
 use day_order::leave;
 use day_order::order_words;
 use day_order::take_share;
-use job_order::order_at;
-use jobs::Counts;
-use program_seek::seek;
 use programs::Sought;
 use word_lists::at;
 use word_lists::put;
 use worker_gate::Reach;
-
-// What n quarters use, each of them a curve.
-fn used_by(curve: Counts, n: u32) -> Counts
-    requires { ⌜ few-counts (counted curve) × (n ≤ 96) ⌝ }
-    ensures { λ r. ⌜ counted r ≡ times-cost n (counted curve) ⌝ }
-{
-    Counts {
-        deals: curve.deals * n,
-        words: curve.words * n,
-        a: curve.a * n,
-        b: curve.b * n,
-    }
-}
-
-// What the orders before one use: the quarters that count.
-fn used_before(day: Day, order: u32) -> Counts
-    requires { ⌜ few-counts (counted (day .curve)) × (order ≤ 96) ⌝ }
-    ensures { λ r. ⌜ counted r ≡ used-by (held (day .quarters)) (counted (day .curve)) order ⌝ }
-{
-    let quarters = day.quarters;
-    let curve = day.curve;
-    used_by(curve, counted_before(quarters, order))
-}
 
 // From the first gate of an order to its first product, on the lanes in place.
 fn begin(
@@ -324,16 +297,11 @@ fn hear_parts(
         return refused(number, 0, state(m, mask, order, turn));
     }
     let day = lent.day;
-    let quarters = day.quarters;
-    if !is_run(quarters, order) {
-        return refused(8, 0, state(m, mask, order, turn));
-    }
-    let job = order_words(order);
     let Sought::Found {
         gate,
         a,
         deals: dealt,
-    } = seek(order_at(&job, 0), table, turn)
+    } = place_in(day, table, order, turn)
     else {
         return refused(8, 0, state(m, mask, order, turn));
     };

@@ -1,6 +1,7 @@
 // Starting and hearing: hosts 1 and 2 stepped word by word through the gates of a job, or of a day.
 mod answering;
 mod day;
+mod day_place;
 mod hearing;
 mod starting;
 mod walk;

@@ -14,17 +14,17 @@ use Rattle.dealer.proofs.day.deal_day.Statement.{statement}
 use Rattle.dealer.proofs.day.deal_day.Tie as tie
 
 abbrev Inv-loop : tie.InvT-loop
-Inv-loop table shares quarters n a b l1₀ l2₀ deals₀ used₀ o₀ l1 l2 deals used o =
-    Reached a b shares 32 table (held quarters) (outset l1₀ l2₀ deals₀) o (dealer used l1 l2 deals)
+Inv-loop table shares day a b l1₀ l2₀ deals₀ quarters used₀ o₀ l1 l2 deals used o =
+    Reached a b shares 32 table (held (day .quarters)) (outset l1₀ l2₀ deals₀) o (dealer used l1 l2 deals)
 
 abbrev μ-loop : tie.MeasureT-loop
-μ-loop table shares quarters n a b l1₀ l2₀ deals₀ used₀ o₀ l1 l2 deals used o = 97 - o
+μ-loop table shares day a b l1₀ l2₀ deals₀ quarters used₀ o₀ l1 l2 deals used o = 97 - o
 
 loop-holds : tie.Need-loop-holds Inv-loop μ-loop
 loop-holds c =
-    let e = c .before .before .before .before .before in
+    let e = c .before .before .before .before .before .before in
     let s = e .args in
-    day-begins (now (s .a)) (now (s .b)) (now (s .shares)) 32 (now (s .table)) (held (s .quarters))
+    day-begins (now (s .a)) (now (s .b)) (now (s .shares)) 32 (now (s .table)) (held (s .day .quarters))
     (outset (now (s .l1)) (now (s .l2)) (now (s .deals))) (e .pre .4) (e .pre .1) (e .pre .2)
 
 is-run-requires : tie.Need-is-run-requires Inv-loop μ-loop
@@ -42,8 +42,8 @@ loop-again c =
     let r = c .before in
     let q = r .before in
     let l = q .before .loop in
-    let s = q .before .before .before .before .before .before .before .args in
-    order-idle (now (s .a)) (now (s .b)) (now (s .shares)) 32 (now (s .table)) (held (s .quarters))
+    let s = q .before .before .before .before .before .before .before .before .args in
+    order-idle (now (s .a)) (now (s .b)) (now (s .shares)) 32 (now (s .table)) (held (s .day .quarters))
     (outset (now (s .l1)) (now (s .l2)) (now (s .deals))) (l .o) (dealer (l .used) (l .l1) (l .l2) (l .deals))
     (omega (arith, q .loop-test .taken)) (sym (r .is-run .ensures) ∙ not-true _ (c .if1 .taken)) (l .inv)
 
@@ -66,9 +66,9 @@ deal-job-requires c κs =
     let r = x .before in
     let q = r .before in
     let l = q .before .loop in
-    let s = q .before .before .before .before .before .before .before .args in
+    let s = q .before .before .before .before .before .before .before .before .args in
     let i : l .o ≤ 96 = omega (arith, q .loop-test .taken) in
-    order-room (now (s .a)) (now (s .b)) (now (s .shares)) 32 (now (s .table)) (held (s .quarters))
+    order-room (now (s .a)) (now (s .b)) (now (s .shares)) 32 (now (s .table)) (held (s .day .quarters))
     (outset (now (s .l1)) (now (s .l2)) (now (s .deals)))
     (l .o) i (sym (r .is-run .ensures) ∙ not-false _ (x .if1 .left)) _ (w .order-words .ensures) (l .used) (l .l1) (l .l2) (l .deals) (l .inv) _ _
 
@@ -91,11 +91,11 @@ loop-again-2 c =
     let r = x .before in
     let q = r .before in
     let l = q .before .loop in
-    let e = q .before .before .before .before .before .before .before in
+    let e = q .before .before .before .before .before .before .before .before in
     let s = e .args in
     let i : l .o ≤ 96 = omega (arith, q .loop-test .taken) in
-    let k = factor-tabled (held (s .quarters)) (s .n) (e .pre .3) in
-    order-done (now (s .a)) (now (s .b)) (now (s .shares)) 32 (now (s .table)) (held (s .quarters))
+    let k = factor-tabled (held (s .day .quarters)) (s .day .n) (e .pre .3) in
+    order-done (now (s .a)) (now (s .b)) (now (s .shares)) 32 (now (s .table)) (held (s .day .quarters))
     (outset (now (s .l1)) (now (s .l2)) (now (s .deals)))
     (l .o) i (sym (r .is-run .ensures) ∙ not-false _ (x .if1 .left)) _ (w .order-words .ensures) (l .used) (l .l1) (l .l2) (l .deals) (l .inv)
     (e .pre .0) _ _
@@ -109,11 +109,11 @@ same-length c = c .before .loop .inv .midway .size
 returns : tie.Need-returns Inv-loop μ-loop
 returns c =
     let l = c .before .loop in
-    let s = c .before .before .before .before .before .before .before .args in
+    let s = c .before .before .before .before .before .before .before .before .args in
     let d = dealer (l .used) (l .l1) (l .l2) (l .deals) in
     let over : 96 < l .o = omega (arith, c .loop-test .left) in (
       (l .inv .long₁, l .inv .long₂),
-      day-done (now (s .a)) (now (s .b)) (now (s .shares)) 32 (now (s .table)) (held (s .quarters))
+      day-done (now (s .a)) (now (s .b)) (now (s .shares)) 32 (now (s .table)) (held (s .day .quarters))
           (outset (now (s .l1)) (now (s .l2)) (now (s .deals))) (l .o) d over (l .inv),
     )
 

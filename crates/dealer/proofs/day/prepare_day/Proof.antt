@@ -46,7 +46,7 @@ found-day c =
 
 deal-day-requires : tie.Need-deal-day-requires
 deal-day-requires c κs =
-    let f = c .before .before .before .before .before in
+    let f = c .before .before .before in
     let d = f .before .before in
     let s = d .before .before .before .before .before .before .before .before .args in
     let H = hours (now (s .calendar)) (s .weekday) in (
@@ -69,10 +69,10 @@ registers-requires c κs = search needs
 registers-requires-2 : tie.Need-registers-requires-2
 registers-requires-2 c κs = search needs
 
-cast-t30 : tie.Need-cast-t30
-cast-t30 c =
+cast-t28 : tie.Need-cast-t28
+cast-t28 c =
     let j = c .before .before .before .before .before .before .before .before .before in
-    let f = j .before .before .before .before .before .before in
+    let f = j .before .before .before .before in
     let s = f .before .before .before .before .before .before .before .before .before .before .args in
     omega (
       arith,
@@ -88,7 +88,7 @@ returns-2 c =
     let r = c .before .before in
     let p = r .before .before .before in
     let j = p .before .before .before .before in
-    let f = j .before .before .before .before .before .before in
+    let f = j .before .before .before .before in
     let s = f .before .before .before .before .before .before .before .before .before .before .args in
     day-answer (now (s .table)) (now (s .shares)) (hours (now (s .calendar)) (s .weekday)) (now (s .a)) (now (s .b)) (now (s .deals)) (faultless f) _
     (found-day f) _ _ _ _ (j .deal-day .ensures .1) (j .deal-day .ensures .0 .0) (j .deal-day .ensures .0 .1)
@@ -106,6 +106,6 @@ prepare-day-spec =
     put-requires-2
     registers-requires
     registers-requires-2
-    cast-t30
+    cast-t28
     same-length-2
     returns-2)

@@ -1,16 +1,12 @@
-use mathlib.Core.Path.{_≡_, sym, ap, _∙_}
-use mathlib.Core.Bool.{Bool, true}
+use mathlib.Core.Path.{sym, ap, _∙_}
 use Prim.Native.Nat.{ℕ, _+_}
 use native.Mathlib.Omega.{arith}
-use borrow.Author.Tests.{not-true, not-false}
 use denote.Ref.{now}
 use Rattle.jobs.specs.Job.{Fault}
 use Rattle.jobs.specs.Counts.{counted}
 use Rattle.calls.specs.Calls.{refused}
 use Rattle.calendars.specs.Quarters.{held}
 use Rattle.days.specs.Day.{hours}
-use Rattle.days.specs.Orders.{is-run}
-use Rattle.days.proofs.Places.{nowhere-left-out}
 use Rattle.worker.specs.Answers.{state-with}
 use Rattle.worker.specs.Days.{DayLent, DayPlace, SameDay}
 use Rattle.worker.proofs.Days.{lent-few, none-placed, placed-day, place-at}
@@ -92,8 +88,14 @@ same-there c =
     same-day (a .host) (now (a .table)) (now (a .shares)) (hours (now (a .calendar)) (a .weekday)) (now (a .masks)) (now (a .deals)) _
     (cd .check-day-lent .ensures .0) (el .if1 .left) _ (cd .check-day-lent .ensures .1)
 
-is-run-requires : tie.Need-is-run-requires
-is-run-requires c κs = search needs
+place-in-requires : tie.Need-place-in-requires
+place-in-requires c κs = search needs
+
+enum-known-gate : tie.Need-enum-known-gate
+enum-known-gate c = search needs
+
+enum-told : tie.Need-enum-told
+enum-told c = search needs
 
 state-requires-3 : tie.Need-state-requires-3
 state-requires-3 c κs = search needs
@@ -101,13 +103,12 @@ state-requires-3 c κs = search needs
 refused-requires-3 : tie.Need-refused-requires-3
 refused-requires-3 c κs = search needs
 
--- a quarter that is left out
 returns-3 : tie.Need-returns-3
 returns-3 c =
     let t = c .before in
-    let th = t .before in
-    let ir = th .before in
-    let e2 = ir .before .before .before in
+    let et = t .before in
+    let pi = et .before .before in
+    let e2 = pi .before .before in
     let el = e2 .before in
     let cd = el .before .before in
     let s = cd .before .before .before .before .before .before in
@@ -117,68 +118,18 @@ returns-3 c =
     ∙ hear-nowhere (a .host) (now (a .table)) (now (a .shares)) (hours (now (a .calendar)) (a .weekday)) (now (a .masks)) (now (a .deals)) _
     (cd .check-day-lent .ensures .0) (state-with (a .m) (a .mask) (a .order) (a .turn)) (omega (arith, s .good)) (omega (arith, s .good)) (a .heard)
     (el .if1 .left) f (same-there e2)
-    (nowhere-left-out (now (a .table)) f (a .order) (a .turn) (omega (arith, e2 .if2 .left)) (sym (ir .is-run .ensures) ∙ not-true _ (th .if3 .taken)))
-
--- the order is run
-runs-there : (c : tie.Else3) → _≡_ {A = Bool} (is-run (held (c .before .before .before .before .before .before .before .check-day-lent .result .day .quarters))
-    (c .before .before .before .before .before .before .before .before .before .before .before .before .before .args .order)) true
-runs-there c = sym (c .before .is-run .ensures) ∙ not-false _ (c .if3 .left)
-
-order-words-requires : tie.Need-order-words-requires
-order-words-requires c κs = search needs
-
-slice-aggregate-order-at : tie.Need-slice-aggregate-order-at
-slice-aggregate-order-at c = search needs
-
-order-at-requires : tie.Need-order-at-requires
-order-at-requires c κs = search needs
-
-seek-requires : tie.Need-seek-requires
-seek-requires c κs = search needs
-
-enum-known-gate : tie.Need-enum-known-gate
-enum-known-gate c = search needs
-
-enum-told : tie.Need-enum-told
-enum-told c = search needs
-
-state-requires-4 : tie.Need-state-requires-4
-state-requires-4 c κs = search needs
-
-refused-requires-4 : tie.Need-refused-requires-4
-refused-requires-4 c κs = search needs
-
-returns-4 : tie.Need-returns-4
-returns-4 c =
-    let t = c .before in
-    let et = t .before in
-    let sk = et .before .before in
-    let oa = sk .before in
-    let ow = oa .before .before in
-    let e3 = ow .before in
-    let e2 = e3 .before .before .before .before in
-    let el = e2 .before in
-    let cd = el .before .before in
-    let s = cd .before .before .before .before .before .before in
-    let a = s .args in
-    let f = held (cd .check-day-lent .result .day .quarters) in
-    c .refused4 .ensures ∙ ap (refused _) (t .state4 .ensures)
-    ∙ hear-nowhere (a .host) (now (a .table)) (now (a .shares)) (hours (now (a .calendar)) (a .weekday)) (now (a .masks)) (now (a .deals)) _
-    (cd .check-day-lent .ensures .0) (state-with (a .m) (a .mask) (a .order) (a .turn)) (omega (arith, s .good)) (omega (arith, s .good)) (a .heard)
-    (el .if1 .left) f (same-there e2)
-    (none-placed (now (a .table)) f (lent-there e2 .ruled) (a .order) (a .turn) (omega (arith, e2 .if2 .left)) (runs-there e3) _
-    (ow .order-words .ensures) _ (oa .order-at .ensures) _ (sk .seek .ensures .is) (et .enum-told .given .1))
+    (none-placed (now (a .table)) f (a .order) (a .turn) (omega (arith, e2 .if2 .left)) _ (pi .place-in .ensures) (et .enum-told .given .1))
 
 used-before-requires : tie.Need-used-before-requires
 used-before-requires c κs =
-    let e2 = c .before .before .before .before .before .before .before .before .before .before .before in
+    let e2 = c .before .before .before .before .before in
     (lent-few _ _ _ _ _ (lent-there e2), omega (arith, e2 .if2 .left))
 
 -- the place that was found, with what the orders before it use
 placed : (c : tie.After-used-before)
     → let kt = c .before in
     let g = kt .before .gate .given .0 in
-    let e2 = kt .before .before .before .before .before .before .before .before .before .before .before in
+    let e2 = kt .before .before .before .before .before in
     let cd = e2 .before .before .before in
     let a = cd .before .before .before .before .before .before .args in
     let u = c .used-before .result in
@@ -186,18 +137,14 @@ placed : (c : tie.After-used-before)
     (u .deals + g .1 .1 .0)
 placed c =
     let kt = c .before in
-    let sk = kt .before .before .before in
-    let oa = sk .before in
-    let ow = oa .before .before in
-    let e3 = ow .before in
-    let e2 = e3 .before .before .before .before in
+    let pi = kt .before .before .before in
+    let e2 = pi .before .before in
     let cd = e2 .before .before .before in
     let a = cd .before .before .before .before .before .before .args in
     let d = cd .check-day-lent .result .day in
     let L = lent-there e2 in
-    placed-day (now (a .table)) (held (d .quarters)) (L .ruled) (a .order) (a .turn) (omega (arith, e2 .if2 .left)) (runs-there e3) _
-    (ow .order-words .ensures) _ (oa .order-at .ensures) _ (sk .seek .ensures .is) _ _ _ (kt .before .gate .given .1) (counted (d .curve))
-    (counted (c .used-before .result)) (L .counts) (c .used-before .ensures)
+    placed-day (now (a .table)) (held (d .quarters)) (a .order) (a .turn) (omega (arith, e2 .if2 .left)) _ (pi .place-in .ensures) (L .ruled) _ _ _
+    (kt .before .gate .given .1) (counted (d .curve)) (counted (c .used-before .result)) (L .counts) (c .used-before .ensures)
 
 reach-of-requires : tie.Need-reach-of-requires
 reach-of-requires c κs = (placed c .few-a, placed c .few-deals)
@@ -212,7 +159,7 @@ hear-there-requires : tie.Need-hear-there-requires
 hear-there-requires c κs =
     let ro = c .before in
     let ub = ro .before in
-    let e2 = ub .before .before .before .before .before .before .before .before .before .before .before .before in
+    let e2 = ub .before .before .before .before .before .before in
     let el = e2 .before in
     let cd = el .before .before in
     let r = ro .reach-of .ensures in (
@@ -222,8 +169,8 @@ hear-there-requires c κs =
       ap {B = Fault} (λ (n : ℕ). (n, 0)) (sym (el .if1 .left)) ∙ cd .check-day-lent .ensures .0,
     )
 
-returns-5 : tie.Need-returns-5
-returns-5 c = search needs
+returns-4 : tie.Need-returns-4
+returns-4 c = search needs
 
 pub hear-parts-spec : {M : Type 1} → statement M
 hear-parts-spec =
@@ -239,22 +186,15 @@ hear-parts-spec =
     state-requires-2
     refused-requires-2
     returns-2
-    is-run-requires
+    place-in-requires
+    enum-known-gate
+    enum-told
     state-requires-3
     refused-requires-3
     returns-3
-    order-words-requires
-    slice-aggregate-order-at
-    order-at-requires
-    seek-requires
-    enum-known-gate
-    enum-told
-    state-requires-4
-    refused-requires-4
-    returns-4
     used-before-requires
     reach-of-requires
     cast-b
     add-b
     hear-there-requires
-    returns-5)
+    returns-4)

@@ -2,8 +2,8 @@ use mathlib.Core.Path.{refl}
 use native.Mathlib.Omega.{arith}
 use Rattle.programs.specs.Sizes.{times-cost}
 use Rattle.days.proofs.Counts.{few-words}
-use Rattle.worker.proofs.day.used_by.Statement.{statement}
-use Rattle.worker.proofs.day.used_by.Tie as tie
+use Rattle.worker.proofs.day_place.used_by.Statement.{statement}
+use Rattle.worker.proofs.day_place.used_by.Tie as tie
 
 mul-t3 : tie.Need-mul-t3
 mul-t3 c = let s = c .before in omega (arith, few-words (s .args .curve .deals) (s .args .n) (s .pre .0 .0) (s .pre .1))

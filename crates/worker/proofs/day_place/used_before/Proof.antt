@@ -7,8 +7,8 @@ use Rattle.calendars.specs.Quarters.{held}
 use Rattle.calendars.proofs.Counting.{number-le}
 use Rattle.worker.specs.Days.{used-by}
 use borrow.Author.Needs.{needs}
-use Rattle.worker.proofs.day.used_before.Statement.{statement}
-use Rattle.worker.proofs.day.used_before.Tie as tie
+use Rattle.worker.proofs.day_place.used_before.Statement.{statement}
+use Rattle.worker.proofs.day_place.used_before.Tie as tie
 
 counted-before-requires : tie.Need-counted-before-requires
 counted-before-requires c κs = search needs
