@@ -1,4 +1,4 @@
-/* Document 01's engine, with R-1, R-3, R-4 and R-6, written by hand in C: the same calls and obligations as the proved
+/* Document 01's engine, with R-1 and R-3 to R-6, written by hand in C: the same calls and obligations as the proved
  * engine. */
 #ifndef ENGINE_H
 #define ENGINE_H

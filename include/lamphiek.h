@@ -252,7 +252,8 @@ lamphiek_answer lamphiek_hear(lamphiek_state *state, uint32_t host, const uint32
  * floor(65536 / n), truncated exactly by 16. It is a little low where n does not divide 65536: of 96 quarters the
  * factor is 682, and 682 * 96 is 65472, so that 96 quarters of 4249 open 4244. A quarter above the table's last count
  * enters the sum as -1 and is counted as above. One that is left out is run by no host, needs no masks or deals and is
- * never counted as above; its share stands in the list all the same, and makes no difference.
+ * never counted as above; its share stands in the list all the same, and makes no difference. On a weekday of which no
+ * quarter counts there is no day: every call is refused (17) and uses no mask word.
  *
  * There is no job, and registers start at zero: as a quarter ends, register 0 gets the sum (at the end the mean) and
  * register 1 how many were above. That alone says whether readings are missing: with some the mean need not be -1, and

@@ -35,7 +35,7 @@ static void refuse_calendar(struct given g, const uint32_t *calendar, size_t wor
     refuse_day(poor, 0, number);
 }
 
-/* Whatever the calendar is: the weekday is none. Whatever it is: the calendar is of another length. */
+/* A weekday that is none, on a sound calendar; a calendar of another length, on weekdays 0 to 7. */
 static void refuse_weekdays_and_lengths(struct given g)
 {
     static const uint32_t weekdays[] = {7, 8, 32, 1u << 31, UINT32_MAX};
@@ -216,6 +216,7 @@ static void refuse_left_out(struct list table)
     uint32_t *d = WRITABLE(uint32_t, deals);
     IS(DAY_PREPARE, lamphiek_day_prepare(k, DAY(g), LIST(g.a), LIST(g.b), d, room - 1), LAMPHIEK_SHORT_DEALS, 0);
     IS(DAY_START, lamphiek_day_start(WRITABLE(lamphiek_state, state), DAY_HOST(fewer, 2)), LAMPHIEK_SHORT_DEALS, 0);
+    IS(DAY_HEAR, lamphiek_day_hear(WRITABLE(lamphiek_state, state), DAY_HOST(fewer, 2), 7), LAMPHIEK_SHORT_DEALS, 0);
     for (uint32_t host = 1; host <= 2; host++) {
         for (size_t i = 0; i < LEFT_OUT_PLACES; i++)
             IS(DAY_HEAR, lamphiek_day_hear(WRITABLE(lamphiek_state, left_out[i]), DAY_HOST(g, host), 7), LAMPHIEK_PLACE,

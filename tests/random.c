@@ -282,8 +282,8 @@ static void round_of_days(void)
         round_of_whole_day(2 + below(7), which < 99 ? 0 : LAMPHIEK_QUARTERS);
 }
 
-/* What comes once: the lists of 2^32 words, what needs most, and days of each number of quarters, which each has its
- * factor of the mean: it shows less where they are few. */
+/* What comes once: the lists of 2^32 words, what needs most, and days of each number of quarters, since each number has
+ * its own factor; more of those with few quarters, where it shows less. */
 static void first_rounds(void)
 {
     if (!round_of_long_lists())

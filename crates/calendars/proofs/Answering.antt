@@ -10,7 +10,7 @@ use lib.Count.{ones}
 use Rattle.calendars.specs.declared.Quarters.{Quarters}
 use Rattle.calendars.specs.Ranges.{every}
 use Rattle.calendars.specs.Calendar.{open-windows, cleaning-windows, sound-day, sound, counts, counted-quarters, calendar-number}
-use Rattle.calendars.specs.Quarters.{three}
+use Rattle.calendars.specs.Quarters.{quarters-where}
 use Rattle.calendars.specs.Answers.{refused, counted, Readable}
 use Rattle.calendars.proofs.Ranges.{every-below}
 use Rattle.calendars.proofs.Days.{day-tests}
@@ -67,7 +67,7 @@ module _ (c : List ℕ) (d : ℕ) where
           cleans = leb-true (cleaning-windows c d) 4 (day-tests c d day-sound .1);
         }
 
-        module _ {q : Quarters} (is-q : q ≡ three (counts c d)) where
+        module _ {q : Quarters} (is-q : q ≡ quarters-where (counts c d)) where
           abbrev sum : ℕ
           sum = ones (q .low) + ones (q .middle) + ones (q .high)
 

@@ -13,7 +13,7 @@ use Rattle.words.specs.Words.{bit}
 use Rattle.calendars.specs.declared.Quarters.{Quarters}
 use Rattle.calendars.specs.Ranges.{digit, number, next, packed}
 use Rattle.calendars.specs.Calendar.{calendar-number, factor}
-use Rattle.calendars.specs.Quarters.{held, three}
+use Rattle.calendars.specs.Quarters.{held, quarters-where}
 use Rattle.calendars.specs.Answers.{refused, accepted, counted}
 use Rattle.calendars.proofs.Packing.{bit-packed}
 
@@ -126,8 +126,8 @@ module _ (x : Quarters) (q : ℕ) where
   in-none l = rw (le-ltb q 32 (omega arith), le-ltb q 64 (omega arith), le-ltb q 96 l)
 
 -- the bits of a test are the test
-pub held-three : (f : ℕ → Bool) (q : ℕ) → q < 96 → held (three f) q ≡ f q
-held-three f q h = go (ltb q 32) (ltb q 64) refl refl
+pub held-where : (f : ℕ → Bool) (q : ℕ) → q < 96 → held (quarters-where f) q ≡ f q
+held-where f q h = go (ltb q 32) (ltb q 64) refl refl
   where
     digit-is : (b : Bool) → eqb (digit b) 1 ≡ b
     digit-is true = refl
@@ -136,17 +136,17 @@ held-three f q h = go (ltb q 32) (ltb q 64) refl refl
     word : (p i : ℕ) → i < 32 → p + i ≡ q → eqb (bit (packed f p 32) i) 1 ≡ f q
     word p i l e = ap (λ (x : ℕ). eqb x 1) (bit-packed f p 32 i l) ∙ digit-is (f (p + i)) ∙ ap f e
 
-    go : (a b : Bool) → ltb q 32 ≡ a → ltb q 64 ≡ b → held (three f) q ≡ f q
+    go : (a b : Bool) → ltb q 32 ≡ a → ltb q 64 ≡ b → held (quarters-where f) q ≡ f q
     go true b s t =
         let l : q < 32 = ltb-true q 32 s in
-        sym (in-low (three f) q l) ∙ word 0 q l (omega arith)
+        sym (in-low (quarters-where f) q l) ∙ word 0 q l (omega arith)
     go false true s t =
         let m : 32 ≤ q = ltb-false q 32 s in
         let l : q < 64 = ltb-true q 64 t in
-        sym (in-middle (three f) q m l) ∙ word 32 (q - 32) (omega arith) (omega arith)
+        sym (in-middle (quarters-where f) q m l) ∙ word 32 (q - 32) (omega arith) (omega arith)
     go false false s t =
         let m : 64 ≤ q = ltb-false q 64 t in
-        sym (in-high (three f) q m h) ∙ word 64 (q - 64) (omega arith) (omega arith)
+        sym (in-high (quarters-where f) q m h) ∙ word 64 (q - 64) (omega arith) (omega arith)
 
 -- ---- the factor
 

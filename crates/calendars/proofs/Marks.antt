@@ -10,7 +10,7 @@ use lib.Dec.{leb, ltb}
 use Rattle.calendars.specs.declared.Quarters.{Quarters}
 use Rattle.calendars.specs.Ranges.{some, packed}
 use Rattle.calendars.specs.Calendar.{open-windows, cleaning-windows, open-at, cleaning-at, start, end, first-minute, in-window, lies, in-open, in-cleaning, counts}
-use Rattle.calendars.specs.Quarters.{three, Ruled}
+use Rattle.calendars.specs.Quarters.{quarters-where, Ruled}
 use Rattle.calendars.proofs.Ranges.{some-more}
 use Rattle.calendars.proofs.Packing.{packed-none, packed-same, packed-or, quarters-held}
 
@@ -32,7 +32,7 @@ module _ (c : List ℕ) (at : ℕ) where
         ∙ packed-same (λ k. lies c at i k || (leb s k && ltb k e)) (lies c at (i + 1)) one-more q 32
 
   pub all-marks : {i n x y z : ℕ} → i ≤ n → n ≤ i → x ≡ packed (lies c at i) 0 32 → y ≡ packed (lies c at i) 32 32 → z ≡ packed (lies c at i) 64 32
-      → record { low = x; middle = y; high = z } ≡ three (lies c at n)
+      → record { low = x; middle = y; high = z } ≡ quarters-where (lies c at n)
   all-marks {i} {n} h l p r t = let a : i ≡ n = omega arith in rw (p, r, t, a)
 
 module _ (c : List ℕ) (d : ℕ) where
@@ -46,10 +46,10 @@ module _ (c : List ℕ) (d : ℕ) where
   unfolding counts in-open in-cleaning
   ruled q law p r = law opens cleans q p r
 
-  pub by-rule : {opened cleaned : Quarters} → opened ≡ three (lies c (open-at d) (open-windows c d))
-      → cleaned ≡ three (lies c (cleaning-at d) (cleaning-windows c d)) → {x y z : ℕ}
+  pub by-rule : {opened cleaned : Quarters} → opened ≡ quarters-where (lies c (open-at d) (open-windows c d))
+      → cleaned ≡ quarters-where (lies c (cleaning-at d) (cleaning-windows c d)) → {x y z : ℕ}
       → Ruled (opened .low) (cleaned .low) x → Ruled (opened .middle) (cleaned .middle) y → Ruled (opened .high) (cleaned .high) z
-      → record { low = x; middle = y; high = z } ≡ three (counts c d)
+      → record { low = x; middle = y; high = z } ≡ quarters-where (counts c d)
   by-rule p r {x} {y} {z} is-x is-y is-z =
       let low : x ≡ packed (counts c d) 0 32 = ruled 0 is-x (ap (λ (s : Quarters). s .low) p) (ap (λ (s : Quarters). s .low) r) in
       let middle : y ≡ packed (counts c d) 32 32 = ruled 32 is-y (ap (λ (s : Quarters). s .middle) p) (ap (λ (s : Quarters). s .middle) r) in

@@ -14,7 +14,7 @@ use Rattle.calendars.specs.Answers.{refused, accepted, counted}
 use Rattle.calendars.specs.Hours.{Sound, Counts, HoursNumbered, unsound, closed, opened}
 use Rattle.calendars.specs.OpeningHours.{OpeningHours}
 use Rattle.calendars.proofs.Tests.{Found, number-found, found-number}
-use Rattle.calendars.proofs.Counting.{number-le, number-all, held-three, factor-bound, factor-above, whole-factor, answered, turned}
+use Rattle.calendars.proofs.Counting.{number-le, number-all, held-where, factor-bound, factor-above, whole-factor, answered, turned}
 use Rattle.calendars.proofs.Calendars.{rules, quarter}
 use Rattle.calendars.proofs.Answering.{number-16, number-17, number-0}
 
@@ -24,6 +24,10 @@ false-true e = let z : _≡_ {A = ℕ} 0 1 = ap digit e in omega arith
 zero-or-not : (n : ℕ) (P : Type 0) → (n ≡ 0 → P) → ((n ≡ 0 → ⊥) → P) → P
 zero-or-not zero P f g = f refl
 zero-or-not (suc n) P f g = g (λ z. absurd (omega arith))
+
+untested : (b : Bool) → (b ≡ true → ⊥) → b ≡ false
+untested true h = absurd (h refl)
+untested false h = refl
 
 module _ (c : List ℕ) (d : ℕ) where
   abbrev total : ℕ
@@ -84,7 +88,7 @@ module _ (c : List ℕ) (d : ℕ) where
   bits : counted c d .number ≡ 0 → (q : ℕ) → q < 96 → (held (counted c d .quarters) q ≡ true) ↔ Counts c d q
   bits e q l =
       let p : held (counted c d .quarters) q ≡ counts c d q
-      = ap (λ (r : Counted). held (r .quarters) q) (accepts e) ∙ held-three (counts c d) q l in
+      = ap (λ (r : Counted). held (r .quarters) q) (accepts e) ∙ held-where (counts c d) q l in
       (λ t. quarter c d q .0 (sym p ∙ t), λ o. p ∙ quarter c d q .1 o)
 
   how-many : counted c d .number ≡ 0 → counted c d .n ≡ total
@@ -115,6 +119,9 @@ pub opening-hours : OpeningHours
 opening-hours = record {
   rules = rules;
   quarter = quarter;
+  open-counts = λ c d q o. quarter c d q .1 o;
+  otherwise = λ c d q n. untested (counts c d q) (λ e. n (quarter c d q .0 e));
+  cleaning-only = λ c d q k n. untested (counts c d q) (λ e. n (quarter c d q .0 e));
   numbered = numbered;
   one-number = λ c d m n p r. sym (has-number c d m p) ∙ has-number c d n r;
   answers = answers;

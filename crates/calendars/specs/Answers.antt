@@ -7,7 +7,7 @@ use lib.Dec.{eqb}
 use lib.ListN.{length}
 use Rattle.calendars.specs.declared.answers.Counted.{Counted}
 use Rattle.calendars.specs.Calendar.{counts, counted-quarters, calendar-number, open-windows, cleaning-windows}
-use Rattle.calendars.specs.Quarters.{three}
+use Rattle.calendars.specs.Quarters.{quarters-where}
 
 -- a number, and all else 0
 abbrev pub refused : ℕ → Counted
@@ -15,7 +15,7 @@ refused k = record { number = k; quarters = record { low = 0; middle = 0; high =
 
 -- which quarters count, and how many
 abbrev pub accepted : List ℕ → ℕ → Counted
-accepted c d = record { number = 0; quarters = three (counts c d); n = counted-quarters c d }
+accepted c d = record { number = 0; quarters = quarters-where (counts c d); n = counted-quarters c d }
 
 unfoldable pub counted : List ℕ → ℕ → Counted
 counted c d = cond (eqb (calendar-number c d) 0) (accepted c d) (refused (calendar-number c d))

@@ -1,19 +1,24 @@
 -- R-6 of a calendar, for every list and every weekday: the check's number, which quarters count and how many, the
 -- factor. Assumes nothing.
 use mathlib.Core.Path.{_≡_}
-use mathlib.Core.Bool.{true}
+use mathlib.Core.Bool.{true, false}
 use mathlib.Core.Logic.{_↔_, _≢_}
 use mathlib.Core.List.{List}
 use Prim.Native.Nat.{ℕ, _+_, _*_, _≤_, _<_}
 use Rattle.calendars.specs.Calendar.{sound, counts, counted-quarters, calendar-number, factor}
 use Rattle.calendars.specs.Quarters.{held, tabled}
 use Rattle.calendars.specs.Answers.{refused, counted}
-use Rattle.calendars.specs.Hours.{Sound, Counts, HoursNumbered}
+use Rattle.calendars.specs.Hours.{Sound, Open, Cleaning, Counts, HoursNumbered}
 
 pub record OpeningHours : Type 0 where
   -- the test of check 16 is what document 02 says, and so is the test of a quarter
   pub rules : (c : List ℕ) (d : ℕ) → (sound c d ≡ true) ↔ Sound c d
   pub quarter : (c : List ℕ) (d q : ℕ) → (counts c d q ≡ true) ↔ Counts c d q
+  -- "It counts if it lies in an open window", be it in a cleaning window too; "otherwise, or if in a cleaning window
+  -- only, it is left out"
+  pub open-counts : (c : List ℕ) (d q : ℕ) → Open c d q → counts c d q ≡ true
+  pub otherwise : (c : List ℕ) (d q : ℕ) → (Open c d q → ⊥) → counts c d q ≡ false
+  pub cleaning-only : (c : List ℕ) (d q : ℕ) → Cleaning c d q → (Open c d q → ⊥) → counts c d q ≡ false
   -- the number of the checks, and that each calendar and weekday has one
   pub numbered : (c : List ℕ) (d : ℕ) → HoursNumbered c d (calendar-number c d)
   pub one-number : (c : List ℕ) (d m n : ℕ) → HoursNumbered c d m → HoursNumbered c d n → m ≡ n

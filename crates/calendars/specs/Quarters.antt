@@ -14,12 +14,12 @@ held x q =
     cond (ltb q 32) (eqb (bit (x .low) q) 1)
     (cond (ltb q 64) (eqb (bit (x .middle) (q - 32)) 1) (cond (ltb q 96) (eqb (bit (x .high) (q - 64)) 1) false))
 
--- a test of the 96 quarters
-abbrev pub three : (ℕ → Bool) → Quarters
-three f = record { low = packed f 0 32; middle = packed f 32 32; high = packed f 64 32 }
+-- the quarters of a day that a test holds of
+abbrev pub quarters-where : (ℕ → Bool) → Quarters
+quarters-where f = record { low = packed f 0 32; middle = packed f 32 32; high = packed f 64 32 }
 
--- the rule of the two kinds of window, of 32 quarters at once: r has the bits of those that count, where the others
--- have those in each kind of window
+-- the rule of the two kinds of window, of 32 quarters at once: where o and k have the bits of those in open and in
+-- cleaning windows, r has the bits of those that count
 abbrev pub Ruled : (opened cleaned r : ℕ) → Type 0
 Ruled o k r =
     (f g : ℕ → Bool) (q : ℕ) → o ≡ packed f q 32 → k ≡ packed g q 32 → r ≡ packed (λ x. rule (f x) (g x)) q 32

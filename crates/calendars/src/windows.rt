@@ -3,7 +3,7 @@ ghost use mathlib.Core.Path.{_≡_};
 ghost use Prim.Native.Nat.{_+_, _*_, _≤_};
 ghost use lib.ListN.{length};
 ghost use Rattle.calendars.specs.Calendar.{lies, counts};
-ghost use Rattle.calendars.specs.Quarters.{three, Ruled};
+ghost use Rattle.calendars.specs.Quarters.{quarters-where, Ruled};
 ghost use Rattle.calendars.specs.Answers.{Readable};
 use crate::Quarters;
 use crate::spans::quarter_from;
@@ -12,7 +12,7 @@ use crate::spans::span;
 // The quarters that lie in one of the n windows at a place.
 fn marked(calendar: &[u32], at: usize, n: u32) -> Quarters
     requires { ⌜ at + 2 * n ≤ length (now calendar) ⌝ }
-    ensures { λ r. ⌜ r ≡ three (lies (now (calendar .entry)) at n) ⌝ }
+    ensures { λ r. ⌜ r ≡ quarters-where (lies (now (calendar .entry)) at n) ⌝ }
 {
     let windows = n as usize;
     let mut low = 0;
@@ -40,7 +40,7 @@ fn rule(opened: u32, cleaned: u32) -> u32
 
 pub(crate) fn quarters(calendar: &[u32], day: usize) -> Quarters
     requires { ⌜ Readable (now calendar) day ⌝ }
-    ensures { λ r. ⌜ r ≡ three (counts (now (calendar .entry)) day) ⌝ }
+    ensures { λ r. ⌜ r ≡ quarters-where (counts (now (calendar .entry)) day) ⌝ }
 {
     let at = 26 * day;
     let opened = marked(calendar, at + 2, calendar[at]);

@@ -20,7 +20,7 @@ use Rattle.calls.specs.Lent.{passed}
 use Rattle.calls.proofs.Faults.{none-passed}
 use Rattle.calendars.specs.Calendar.{counted-quarters, calendar-number}
 use Rattle.calendars.specs.declared.answers.Counted.{Counted}
-use Rattle.calendars.specs.Quarters.{three}
+use Rattle.calendars.specs.Quarters.{quarters-where}
 use Rattle.calendars.specs.Answers as Answers
 use Rattle.calendars.proofs.OpeningHours.{opening-hours}
 use Rattle.calendars.proofs.Counting.{answered}
@@ -91,7 +91,7 @@ module _ (table : List ℕ) (n : ℕ) (H : Hours) (day : n ≡ 192) (c : Counted
     is : c ≡ Answers.accepted (H .calendar) (H .weekday)
     is = ec ∙ answered (H .calendar) (H .weekday) no-number
 
-    pub bits-are : c .quarters ≡ three (counting H)
+    pub bits-are : c .quarters ≡ quarters-where (counting H)
     bits-are = ap (λ (x : Counted). x .quarters) is
 
     pub n-is : c .n ≡ counted-quarters (H .calendar) (H .weekday)

@@ -10,7 +10,7 @@ use Rattle.jobs.specs.Counts.{counted}
 use Rattle.calls.specs.Lent.{passed}
 use Rattle.calendars.specs.declared.Quarters.{Quarters}
 use Rattle.calendars.specs.Calendar.{counted-quarters}
-use Rattle.calendars.specs.Quarters.{three}
+use Rattle.calendars.specs.Quarters.{quarters-where}
 use Rattle.days.specs.Day.{Hours, counting}
 use Rattle.call_check.specs.declared.day.Day.{Day}
 
@@ -18,7 +18,7 @@ abbrev pub no-quarters : Quarters
 no-quarters = record { low = 0; middle = 0; high = 0 }
 
 unfoldable pub passed-quarters : (number : ℕ) → Hours → Quarters
-passed-quarters zero H = three (counting H)
+passed-quarters zero H = quarters-where (counting H)
 passed-quarters (suc n) H = no-quarters
 
 unfoldable pub passed-n : (number : ℕ) → Hours → ℕ

@@ -26,7 +26,7 @@ use Rattle.days.specs.Day.{Hours, counting, day-script, day-of, day-cost}
 use Rattle.day_demands.specs.Settings.{DaySetting, day-staged, quarter-share, quarter-reading}
 use Rattle.day_demands.specs.Numbers.{day-terms}
 
--- "the values the curve gives alone", in exact mode: floor(Y / 4096), and -1 above the last row (R-1)
+-- "values the curve gives alone", in exact mode: floor(Y / 4096), and -1 above the last row (R-1)
 unfoldable pub curve-alone : (table : List ℕ) → ℤ → ℤ
 curve-alone T x = cond (ltZ (pos (last-count (rows T))) x) (negℤ (pos 1)) (floor (scaled (rows T) x) 4096)
 
@@ -35,9 +35,9 @@ unfoldable pub is-above : (table : List ℕ) → ℤ → ℕ
 is-above T x = cond (ltZ (pos (last-count (rows T))) x) 1 0
 
 -- of the first n quarters: the sum of the values of those that count (`counting`, which is `Counts` by `quarter` of
--- calendars/specs/OpeningHours.antt), "each of these" above the last row "enters the
--- sum as -1", and the number of those above the last row. R-6: "A closed pool's readings should not enter the mean"; a
--- quarter left out "is not counted as above the last row"
+-- calendars/specs/OpeningHours.antt), where each that is above the last row "enters the sum as -1"; and the number of
+-- those above the last row. R-6: "A closed pool's readings should not enter the mean"; a quarter left out "is not
+-- counted as above the last row"
 unfoldable pub sum-of : DaySetting → (n : ℕ) → ℤ
 sum-of S zero = pos 0
 sum-of S (suc n) =
@@ -48,13 +48,13 @@ above-of S zero = 0
 above-of S (suc n) = above-of S n + cond (counting (S .hours) n) (is-above (S .table) (quarter-reading 32 S n)) 0
 
 -- R-3's own, of all quarters: "the sum being that of the 96 values the curve gives alone"
-unfoldable pub whole-sum : DaySetting → (n : ℕ) → ℤ
-whole-sum S zero = pos 0
-whole-sum S (suc n) = whole-sum S n +ℤ curve-alone (S .table) (quarter-reading 32 S n)
+unfoldable pub sum-of-all : DaySetting → (n : ℕ) → ℤ
+sum-of-all S zero = pos 0
+sum-of-all S (suc n) = sum-of-all S n +ℤ curve-alone (S .table) (quarter-reading 32 S n)
 
-unfoldable pub whole-above : DaySetting → (n : ℕ) → ℕ
-whole-above S zero = 0
-whole-above S (suc n) = whole-above S n + is-above (S .table) (quarter-reading 32 S n)
+unfoldable pub above-of-all : DaySetting → (n : ℕ) → ℕ
+above-of-all S zero = 0
+above-of-all S (suc n) = above-of-all S n + is-above (S .table) (quarter-reading 32 S n)
 
 -- n: "With n counted quarters, the factor is floor(65536 / n)"
 abbrev pub quarters-of : DaySetting → ℕ
@@ -63,13 +63,20 @@ quarters-of S = counted-quarters (S .hours .calendar) (S .hours .weekday)
 abbrev pub factor-of : DaySetting → ℕ
 factor-of S = factor (quarters-of S)
 
--- every table that keeps the rules, every calendar and weekday that meet neither 16 nor 17, and of the quarters that
--- count "readings that can be split": from -2^30 to 2^30 - 1
+-- a calendar and a weekday that meet neither 16 nor 17
+abbrev pub OpenDay : DaySetting → Type 0
+OpenDay S = HoursNumbered (S .hours .calendar) (S .hours .weekday) 0
+
+-- of the quarters that count "readings that can be split": from -2^30 to 2^30 - 1
+abbrev pub Splittable : DaySetting → Type 0
+Splittable S =
+    (q : ℕ) → q < 96 → Counts (S .hours .calendar) (S .hours .weekday) q → T (in-range 32 (quarter-reading 32 S q))
+
+-- every table that keeps the rules, on such hours and readings
 pub record Sheet (S : DaySetting) : Type 0 where
   pub table : Rules (S .table)
-  pub open-day : HoursNumbered (S .hours .calendar) (S .hours .weekday) 0
-  pub readings : (q : ℕ) → q < 96 → Counts (S .hours .calendar) (S .hours .weekday) q
-      → T (in-range 32 (quarter-reading 32 S q))
+  pub open-day : OpenDay S
+  pub readings : Splittable S
 
 pub record DayOpens : Type 0 where
   -- after a finished quarter, one that is left out too, register 0 opens the sum so far, and register 1 the number of
@@ -111,13 +118,13 @@ pub record DayOpens : Type 0 where
       → (pos (factor-of S) *ℤ sum-of S n) <ℤ pos (2 ^ 31)
   -- n curves and one kind 8, since a quarter left out "needs no masks or deals": deals, words spoken, A and B, by the
   -- table's rows; and of all 96 quarters on the eight rows of the house table
-  pub counts : (table : List ℕ) (n : ℕ) (H : Hours)
-      → script-cost (day-script 32 table n H) ≡ day-cost H (length (rows table))
+  pub counts : (table : List ℕ) (words : ℕ) (H : Hours)
+      → script-cost (day-script 32 table words H) ≡ day-cost H (length (rows table))
   pub house-counts : day-of 96 (kind-cost 10 0 8) ≡ cost-of 11629 23064 23161 11532
   -- "A place's order is the quarter from 0, then 96 for the mean; the end is 97 and 0.": what the laws of every script
   -- ask of a day's
-  pub orders : (table : List ℕ) (n : ℕ) (H : Hours) → orders-in (day-script 32 table n H) ≡ 97
-  pub orderly : (table : List ℕ) (n : ℕ) (H : Hours) → Orderly (day-script 32 table n H)
+  pub orders : (table : List ℕ) (words : ℕ) (H : Hours) → orders-in (day-script 32 table words H) ≡ 97
+  pub orderly : (table : List ℕ) (words : ℕ) (H : Hours) → Orderly (day-script 32 table words H)
   -- a day is accepted with its lists and a buffer exactly where none of 12, 16, 17, 5, 6 and 7 is met; then whole runs
   -- of it exist (`whole`, Returned.antt)
   pub accepted : (S : DaySetting) (buffer : List ℕ)

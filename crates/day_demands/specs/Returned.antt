@@ -11,7 +11,7 @@ use Rattle.demands.specs.Conditions.{PreparationIs}
 use Rattle.day_demands.specs.Settings.{DaySetting, day-staged}
 use Rattle.day_demands.specs.Numbers.{day-terms}
 use Rattle.days.specs.WholeDay.{AllCounted}
-use Rattle.day_demands.specs.Opened.{sum-of, above-of, whole-sum, whole-above, factor-of, Sheet}
+use Rattle.day_demands.specs.Opened.{sum-of, above-of, sum-of-all, above-of-all, factor-of, Sheet}
 use Rattle.day_demands.specs.Runs.{DayHost, resting, running, DayWorld, day-world, DayCompletes, DayRun, Same}
 use Rattle.day_demands.specs.Runs.{day-buffer, day-opened}
 
@@ -49,10 +49,10 @@ pub record DayReturned : Type 0 where
       → (cs : List Call) (u : DayWorld) → DayRun 32 S cs u → BothAtEnd u
       → day-opened 32 u 1 ≡ (0, pos (above-of S 96))
   -- R-6: "A day with all quarters counted gives the old mean.": R-3's, by 682 and of all 96 values, and the old count;
-  -- that its calls are the old ones, word for word: `whole-day` (days/specs/WholeDay.antt)
+  -- that its calls are the old ones, word for word: `WholeDay` (days/specs/WholeDay.antt)
   pub old-mean : (S : DaySetting) → Sheet S → AllCounted (S .hours) → Words 32 (day-staged 32 S)
       → (cs : List Call) (u : DayWorld) → DayRun 32 S cs u → BothAtEnd u
-      → day-opened 32 u 0 ≡ (0, floor (pos 682 *ℤ whole-sum S 96) 65536)
+      → day-opened 32 u 0 ≡ (0, floor (pos 682 *ℤ sum-of-all S 96) 65536)
   pub old-count : (S : DaySetting) → Sheet S → AllCounted (S .hours) → Words 32 (day-staged 32 S)
       → (cs : List Call) (u : DayWorld) → DayRun 32 S cs u → BothAtEnd u
-      → day-opened 32 u 1 ≡ (0, pos (whole-above S 96))
+      → day-opened 32 u 1 ≡ (0, pos (above-of-all S 96))

@@ -62,17 +62,18 @@ hours c d = record { calendar = c; weekday = d }
 abbrev pub counting : Hours → ℕ → Bool
 counting H = counts (H .calendar) (H .weekday)
 
--- lent a table, a list of n words and hours: "12, day list not of 96 shares", of two words each; "16 ..; 17 ..; both
+-- lent a table, a day list of so many words and hours: "12, day list not of 96 shares", of two words each; "16 ..; 17 ..; both
 -- after 12"; "a faulty table is 5 with index 0"
-unfoldable pub day-fault : (table : List ℕ) (n : ℕ) → Hours → Fault
-day-fault table n H =
-    cond (eqb n 192)
+unfoldable pub day-fault : (table : List ℕ) (words : ℕ) → Hours → Fault
+day-fault table words H =
+    cond (eqb words 192)
     (cond (eqb (calendar-number (H .calendar) (H .weekday)) 0) (cond (keeps-rules table) (0, 0) (5, 0))
     (calendar-number (H .calendar) (H .weekday), 0)) (12, 0)
 
 -- the slots given at a day's start: registers, kept words and shares
-abbrev pub day-script : (w : ℕ) (table : List ℕ) (n : ℕ) → Hours → Script
-day-script w table n H = record { fault = day-fault table n H; slots = 120; steps = day-steps w table (counting H) }
+abbrev pub day-script : (w : ℕ) (table : List ℕ) (words : ℕ) → Hours → Script
+day-script w table words H =
+    record { fault = day-fault table words H; slots = 120; steps = day-steps w table (counting H) }
 
 -- the counts of a day with n counted quarters whose curve has these: n curves and one kind 8; and on a table of k rows,
 -- by document 01's table of costs

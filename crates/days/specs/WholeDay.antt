@@ -24,35 +24,38 @@ all-quarters w ps q zero = []
 all-quarters w ps q (suc n) = quarter-program w q ps ∷ all-quarters w ps (suc q) n
 
 -- "It multiplies the sum by 682 and takes the exact truncation by 16."
-unfoldable pub whole-gates : (w : ℕ) → List Row → List (List Gate)
-whole-gates w ps = all-quarters w ps 0 96 ++ (mean-program w 682 ∷ [])
+unfoldable pub old-gates : (w : ℕ) → List Row → List (List Gate)
+old-gates w ps = all-quarters w ps 0 96 ++ (mean-program w 682 ∷ [])
 
 -- 12, then 5
-unfoldable pub whole-fault : (table : List ℕ) (n : ℕ) → Fault
-whole-fault table n = cond (eqb n 192) (cond (keeps-rules table) (0, 0) (5, 0)) (12, 0)
+unfoldable pub old-fault : (table : List ℕ) (n : ℕ) → Fault
+old-fault table n = cond (eqb n 192) (cond (keeps-rules table) (0, 0) (5, 0)) (12, 0)
 
-abbrev pub whole-script : (w : ℕ) (table : List ℕ) (n : ℕ) → Script
-whole-script w table n =
-    record { fault = whole-fault table n; slots = 120; steps = job-steps w (whole-gates w (rows table)) }
+abbrev pub old-script : (w : ℕ) (table : List ℕ) (n : ℕ) → Script
+old-script w table n =
+    record { fault = old-fault table n; slots = 120; steps = job-steps w (old-gates w (rows table)) }
 
 -- its calls, lent no hours
-abbrev pub whole-start : (w host : ℕ) (table shares masks deals : List ℕ) → Answer
-whole-start w h T S M D = own-answer (start (lent h (whole-script w T (length S)) M D) (day-given S))
+abbrev pub old-start : (w host : ℕ) (table shares masks deals : List ℕ) → Answer
+old-start w h T S M D = own-answer (start (lent h (old-script w T (length S)) M D) (day-given S))
 
-abbrev pub whole-hear : (w host : ℕ) (table shares masks deals : List ℕ) → State → (heard : ℕ) → Answer
-whole-hear w h T S M D s v = own-answer (hear (lent h (whole-script w T (length S)) M D) (with-shares s S) v)
+abbrev pub old-hear : (w host : ℕ) (table shares masks deals : List ℕ) → State → (heard : ℕ) → Answer
+old-hear w h T S M D s v = own-answer (hear (lent h (old-script w T (length S)) M D) (with-shares s S) v)
 
-abbrev pub whole-prepare : (w : ℕ) (table shares A B buffer : List ℕ) → Prepared
-whole-prepare w T S A B D = own-masks (prepare (whole-script w T (length S)) A B D (day-given S))
+abbrev pub old-prepare : (w : ℕ) (table shares A B buffer : List ℕ) → Prepared
+old-prepare w T S A B D = own-masks (prepare (old-script w T (length S)) A B D (day-given S))
 
 -- a calendar that keeps its rules, and a weekday all of whose quarters count
 pub record AllCounted (H : Hours) : Type 0 where
   pub sound : Sound (H .calendar) (H .weekday)
   pub counted : (q : ℕ) → q < 96 → Counts (H .calendar) (H .weekday) q
 
--- whatever the calls are lent, at every width: every number, deal, spoken word, register and count is the old one
-pub record WholeDay (H : Hours) : Type 0 where
-  pub prepares : (w : ℕ) (T S A B D : List ℕ) → day-prepare w T S H A B D ≡ whole-prepare w T S A B D
-  pub starts : (w h : ℕ) (T S M D : List ℕ) → day-start w h T S H M D ≡ whole-start w h T S M D
-  pub hears : (w h : ℕ) (T S M D : List ℕ) (s : State) (v : ℕ)
-      → day-hear w h T S H M D s v ≡ whole-hear w h T S M D s v
+-- where all 96 quarters count, whatever else the calls are lent, at every width: every number, deal, spoken word,
+-- register and count is the old one
+pub record WholeDay : Type 0 where
+  pub prepares : (H : Hours) → AllCounted H → (w : ℕ) (T S A B D : List ℕ)
+      → day-prepare w T S H A B D ≡ old-prepare w T S A B D
+  pub starts : (H : Hours) → AllCounted H → (w h : ℕ) (T S M D : List ℕ)
+      → day-start w h T S H M D ≡ old-start w h T S M D
+  pub hears : (H : Hours) → AllCounted H → (w h : ℕ) (T S M D : List ℕ) (s : State) (v : ℕ)
+      → day-hear w h T S H M D s v ≡ old-hear w h T S M D s v

@@ -25,7 +25,7 @@ use Rattle.calendars.specs.declared.Quarters.{Quarters}
 use Rattle.calendars.specs.Ranges.{number}
 use Rattle.calendars.specs.Calendar.{calendar-number}
 use Rattle.calendars.specs.Quarters.{held}
-use Rattle.calendars.proofs.Counting.{held-three, number-alike, number-le}
+use Rattle.calendars.proofs.Counting.{held-where, number-alike, number-le}
 use Rattle.call_check.specs.declared.day.Day.{Day}
 use Rattle.call_check.specs.Days.{passed-quarters, passed-n, DayIs}
 use Rattle.days.specs.Day.{Hours, counting, day-steps, day-script, day-of}
@@ -62,7 +62,7 @@ module _ (table S : List ℕ) (H : Hours) (A B D : List ℕ) where
 
       same-day : (q : ℕ) → q < 96 → f q ≡ counting H q
       unfolding passed-quarters
-      same-day q l = ap (λ (x : Quarters). held x q) (is .quarters) ∙ held-three (counting H) q l
+      same-day q l = ap (λ (x : Quarters). held x q) (is .quarters) ∙ held-where (counting H) q l
 
       steps-are : day-steps 32 table f ≡ day-steps 32 table (counting H)
       unfolding day-steps

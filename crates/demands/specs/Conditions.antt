@@ -59,7 +59,7 @@ gate-places o (gs ∷ os) = order-places o 0 gs ++ gate-places (suc o) os
 
 pub record Terms : Type 1 where
   -- the number and the index by the conditions that come before 6, or 0 and 0 where none of them is met; for a job
-  -- these are 2 to 5
+  -- these are 2 to 5, for a day 12, 16, 17 and 5
   pub own : (number index : ℕ) → Type 0
   -- the words needed of A and of B, and the deals
   pub needs : Cost

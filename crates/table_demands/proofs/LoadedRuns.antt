@@ -36,7 +36,7 @@ use Rattle.days.specs.Day.{Hours, day-cost}
 use Rattle.day_demands.specs.Settings.{DaySetting, day-staged}
 use Rattle.day_demands.specs.Numbers.{DayNumbered, no-day, no-hours, no-table}
 use Rattle.day_demands.specs.Numbers as Day
-use Rattle.day_demands.specs.Opened.{sum-of, above-of, factor-of, Sheet}
+use Rattle.day_demands.specs.Opened.{sum-of, above-of, factor-of, OpenDay, Splittable, Sheet}
 use Rattle.day_demands.specs.Runs.{DayWorld, DayRun, day-opened}
 use Rattle.day_demands.specs.Returned.{BothAtEnd}
 use Rattle.day_demands.proofs.Returned.{day-returned}
@@ -44,7 +44,7 @@ use Rattle.table_load.specs.Loading.{records, table-in}
 use Rattle.table_load.proofs.Numbers.{rows-are}
 use Rattle.table_load.proofs.Encodings.{lent-in, kept}
 use Rattle.table_demands.specs.LoadedRuns.{LentFrom, text-Y, text-last, UpToLast, Opened, as-left, as-returned}
-use Rattle.table_demands.specs.LoadedRuns.{Suffice, Splittable, OpenDay, on-table, LoadedRuns}
+use Rattle.table_demands.specs.LoadedRuns.{Suffice, on-table, LoadedRuns}
 
 -- ---- a table that loads
 

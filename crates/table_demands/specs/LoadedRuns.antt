@@ -22,11 +22,10 @@ use Rattle.runs.specs.Runs.{Setting, staged, World, Call, Accepted}
 use Rattle.runs.specs.Orders.{Words, order-of, refresh-mask, reading, Finishes, opens}
 use Rattle.demands.specs.Demand3.{Exact, OneBit, with-word, eqZ}
 use Rattle.demands.specs.ReturnedCurves.{Stays, target-opens}
-use Rattle.calendars.specs.Hours.{Counts, HoursNumbered}
 use Rattle.days.specs.Day.{Hours, day-cost}
 use Rattle.day_demands.specs.Settings.{DaySetting, day-staged, quarter-reading}
 use Rattle.day_demands.specs.Numbers.{DayNumbered}
-use Rattle.day_demands.specs.Opened.{sum-of, above-of, factor-of, Sheet}
+use Rattle.day_demands.specs.Opened.{sum-of, above-of, factor-of, OpenDay, Splittable, Sheet}
 use Rattle.day_demands.specs.Runs.{DayWorld, DayRun, day-opened}
 use Rattle.day_demands.specs.Returned.{BothAtEnd}
 use Rattle.table_load.specs.Loading.{records, table-in, loading, lent-on}
@@ -63,15 +62,6 @@ pub record Suffice (needs : Cost) (A B buffer : List ℕ) : Type 0 where
   pub b : needs .b ≤ length B
   pub deals : needs .deals ≤ length buffer
 
--- a day on readings that can be split, from -2^30 to 2^30 - 1, of the quarters that count
-abbrev pub Splittable : DaySetting → Type 0
-Splittable S =
-    (q : ℕ) → q < 96 → Counts (S .hours .calendar) (S .hours .weekday) q → T (in-range 32 (quarter-reading 32 S q))
-
--- whose calendar and weekday meet neither 16 nor 17
-abbrev pub OpenDay : DaySetting → Type 0
-OpenDay S = HoursNumbered (S .hours .calendar) (S .hours .weekday) 0
-
 -- the same day on another table
 abbrev pub on-table : (table : List ℕ) → DaySetting → DaySetting
 on-table T S =
@@ -91,7 +81,8 @@ on-table T S =
 pub record LoadedRuns : Type 0 where
   -- the table is that of the text's records, r and c of each in turn
   pub table-is : (t table : List ℕ) → LentFrom t table → table ≡ table-in t
-  -- on it a job has the number and the index, by 2 to 5, that it has on the house table, at every width; and a day too
+  -- on it a job has the number and the index, by 2 to 5, that it has on the house table, at every width; and
+  -- a day those that it has by 12, 16, 17 and 5
   pub job-numbers : (t table : List ℕ) → LentFrom t table → (w : ℕ) (job : List ℕ) (n i : ℕ)
       → Numbered w job house n i ↔ Numbered w job table n i
   pub day-numbers : (t table : List ℕ) → LentFrom t table → (words : ℕ) (H : Hours) (n i : ℕ)

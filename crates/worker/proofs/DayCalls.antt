@@ -27,7 +27,7 @@ use Rattle.walks.proofs.Answers.{start-refused, started, hear-refused, at-nowhe
 use Rattle.calendars.specs.declared.Quarters.{Quarters}
 use Rattle.calendars.specs.Ranges.{number}
 use Rattle.calendars.specs.Quarters.{held}
-use Rattle.calendars.proofs.Counting.{held-three, number-alike, number-none}
+use Rattle.calendars.proofs.Counting.{held-where, number-alike, number-none}
 use Rattle.days.specs.Day.{Hours, counting, day-gates, day-steps, day-script}
 use Rattle.days.specs.DayCalls.{firsts, seconds, day-given, with-shares, own-state, own-answer, day-start, day-hear}
 use Rattle.days.specs.Orders.{within, first-tail, second-tail}
@@ -39,7 +39,7 @@ use Rattle.worker.proofs.Days.{there-in-day}
 use Rattle.worker.specs.Answers.{state-with}
 use Rattle.call_check.specs.declared.day.Day.{Day}
 use Rattle.call_check.specs.Days.{passed-quarters, passed-n, DayIs}
-use Rattle.worker.specs.Days.{used-by, DayLent, DayPlace, SameDay}
+use Rattle.worker.specs.Days.{used-until, DayLent, DayPlace, SameDay}
 
 -- ---- what is lent has passed its checks
 
@@ -51,7 +51,7 @@ module _ (h : ℕ) (T S : List ℕ) (H : Hours) (M D : List ℕ) (n : ℕ) (e : 
   module _ (z : n ≡ 0) (d : Day) (is : DayIs n T H d) where
     pub same-day : SameDay (held (d .quarters)) H
     unfolding passed-quarters
-    same-day q l = ap (λ (x : Quarters). held x q) (is .quarters ∙ ap (λ (m : ℕ). passed-quarters m H) z) ∙ held-three (counting H) q l
+    same-day q l = ap (λ (x : Quarters). held x q) (is .quarters ∙ ap (λ (m : ℕ). passed-quarters m H) z) ∙ held-where (counting H) q l
 
     pub day-lent : DayLent T S (counted (d .curve)) (held (d .quarters)) (d .n)
     unfolding passed-n
@@ -94,10 +94,10 @@ module _ (h : ℕ) (T S : List ℕ) (H : Hours) (M D : List ℕ) (n : ℕ) (e : 
     pub start-done : n ≡ 0 → (k : Cost) (o₁ : ℕ) → o₁ ≤ 96 → ((q : ℕ) → 0 ≤ q → q < o₁ → f q ≡ false) → (sp v o x : ℕ) (m c : Lane)
         → length m ≡ 24 → length c ≡ 24
         → going-on sp v (within 0 (first-tail S) m) (within 0 (second-tail S) c) o x
-        ≡ reported P (job-steps 32 (drop o₁ (day-gates 32 f (rows T)))) (cursor o₁ 0 (used-by f k o₁ .a) (used-by f k o₁ .b) (used-by f k o₁ .deals))
+        ≡ reported P (job-steps 32 (drop o₁ (day-gates 32 f (rows T)))) (cursor o₁ 0 (used-until f k o₁ .a) (used-until f k o₁ .b) (used-until f k o₁ .deals))
         (within 0 (first-tail S) zeros, within 0 (second-tail S) zeros)
         → going-on sp v (set m 15 0) (set c 15 0) o x ≡ day-start 32 h T S H M D
-    unfolding day-start times-cost day-steps used-by
+    unfolding day-start times-cost day-steps used-until
     start-done z k o₁ l out sp v o x m c lm lc g =
         let none : number f 0 o₁ ≡ 0 =
         number-none f 0 o₁ (λ q u. let a : 0 + q ≡ q = omega arith in rw a (out q (omega arith) u)) in

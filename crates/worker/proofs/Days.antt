@@ -50,7 +50,7 @@ use Rattle.days.proofs.Places.{seek-far, used-before, found-in-day, nowhere-in-
 use Rattle.worker.proofs.Places.{found-here}
 use Rattle.worker.specs.Answers.{state-with}
 use Rattle.worker.specs.Jobs.{Sized}
-use Rattle.worker.specs.Days.{few-counts, used-by, sought-run, DayLent, DayPlace}
+use Rattle.worker.specs.Days.{few-counts, used-until, sought-run, DayLent, DayPlace}
 
 -- one curve's counts
 pub lent-few : (T S : List ℕ) (k : Cost) (f : ℕ → Bool) (n : ℕ) → DayLent T S k f n → few-counts k
@@ -125,9 +125,9 @@ module _ (T : List ℕ) (f : ℕ → Bool) (o x : ℕ) (in-day : o ≤ 96) (g : 
       go true run e = (run, e)
       go false idle e = let z : _≡_ {A = ℕ} 0 1 = ap tag e in absurd (omega arith)
 
-  pub placed-day : Rules T → (i a n : ℕ) → g ≡ SoughtAt.Found i a n → (k u : Cost) → k ≡ curve-cost 0 (length (rows T)) → u ≡ used-by f k o
+  pub placed-day : Rules T → (i a n : ℕ) → g ≡ SoughtAt.Found i a n → (k u : Cost) → k ≡ curve-cost 0 (length (rows T)) → u ≡ used-until f k o
       → DayPlace T f o x i (u .a + a) (u .b + x) (u .deals + n)
-  unfolding used-by
+  unfolding used-until
   placed-day r i a n p k u ek eu =
       let run = found-run i a n p .0 in
       let s = found-run i a n p .1 in
@@ -251,15 +251,15 @@ module _ (h : ℕ) (M D T S : List ℕ) (curve : Cost) (f : ℕ → Bool) (count
           go (gone-by a′ n′ s p r q y none) = absurd (own-speaks (rows T) o none)
 
     -- as the code has it in hand: the order's words, and what is used before it
-    pub begun-as : (J : List ℕ) → J ≡ order-words o → (u : Cost) → u ≡ used-by f curve o → (m₂ c₂ : Lane)
+    pub begun-as : (J : List ℕ) → J ≡ order-words o → (u : Cost) → u ≡ used-until f curve o → (m₂ c₂ : Lane)
         → m₂ ≡ entered 32 (tabled counted) o m₁ → c₂ ≡ entered 32 (tabled counted) o c₁ → (x : Answer)
         → x ≡ reported P (steps-from 32 0 (drop 0 (job-gates 32 J T))) (cursor 0 0 (u .a) (u .b) (u .deals)) (m₂, c₂)
         → (at-order x
         ≡ reported P (job-steps 32 (drop o (day-gates 32 f (rows T))))
-        (cursor o 0 (used-by f curve o .a) (used-by f curve o .b) (used-by f curve o .deals)) (within k t₁ m, within l t₂ c))
+        (cursor o 0 (used-until f curve o .a) (used-until f curve o .b) (used-until f curve o .deals)) (within k t₁ m, within l t₂ c))
         × Long x
     begun-as J eJ u eu m₂ c₂ fm fc x e =
-        begun (used-by f curve o .a) (used-by f curve o .b) (used-by f curve o .deals) m₂ c₂
+        begun (used-until f curve o .a) (used-until f curve o .b) (used-until f curve o .deals) m₂ c₂
         (fm ∙ ap (λ (q : ℕ). entered 32 q o m₁) (factor-tabled f counted (L .counted)))
         (fc ∙ ap (λ (q : ℕ). entered 32 q o c₁) (factor-tabled f counted (L .counted))) x
         (e ∙ ap₂ (λ (j : List ℕ) (y : Cost). reported P (steps-from 32 0 (drop 0 (job-gates 32 j T))) (cursor 0 0 (y .a) (y .b) (y .deals)) (m₂, c₂))
@@ -367,9 +367,9 @@ module _ (h : ℕ) (M D T S : List ℕ) (curve : Cost) (f : ℕ → Bool) (count
             -- the quarters up to order o₁ are left out
             pub next-order : (o₁ : ℕ) → o < o₁ → o₁ ≤ 96 → ((q : ℕ) → suc o ≤ q → q < o₁ → f q ≡ false)
                 → reported P (job-steps 32 (drop o₁ (day-gates 32 f (rows T))))
-                (cursor o₁ 0 (used-by f curve o₁ .a) (used-by f curve o₁ .b) (used-by f curve o₁ .deals)) (within k t₁ m₃, within l t₂ c₃)
+                (cursor o₁ 0 (used-until f curve o₁ .a) (used-until f curve o₁ .b) (used-until f curve o₁ .deals)) (within k t₁ m₃, within l t₂ c₃)
                 ≡ heard-day
-            unfolding used-by
+            unfolding used-until
             next-order o₁ later in-day₁ out =
                 let q = goes-by on in
                 let j = idle-walk h M D 32 f (rows T) (suc o) o₁ later in-day₁ out (q .a₁) (z .spoken) (q .n₁) in

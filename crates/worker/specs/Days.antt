@@ -26,8 +26,8 @@ abbrev pub few-counts : Cost → Type 0
 few-counts k = (k .deals ≤ 1000) × (k .words ≤ 1000) × (k .a ≤ 1000) × (k .b ≤ 1000)
 
 -- what the orders before q use, where f tells which quarters count
-unfoldable pub used-by : (f : ℕ → Bool) → Cost → (q : ℕ) → Cost
-used-by f k q = times-cost (number f 0 q) k
+unfoldable pub used-until : (f : ℕ → Bool) → Cost → (q : ℕ) → Cost
+used-until f k q = times-cost (number f 0 q) k
 
 -- where an order of a day has its x-th product or refresh, among the gates of the code's own order; one that is not run
 -- has none

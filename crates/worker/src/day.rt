@@ -18,7 +18,7 @@ ghost use Rattle.days.specs.Day.{hours, day-gates, day-steps, day-script};
 ghost use Rattle.days.specs.DayCalls.{day-start, day-hear};
 ghost use Rattle.days.specs.Orders.{is-run, within, first-tail, second-tail};
 ghost use Rattle.worker.specs.Answers.{answer-of, state-of, state-with};
-ghost use Rattle.worker.specs.Days.{DayLent, DayPlace, SameDay, used-by};
+ghost use Rattle.worker.specs.Days.{DayLent, DayPlace, SameDay, used-until};
 use crate::Answer;
 use crate::State;
 use crate::answering::answered;
@@ -67,9 +67,9 @@ fn begin(
         (within l (second-tail (now (shares .entry))) (now (mask .exit))) (r .order) (r .turn)
         ≡ reported (worker-with host (now (masks .entry)) (now (deals .entry)))
         (job-steps 32 (drop order (day-gates 32 (held (day .quarters)) (rows (now (table .entry))))))
-        (cursor order 0 (used-by (held (day .quarters)) (counted (day .curve)) order .a)
-        (used-by (held (day .quarters)) (counted (day .curve)) order .b)
-        (used-by (held (day .quarters)) (counted (day .curve)) order .deals)) (
+        (cursor order 0 (used-until (held (day .quarters)) (counted (day .curve)) order .a)
+        (used-until (held (day .quarters)) (counted (day .curve)) order .b)
+        (used-until (held (day .quarters)) (counted (day .curve)) order .deals)) (
           within k (first-tail (now (shares .entry))) (now (m .entry)),
           within l (second-tail (now (shares .entry))) (now (mask .entry)),
         )) ⌝ }

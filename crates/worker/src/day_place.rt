@@ -4,7 +4,7 @@ ghost use Prim.Native.Nat.{_≤_};
 ghost use Rattle.programs.specs.Sizes.{times-cost};
 ghost use Rattle.jobs.specs.Counts.{counted};
 ghost use Rattle.calendars.specs.Quarters.{held};
-ghost use Rattle.worker.specs.Days.{few-counts, used-by, sought-run};
+ghost use Rattle.worker.specs.Days.{few-counts, used-until, sought-run};
 use calendars::counted_before;
 use call_check::Day;
 use day_order::is_run;
@@ -30,7 +30,7 @@ fn used_by(curve: Counts, n: u32) -> Counts
 // What the orders before one use: the quarters that count.
 pub(crate) fn used_before(day: Day, order: u32) -> Counts
     requires { ⌜ few-counts (counted (day .curve)) × (order ≤ 96) ⌝ }
-    ensures { λ r. ⌜ counted r ≡ used-by (held (day .quarters)) (counted (day .curve)) order ⌝ }
+    ensures { λ r. ⌜ counted r ≡ used-until (held (day .quarters)) (counted (day .curve)) order ⌝ }
 {
     let quarters = day.quarters;
     let curve = day.curve;

@@ -167,7 +167,7 @@ fn once(
     }
 }
 
-// What the day of 48 quarters is open from and to, and the others.
+// The day of 48 quarters is open from 8 to 20 o'clock, the others all day.
 fn calendar_of(quarter: u32) -> [u32; 182] {
     if quarter == HALF {
         return open_calendar(480, 1200);

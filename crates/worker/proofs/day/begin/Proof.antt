@@ -11,7 +11,7 @@ use Rattle.calendars.specs.Quarters.{held}
 use Rattle.calendars.specs.Ranges.{number}
 use Rattle.calendars.proofs.Counting.{number-le}
 use Rattle.days.proofs.Counts.{few-words}
-use Rattle.worker.specs.Days.{used-by}
+use Rattle.worker.specs.Days.{used-until}
 use Rattle.worker.proofs.Days.{lent-few, sized-own, begun-as}
 use borrow.Author.Needs.{needs}
 use Rattle.worker.proofs.day.begin.Statement.{statement}
@@ -31,7 +31,7 @@ used-before-requires c κs =
 -- what the orders before use is little
 few-used : (c : tie.After-used-before)
     → let u = c .used-before .result in (u .a ≤ 96000) × (u .b ≤ 96000) × (u .deals ≤ 96000)
-unfolding times-cost used-by
+unfolding times-cost used-until
 few-used c =
     let s = c .before .before .before .before .before .before .before .before .before .before .before in
     let k = s .args .day .curve in

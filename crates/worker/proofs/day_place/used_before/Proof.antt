@@ -5,7 +5,7 @@ use Rattle.programs.specs.Sizes.{times-cost}
 use Rattle.jobs.specs.Counts.{counted}
 use Rattle.calendars.specs.Quarters.{held}
 use Rattle.calendars.proofs.Counting.{number-le}
-use Rattle.worker.specs.Days.{used-by}
+use Rattle.worker.specs.Days.{used-until}
 use borrow.Author.Needs.{needs}
 use Rattle.worker.proofs.day_place.used_before.Statement.{statement}
 use Rattle.worker.proofs.day_place.used_before.Tie as tie
@@ -19,7 +19,7 @@ used-by-requires c κs =
     (s .pre .0, omega (arith, c .counted-before .ensures, number-le (held (s .args .day .quarters)) 0 (s .args .order), s .pre .1))
 
 returns : tie.Need-returns
-unfolding used-by
+unfolding used-until
 returns c =
     let b = c .before in
     let s = b .before .before .before in
