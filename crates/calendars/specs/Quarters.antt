@@ -22,7 +22,8 @@ quarters-where f = record { low = packed f 0 32; middle = packed f 32 32; high =
 -- cleaning windows, r has the bits of those that count
 abbrev pub Ruled : (opened cleaned r : ℕ) → Type 0
 Ruled o k r =
-    (f g : ℕ → Bool) (q : ℕ) → o ≡ packed f q 32 → k ≡ packed g q 32 → r ≡ packed (λ x. rule (f x) (g x)) q 32
+    (f g : ℕ → Bool) (q : ℕ) → o ≡ packed f q 32 → k ≡ packed g q 32
+    → r ≡ packed (λ x. rule (f x) (g x)) q 32
 
 -- the factor "from a table for n from 1 to 96"; 0 where the table has none
 unfoldable pub tabled : ℕ → ℕ

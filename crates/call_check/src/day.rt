@@ -41,8 +41,8 @@ pub struct DayFinding {
 
 fn day_turned_down(number: u32) -> DayFinding
     ensures { λ r.
-        ⌜ (r .number ≡ number) × (counted (r .day .curve) ≡ cost-of 0 0 0 0) × (r .day .quarters ≡ no-quarters)
-        × (r .day .n ≡ 0) ⌝ }
+        ⌜ (r .number ≡ number) × (counted (r .day .curve) ≡ cost-of 0 0 0 0)
+        × (r .day .quarters ≡ no-quarters) × (r .day .n ≡ 0) ⌝ }
 {
     DayFinding {
         number,
@@ -79,7 +79,8 @@ fn curve_counts(rows: u32) -> Counts
 
 // The counts of a day: n curves and one kind 8.
 fn day_counts(curve: Counts, n: u32) -> Counts
-    requires { ⌜ (curve .deals ≤ 1000) × (curve .words ≤ 1000) × (curve .a ≤ 1000) × (curve .b ≤ 1000) × (n ≤ 96) ⌝ }
+    requires { ⌜ (curve .deals ≤ 1000) × (curve .words ≤ 1000) × (curve .a ≤ 1000) × (curve .b ≤ 1000)
+        × (n ≤ 96) ⌝ }
     ensures { λ r. ⌜ counted r ≡ day-of n (counted curve) ⌝ }
 {
     Counts {
@@ -108,7 +109,8 @@ fn check_day(
         (dealer-lists-fault (needs-of host (day-of (counted-quarters (now (calendar .entry)) weekday)
         (curve-cost 0 (length (rows (now (table .entry)))))))
         (now (a .entry)) (now (b .entry)) (now (deals .entry))) ⌝ }
-    ensures day { λ r. ⌜ DayIs (r .number) (now (table .entry)) (hours (now (calendar .entry)) weekday) (r .day) ⌝ }
+    ensures day { λ r.
+        ⌜ DayIs (r .number) (now (table .entry)) (hours (now (calendar .entry)) weekday) (r .day) ⌝ }
 {
     if shares.len() != DAY_WORDS {
         return day_turned_down(12);
@@ -152,7 +154,8 @@ pub fn check_day_lent(
         (lent host
         (day-script 32 (now (table .entry)) (length (now (shares .entry))) (hours (now (calendar .entry)) weekday))
         (now (masks .entry)) (now (deals .entry))) ⌝ }
-    ensures day { λ r. ⌜ DayIs (r .number) (now (table .entry)) (hours (now (calendar .entry)) weekday) (r .day) ⌝ }
+    ensures day { λ r.
+        ⌜ DayIs (r .number) (now (table .entry)) (hours (now (calendar .entry)) weekday) (r .day) ⌝ }
 {
     match host {
         1 | 2 => check_day(host, table, shares, calendar, weekday, masks, masks, deals),
@@ -175,7 +178,8 @@ pub fn check_day_dealer(
         ≡ dealer-fault
         (day-script 32 (now (table .entry)) (length (now (shares .entry))) (hours (now (calendar .entry)) weekday))
         (now (a .entry)) (now (b .entry)) (now (deals .entry)) ⌝ }
-    ensures day { λ r. ⌜ DayIs (r .number) (now (table .entry)) (hours (now (calendar .entry)) weekday) (r .day) ⌝ }
+    ensures day { λ r.
+        ⌜ DayIs (r .number) (now (table .entry)) (hours (now (calendar .entry)) weekday) (r .day) ⌝ }
 {
     check_day(0, table, shares, calendar, weekday, a, b, deals)
 }

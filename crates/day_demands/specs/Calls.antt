@@ -29,7 +29,8 @@ pub record DayCalls (w : ℕ) : Type 0 where
   -- host 0's preparation
   pub prepares : (S : DaySetting) (cs : List Call) (r : Pair) (buf : List ℕ) (one two : Side)
       → Run (day-staged w S) cs (world (idle r) buf one two)
-      → own-masks (preparation (day-staged w S) buf r) ≡ day-prepare w (S .table) (list0 S) (S .hours) (S .A) (S .B) buf
+      → own-masks (preparation (day-staged w S) buf r)
+      ≡ day-prepare w (S .table) (list0 S) (S .hours) (S .A) (S .B) buf
   -- startings
   pub starts1 : (S : DaySetting) (cs : List Call) (z : Dealer) (buf D : List ℕ) (s : State) (two : Side)
       → Run (day-staged w S) cs (world z buf (waiting s) two)

@@ -17,8 +17,10 @@ use Rattle.days.specs.DayCalls.{day-start, day-hear, day-prepare}
 -- has in R-6's words; 5
 pub data DayNumbered (table : List ℕ) (n : ℕ) (H : Hours) : (number index : ℕ) → Type 0 where
   no-day : n ≢ 192 → DayNumbered table n H 12 0
-  no-hours : n ≡ 192 → (k : ℕ) → HoursNumbered (H .calendar) (H .weekday) k → k ≢ 0 → DayNumbered table n H k 0
-  no-table : n ≡ 192 → HoursNumbered (H .calendar) (H .weekday) 0 → (Rules table → ⊥) → DayNumbered table n H 5 0
+  no-hours : n ≡ 192 → (k : ℕ) → HoursNumbered (H .calendar) (H .weekday) k → k ≢ 0
+      → DayNumbered table n H k 0
+  no-table : n ≡ 192 → HoursNumbered (H .calendar) (H .weekday) 0 → (Rules table → ⊥)
+      → DayNumbered table n H 5 0
   faultless : n ≡ 192 → HoursNumbered (H .calendar) (H .weekday) 0 → Rules table → DayNumbered table n H 0 0
 
 -- what the conditions speak of, of a day: its places are those of the products and refreshes of its counted quarters,
@@ -58,7 +60,8 @@ pub record DayNumbers : Type 0 where
       → (day-prepare 32 T S H A B D .masks ≡ (replicate 16 0, replicate 16 0))
       × (day-prepare 32 T S H A B D .buffer ≡ D)
       × (day-prepare 32 T S H A B D .deals ≡ 0)
-  pub starting-unchanged : (h : ℕ) (T S : List ℕ) (H : Hours) (M D : List ℕ) → day-start 32 h T S H M D .number ≢ 0
+  pub starting-unchanged : (h : ℕ) (T S : List ℕ) (H : Hours) (M D : List ℕ)
+      → day-start 32 h T S H M D .number ≢ 0
       → (day-start 32 h T S H M D .state
       ≡ record { m = replicate 24 0; mask = replicate 24 0; order = 0; turn = 0 })
       × (day-start 32 h T S H M D .spoken ≡ 0) × (day-start 32 h T S H M D .word ≡ 0)

@@ -70,7 +70,8 @@ OpenDay S = HoursNumbered (S .hours .calendar) (S .hours .weekday) 0
 -- of the quarters that count "readings that can be split": from -2^30 to 2^30 - 1
 abbrev pub Splittable : DaySetting → Type 0
 Splittable S =
-    (q : ℕ) → q < 96 → Counts (S .hours .calendar) (S .hours .weekday) q → T (in-range 32 (quarter-reading 32 S q))
+    (q : ℕ) → q < 96 → Counts (S .hours .calendar) (S .hours .weekday) q
+    → T (in-range 32 (quarter-reading 32 S q))
 
 -- every table that keeps the rules, on such hours and readings
 pub record Sheet (S : DaySetting) : Type 0 where
@@ -128,4 +129,5 @@ pub record DayOpens : Type 0 where
   -- a day is accepted with its lists and a buffer exactly where none of 12, 16, 17, 5, 6 and 7 is met; then whole runs
   -- of it exist (`whole`, Returned.antt)
   pub accepted : (S : DaySetting) (buffer : List ℕ)
-      → PreparationIs (day-terms (S .table) 192 (S .hours)) (S .A) (S .B) buffer 0 0 ↔ Accepted (day-staged 32 S) buffer
+      → PreparationIs (day-terms (S .table) 192 (S .hours)) (S .A) (S .B) buffer 0 0
+      ↔ Accepted (day-staged 32 S) buffer

@@ -62,8 +62,8 @@ hours c d = record { calendar = c; weekday = d }
 abbrev pub counting : Hours → ℕ → Bool
 counting H = counts (H .calendar) (H .weekday)
 
--- lent a table, a day list of so many words and hours: "12, day list not of 96 shares", of two words each; "16 ..; 17 ..; both
--- after 12"; "a faulty table is 5 with index 0"
+-- lent a table, a day list of so many words and hours: "12, day list not of 96 shares", of two words each; "16 ..; 17
+-- ..; both after 12"; "a faulty table is 5 with index 0"
 unfoldable pub day-fault : (table : List ℕ) (words : ℕ) → Hours → Fault
 day-fault table words H =
     cond (eqb words 192)

@@ -62,7 +62,8 @@ pub extern "C" fn lamphiek_day_prepare(
         (now (a .entry)) (now (b .entry)) (now (deals .entry)) .buffer ⌝ }
     ensures masks { λ r.
         ⌜ now (masks .exit)
-        ≡ masks-left (day-prepare 32 (now (table .entry)) (now (shares .entry)) (hours (now (calendar .entry)) weekday)
+        ≡ masks-left
+        (day-prepare 32 (now (table .entry)) (now (shares .entry)) (hours (now (calendar .entry)) weekday)
         (now (a .entry)) (now (b .entry)) (now (deals .entry)))
         (now (masks .entry)) ⌝ }
 {

@@ -1,6 +1,6 @@
-// The engine for C: every call of document 01, of R-3's day with R-6's hours, and of R-5 under a plain name, on what the
-// caller lends. include/lamphiek.h declares what is exported here; a struct that is lent is an array of words here, in
-// the order of its fields.
+// The engine for C: every call of document 01, of R-3's day with R-6's hours, and of R-5 under a plain name, on what
+// the caller lends. include/lamphiek.h declares what is exported here; a struct that is lent is an array of words here,
+// in the order of its fields.
 mod checking;
 mod day;
 mod layout;
