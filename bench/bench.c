@@ -84,7 +84,8 @@ static void hear_in_job(struct answer *r, uint32_t heard)
 /* host 1, in the middle of a curve: what does not hang on kept words, which the engines keep each in its own way */
 static __attribute__((noinline)) uint32_t hearing_in_curve(uint32_t quarter, uint32_t v)
 {
-    struct answer r = {.state.order = quarter == JOB_HEARING ? 0 : quarter, .state.turn = DAY_TURN};
+    uint32_t order = quarter == JOB_HEARING ? 0 : quarter;
+    struct answer r = {.state = {.order = order, .turn = DAY_TURN, .used = used_in_curve(order)}};
     for (int j = 0; j < 24; j++)
         r.state.m[j] = v, r.state.l[j] = 7;
     if (quarter == JOB_HEARING)
@@ -120,7 +121,21 @@ static uint32_t running(struct list job, uint32_t v)
     return e.one.state.m[0] + e.two.spoken + e.p.l1[0] + e.p.deals;
 }
 
-/* hearing at any place, named by a number: its number, index, spoken words and place */
+/* the stored places at a place of the job below, by what its orders use; wrong ones at the refresh of its curve, and
+ * elsewhere now and then one of the three */
+static struct used probed(uint32_t order, uint32_t turn, uint32_t i)
+{
+    static const uint32_t b[10] = {1, 111, 112, 112, 124, 125, 126, 138, 137, 137};
+    static const uint32_t deals[10] = {1, 111, 111, 113, 124, 126, 127, 138, 139, 139};
+    struct used r = {b[order] + deals[order] + 2 * turn, b[order] + turn, deals[order] + turn};
+    uint32_t off = i / 7 % 16;
+    r.a += off == 0;
+    r.b += off == 1;
+    r.deals += off == 2;
+    return r;
+}
+
+/* hearing at any place, named by a number: its number, index, spoken words, place and stored places */
 static uint32_t probing(uint32_t i)
 {
     static const uint32_t job[32] = {10, 1, 0, 1, 4, 2, 0, 1, 0, 3, 1, 2, 8, 4, 2, 5,
@@ -130,13 +145,15 @@ static uint32_t probing(uint32_t i)
         s.m[j] = i, s.l[j] = 7;
     s.order = i / 4 % 10;
     s.turn = i / 40 % 260;
+    s.used = probed(s.order, s.turn, i);
     struct lent h = {{job, 32}, table, {A, i / 1000 % 330}, {D, i / 1300 % 200}};
     struct answer r = {.state = s};
     if (in_place)
         hear_at(&r, i % 4, &h, 5);
     else
         r = hear(s, i % 4, &h, 5);
-    return (r.number + r.index * 1000) * 65537 + r.spoken * 257 + r.state.order * 31 + r.state.turn;
+    uint32_t used = r.state.used.a + r.state.used.b * 3 + r.state.used.deals * 5;
+    return (r.number + r.index * 1000) * 65537 + r.spoken * 257 + r.state.order * 31 + r.state.turn + used * 8191;
 }
 
 static __attribute__((noinline)) uint32_t loading(size_t rows, uint32_t v)

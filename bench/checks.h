@@ -1,5 +1,5 @@
 /* What every host does first: conditions 1 to 7 of document 01, 12 of R-3, 16 and 17 of R-6, and the counts before a
- * place. Loading a table, 13 to 15 of R-5. The curve's slopes. */
+ * place, with which 18 of R-7 compares the stored ones. Loading a table, 13 to 15 of R-5. The curve's slopes. */
 #ifndef CHECKS_H
 #define CHECKS_H
 #include "hours.h"
@@ -8,10 +8,8 @@ enum { MEAN_SHIFT = 16 }; /* a day's mean: floor(factor * sum / 65536) */
 
 /* ---- checking: conditions 2 to 7, 12, 16 and 17 */
 
-struct cost { u32 deals, a, b; };
-
-static const struct cost COST[10] = {{0, 0, 0}, {0, 0, 0}, {0, 0, 0}, {0, 0, 0},    {1, 2, 1},
-                                     {0, 1, 1}, {1, 1, 0}, {2, 3, 1}, {13, 25, 12}, {12, 24, 12}};
+static const struct used COST[10] = {{0, 0, 0}, {0, 0, 0}, {0, 0, 0}, {0, 0, 0},    {2, 1, 1},
+                                     {1, 1, 0}, {1, 0, 1}, {3, 1, 2}, {25, 12, 13}, {24, 12, 12}};
 /* the fourth word: least, and how many values from there (0: any) */
 static const u32 LEAST[10] = {0, 0, 0, 0, 0, 0, 1, 1, 1, 0};
 static const u32 VALUES[10] = {16, 16, 0, 0, 16, 1, 31, 30, 31, 1};
@@ -61,27 +59,27 @@ static inline struct loaded load(const uint8_t *text, size_t bytes)
 /* ---- counts */
 
 /* Of a curve: a kind 9 for each row, and as much once more behind the truncation. */
-static inline struct cost exact_curve(u32 rows)
+static inline struct used exact_curve(u32 rows)
 {
-    return (struct cost){12 * rows + 25, 24 * rows + 49, 12 * rows + 24};
+    return (struct used){24 * rows + 49, 12 * rows + 24, 12 * rows + 25};
 }
-static inline struct cost one_bit_curve(u32 rows)
+static inline struct used one_bit_curve(u32 rows)
 {
-    return (struct cost){12 * rows + 14, 24 * rows + 28, 12 * rows + 14};
+    return (struct used){24 * rows + 28, 12 * rows + 14, 12 * rows + 14};
 }
 
-struct checked { u32 number, index; struct cost whole, before; };
+struct checked { u32 number, index; struct used whole, before; };
 
 static inline __attribute__((always_inline)) struct checked check_job(struct list job, struct list table, u32 place)
 {
     struct checked r = {0};
     if (job.n == 0 || job.n > 256 || job.n % 4)
         return (struct checked){.number = 2};
-    struct cost curve[2] = {exact_curve(table.n / 2), one_bit_curve(table.n / 2)};
-    u32 deals = 0, a = 0, b = 0, i = 0, ruled = 0, fault;
+    struct used curve[2] = {exact_curve(table.n / 2), one_bit_curve(table.n / 2)};
+    u32 a = 0, b = 0, deals = 0, i = 0, ruled = 0, fault;
     for (const u32 *o = job.at, *end = o + job.n; o < end; o += 4, i++) {
         u32 kind = o[0], fourth = o[3];
-        const struct cost *c;
+        const struct used *c;
         fault = 3;
         if (kind > 10)
             goto refused;
@@ -100,20 +98,20 @@ static inline __attribute__((always_inline)) struct checked check_job(struct lis
             c = &COST[kind];
         }
         if (i == place)
-            r.before = (struct cost){deals, a, b};
-        deals += c->deals;
+            r.before = (struct used){a, b, deals};
         a += c->a;
         b += c->b;
+        deals += c->deals;
     }
-    r.whole = (struct cost){deals, a, b};
+    r.whole = (struct used){a, b, deals};
     return r;
 refused:
     return (struct checked){.number = fault, .index = i};
 }
 
-static inline struct cost plus(struct cost x, u32 times, struct cost y)
+static inline struct used plus(struct used x, u32 times, struct used y)
 {
-    return (struct cost){x.deals + times * y.deals, x.a + times * y.a, x.b + times * y.b};
+    return (struct used){x.a + times * y.a, x.b + times * y.b, x.deals + times * y.deals};
 }
 
 /* A day is checked in the time of one curve and of its calendar: the counts before a quarter are so many times one
@@ -130,7 +128,7 @@ static inline __attribute__((always_inline)) struct day_checked check_day(struct
     r.lent.number = r.hours.number ? r.hours.number : keeps_rules(table) ? 0 : 5;
     if (r.lent.number)
         return r;
-    struct cost quarter = exact_curve(table.n / 2), none = {0, 0, 0};
+    struct used quarter = exact_curve(table.n / 2), none = {0, 0, 0};
     r.lent.whole = plus(COST[8], r.hours.n, quarter);
     r.lent.before = plus(none, place <= MEAN ? how_many(r.hours.counted & before(place)) : 0, quarter);
     return r;
@@ -164,6 +162,29 @@ static inline __attribute__((always_inline)) struct day_checked check_lent_day(u
     r = check_day(d->table, d->shares, d->calendar, d->weekday, place);
     check_lists(&r.lent, host, d->masks, d->deals);
     return r;
+}
+
+/* ---- condition 18 */
+
+/* How many more deals than exchanges an order has used with the exchange of a turn. Of kinds 0 to 9 it is the same at
+ * every turn; a curve has one more from its exact truncation on, and one fewer at the refresh before the other. */
+static const u32 MORE_DEALS[10] = {0, 0, 0, 0, 0, 0u - 1, 0, 1, 1, 0};
+
+static inline u32 more_deals_of_curve(u32 mode, u32 rows, u32 turn)
+{
+    return mode ? 0u - (turn == 12 * rows) : turn >= 12 * rows;
+}
+
+/* What is used up to and with the exchange of a turn: an exchange takes a word of A and one of B, a deal one of A. */
+static inline struct used used_at(struct used before, u32 turn, u32 more_deals)
+{
+    u32 b = before.b + turn + 1, deals = before.deals + turn + 1 + more_deals;
+    return (struct used){b + deals, b, deals};
+}
+
+static inline int same_used(struct used x, struct used y)
+{
+    return ((x.a ^ y.a) | (x.b ^ y.b) | (x.deals ^ y.deals)) == 0;
 }
 
 /* ---- the curve's slopes */

@@ -1,4 +1,4 @@
-/* Document 01's engine, with R-1 and R-3 to R-6, written by hand in C: the same calls and obligations as the proved
+/* Document 01's engine, with R-1 and R-3 to R-7, written by hand in C: the same calls and obligations as the proved
  * engine. */
 #ifndef ENGINE_H
 #define ENGINE_H
@@ -21,8 +21,11 @@ struct list { const uint32_t *at; size_t n; };
 struct lent { struct list job, table, masks, deals; };
 struct day { struct list table, shares, calendar; uint32_t weekday; struct list masks, deals; };
 
-/* Registers 0 to 15, kept words behind them, and the place. */
-struct state { uint32_t m[24], l[24], order, turn; };
+/* How much of the lists is used: words of A, words of B, deals. */
+struct used { uint32_t a, b, deals; };
+
+/* Registers 0 to 15, kept words behind them, the place, and its stored places. */
+struct state { uint32_t m[24], l[24], order, turn; struct used used; };
 
 struct answer { uint32_t number, index, spoken, word; struct state state; };
 
@@ -48,6 +51,13 @@ extern const uint32_t house[16];
 /* Workload 9 of bench.c, library.c and the crate workloads: by S a whole day, the hearing of a job of one curve, a day
  * that is half closed, or else one hearing in quarter S; both hearings at this turn. */
 enum { WHOLE_DAY = DAY_END, JOB_HEARING, HALF_DAY, DAY_TURN = 60 };
+
+/* Their stored places: a house curve uses 241 words of A, 120 of B and 121 deals, each turn of its rows 2, 1 and 1. */
+static inline struct used used_in_curve(uint32_t quarter)
+{
+    uint32_t n = DAY_TURN + 1;
+    return (struct used){241 * quarter + 2 * n, 120 * quarter + n, 121 * quarter + n};
+}
 
 /* Its day, as each host's list: 40 times the quarter, so that the last ones are above the house table's last row. */
 static inline void sample_day(uint32_t shares[3][DAY_WORDS])

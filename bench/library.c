@@ -30,7 +30,7 @@ static uint32_t preparing(struct job job, uint32_t v)
 
 static uint32_t starting(uint32_t host, struct job job, uint32_t v)
 {
-    lamphiek_state s = {{v + 202}, {v}, 0, 0};
+    lamphiek_state s = {.m = {v + 202}, .mask = {v}};
     lamphiek_answer r = host == 1 ? lamphiek_start(&s, LENT_1(job)) : lamphiek_start(&s, LENT_2(job));
     return r.word + r.count + s.m[0] + s.mask[1];
 }
@@ -38,7 +38,7 @@ static uint32_t starting(uint32_t host, struct job job, uint32_t v)
 static uint32_t running(struct job job, uint32_t v)
 {
     lamphiek_masks k = {{v}, {v + 7}};
-    lamphiek_state s = {{v + v + 209}, {v}, 0, 0}, t = {{v + v + 209}, {v + 7}, 0, 0};
+    lamphiek_state s = {.m = {v + v + 209}, .mask = {v}}, t = {.m = {v + v + 209}, .mask = {v + 7}};
     lamphiek_answer p = prepare_job(job, &k);
     lamphiek_answer one = lamphiek_start(&s, LENT_1(job)), two = lamphiek_start(&t, LENT_2(job));
     while (s.order < job.n / LAMPHIEK_ORDER_WORDS) {
@@ -71,7 +71,10 @@ static uint32_t hearing_in_curve(uint32_t quarter, uint32_t v)
 {
     struct job curve = {curves, LAMPHIEK_ORDER_WORDS};
     const uint32_t *calendar = all_open;
-    lamphiek_state s = {.order = quarter == JOB_HEARING ? 0 : quarter, .turn = DAY_TURN};
+    const uint32_t order = quarter == JOB_HEARING ? 0 : quarter;
+    const struct used used = used_in_curve(order);
+    lamphiek_state s = {
+        .order = order, .turn = DAY_TURN, .used_a = used.a, .used_b = used.b, .used_deals = used.deals};
     for (int j = 0; j < LAMPHIEK_LANE; j++)
         s.m[j] = v, s.mask[j] = 7;
     lamphiek_answer r = quarter == JOB_HEARING ? lamphiek_hear(&s, LENT_1(curve), 5) : lamphiek_day_hear(&s, DAY_1, 5);

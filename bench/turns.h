@@ -1,5 +1,6 @@
 /* A turn of a host: what kinds 7 to 10 keep between their products and refreshes, speak, and make of what they hear. A
- * turn finds its words of the lists from those before its order, and works its own word out again. */
+ * turn finds its words of the lists by the state's stored places, which were checked, and works its own word out
+ * again. */
 #ifndef TURNS_H
 #define TURNS_H
 #include "gates.h"
@@ -140,26 +141,27 @@ static inline void curve_begin(struct state *s, struct walk *w, struct share x, 
 static inline u32 sign_known(u32 turn) { return turn == 0 || turn == 10; }
 static inline u32 exact_known(u32 turn) { return turn == 0 || turn >= 10; }
 
-/* Words of A, and deals, before a turn of theirs. A product takes two words and a deal; so does one with a known value
- * together with the deal before it. Kind 8 begins with a deal. */
-static inline void sign_place(struct walk *w, u32 turn)
+static inline void to_exchange(struct walk *w, u32 known)
 {
-    w->a += 2 * turn + sign_known(turn);
-    w->k += turn + sign_known(turn);
+    if (known)
+        to_refresh(w);
+    else
+        to_product(w);
 }
 
-static inline void exact_place(struct walk *w, u32 turn)
-{
-    w->a += 1 + 2 * turn + exact_known(turn);
-    w->k += 1 + turn + exact_known(turn);
-}
-
-static inline int said(struct answer *r, const struct walk *w, u32 word)
+/* An order goes on to its next turn. */
+static inline int said(struct answer *r, u32 word)
 {
     r->state.turn++;
     r->word = word;
-    r->spoken = w->b + 1;
     return 0;
+}
+
+/* The same where that is the first turn of an adder. */
+static inline int said_first(struct answer *r, struct walk *w)
+{
+    to_refresh(w);
+    return said(r, adder_word(&r->state, w, 0));
 }
 
 /* A turn of kind 8 or 9 (of a curve, too): 1 where it was the last one, with the result in v. */
@@ -167,31 +169,29 @@ static inline __attribute__((always_inline)) int sign_turn(struct answer *r, str
                              enum factor f, u32 turn, u32 heard, struct share *v)
 {
     struct state *s = &r->state;
-    sign_place(w, turn);
-    u32 own = sign_word(s, w, x, turn), sum = turn < 10 ? own ^ heard : own + heard;
-    *v = sign_known(turn) ? refreshed(w, sum) : met(w, sum);
+    u32 own = sign_word(s, w, x, turn);
+    *v = met(w, turn < 10 ? own ^ heard : own + heard);
     if (sign_heard(s, w, f, turn, *v))
         return 1;
-    return said(r, w, sign_word(s, w, x, turn + 1));
+    to_exchange(w, sign_known(turn + 1));
+    return said(r, sign_word(s, w, x, turn + 1));
 }
 
 static inline __attribute__((always_inline)) int exact_turn(struct answer *r, struct walk *w, u32 k,
                              u32 turn, u32 heard, struct share *v)
 {
     struct state *s = &r->state;
-    exact_place(w, turn);
-    u32 own = exact_word(s, w, turn), sum = turn < 10 ? own ^ heard : own + heard;
-    *v = exact_known(turn) ? refreshed(w, sum) : met(w, sum);
+    u32 own = exact_word(s, w, turn);
+    *v = met(w, turn < 10 ? own ^ heard : own + heard);
     if (exact_heard(s, w, k, turn, v))
         return 1;
-    return said(r, w, exact_word(s, w, turn + 1));
+    to_exchange(w, exact_known(turn + 1));
+    return said(r, exact_word(s, w, turn + 1));
 }
 
-static inline int one_bit_turn(struct answer *r, struct walk *w, u32 k, u32 heard, struct share *v)
+static inline int one_bit_turn(const struct answer *r, const struct walk *w, u32 k, u32 heard, struct share *v)
 {
-    w->a += 2;
-    w->k += 2;
-    *v = one_bit_end(&r->state, k, refreshed(w, mul_known(w, get(&r->state, BIT)) + heard));
+    *v = one_bit_end(&r->state, k, met(w, mul_known(w, get(&r->state, BIT)) + heard));
     return 1;
 }
 
@@ -202,20 +202,20 @@ static inline __attribute__((always_inline)) int row_turn(struct answer *r, stru
     struct state *s = &r->state;
     struct share v;
     u32 row = turn / 12;
-    w->a += 24 * row;
-    w->k += 12 * row;
     if (!sign_turn(r, w, row_source(x, t, row), ONE_LESS_SIGN, turn % 12, heard, &v))
         return 0;
     struct share sum = add(get(s, CURVE), scale(v, change(t, row)));
     put(s, CURVE, sum);
     if (2 * ++row < t.n) {
         adder_begin(s, w, row_source(x, t, row).m);
-        return said(r, w, adder_word(s, w, 0));
+        return said_first(r, w);
     }
-    if (mode)
-        return said(r, w, refresh_word(w, sum));
+    if (mode) {
+        to_refresh(w);
+        return said(r, refresh_word(w, sum));
+    }
     exact_begin(s, w, sum, 12);
-    return said(r, w, adder_word(s, w, 0));
+    return said_first(r, w);
 }
 
 /* A turn of its truncation, or of the refresh before that; behind it the value is kept, and the sign's adder begins. */
@@ -228,16 +228,16 @@ static inline __attribute__((always_inline)) int curve_truncation_turn(struct an
         if (!exact_turn(r, w, 12, turn, heard, &v))
             return 0;
     } else if (turn == 0) {
-        v = refreshed(w, refresh_word(w, get(s, CURVE)) + heard);
+        v = met(w, refresh_word(w, get(s, CURVE)) + heard);
         one_bit_begin(s, w, v, 12);
-        return said(r, w, mul_known(w, get(s, BIT)));
+        to_refresh(w);
+        return said(r, mul_known(w, get(s, BIT)));
     } else {
-        w->a++;
         one_bit_turn(r, w, 12, heard, &v);
     }
     put(s, CURVE, v);
     adder_begin(s, w, t.at[t.n - 2] - x.m);
-    return said(r, w, adder_word(s, w, 0));
+    return said_first(r, w);
 }
 
 /* A turn of a curve: 1 where it was the last one, with the result in v. */
@@ -247,14 +247,10 @@ static inline __attribute__((always_inline)) int curve_turn(struct answer *r, st
     u32 rows = t.n / 2;
     if (turn < 12 * rows)
         return row_turn(r, w, x, mode, t, turn, heard);
-    w->a += 24 * rows;
-    w->k += 12 * rows;
     turn -= 12 * rows;
     u32 truncated = mode ? 2 : 12;
     if (turn < truncated)
         return curve_truncation_turn(r, w, x, mode, t, turn, heard);
-    w->a += mode ? 4 : 25;
-    w->k += mode ? 2 : 13;
     struct share value = get(&r->state, CURVE), over = {value.m + 1, value.l};
     if (!sign_turn(r, w, over, SIGN, turn - truncated, heard, v))
         return 0;

@@ -1,7 +1,14 @@
 /* Hosts 1 and 2: a switch over kind and turn, no gate interpreter. Hearing finds its place from (order, turn),
- * conditions 8 and 9, and works its own word out again. */
+ * conditions 8, 18 and 9, and works its own word out again. */
 #include "turns.h"
 #include <string.h>
+
+/* What a completed call leaves. */
+static inline void keep(struct answer *r, const struct walk *w)
+{
+    r->state.used = w->used;
+    r->spoken = w->used.b;
+}
 
 /* Runs from the beginning of an order to the first product or refresh, or to the end. */
 static inline void run(struct answer *r, struct walk *w, const struct lent *lent)
@@ -18,19 +25,19 @@ static inline void run(struct answer *r, struct walk *w, const struct lent *lent
         case 1: put(s, d, sub(x, get(s, c))); continue;
         case 2: x.m += c; put(s, d, x); continue;
         case 3: put(s, d, scale(x, c)); continue;
-        case 4: r->word = mul_word(w, x, get(s, c)); break;
-        case 5: r->word = refresh_word(w, x); break;
+        case 4: to_product(w); r->word = mul_word(w, x, get(s, c)); return;
+        case 5: to_refresh(w); r->word = refresh_word(w, x); return;
         case 6: put(s, d, (struct share){(u32)((int32_t)x.m >> c), deal(w)}); continue;
-        case 7: one_bit_begin(s, w, x, c); r->word = mul_known(w, get(s, BIT)); break;
-        case 8: exact_begin(s, w, x, c); r->word = adder_word(s, w, 0); break;
-        case 9: adder_begin(s, w, x.m); r->word = adder_word(s, w, 0); break;
-        default: curve_begin(s, w, x, lent->table); r->word = adder_word(s, w, 0);
+        case 7: one_bit_begin(s, w, x, c); to_refresh(w); r->word = mul_known(w, get(s, BIT)); return;
+        case 8: exact_begin(s, w, x, c); break;
+        case 9: adder_begin(s, w, x.m); break;
+        default: curve_begin(s, w, x, lent->table);
         }
-        r->spoken = w->b + 1;
+        to_refresh(w);
+        r->word = adder_word(s, w, 0);
         return;
     }
     r->word = 0;
-    r->spoken = w->b;
 }
 
 struct answer start(u32 host, const struct lent *lent, const u32 m[16], const u32 l[16])
@@ -44,8 +51,9 @@ struct answer start(u32 host, const struct lent *lent, const u32 m[16], const u3
         r.index = c.index;
         return r;
     }
-    struct walk w = {host, lent->masks.at, lent->deals.at, 0, 0, 0};
+    struct walk w = {host, lent->masks.at, lent->deals.at, {0, 0, 0}};
     run(&r, &w, lent);
+    keep(&r, &w);
     return r;
 }
 
@@ -54,32 +62,37 @@ static inline u32 turns(const u32 *o, struct list t)
     return o[0] < 10 ? COST[o[0]].b : 12 * (t.n / 2) + (o[3] ? 14 : 24);
 }
 
+/* Conditions 8, 18 and 9 behind those before them. */
+static inline u32 check_place(const struct state *s, const struct lent *lent, const struct checked *c)
+{
+    u32 n = lent->job.n / 4;
+    if (s->order >= n)
+        return s->order > n || s->turn ? 8 : same_used(s->used, c->whole) ? 9 : 18;
+    const u32 *o = lent->job.at + 4 * s->order;
+    if (s->turn >= turns(o, lent->table))
+        return 8;
+    u32 more = o[0] < 10 ? MORE_DEALS[o[0]] : more_deals_of_curve(o[3], lent->table.n / 2, s->turn);
+    return same_used(s->used, used_at(c->before, s->turn, more)) ? 0 : 18;
+}
+
 static inline __attribute__((always_inline)) void hear_in(struct answer *r, u32 host, const struct lent *lent,
                     u32 heard)
 {
     struct state *s = &r->state;
-    u32 order = s->order, turn = s->turn, n = lent->job.n / 4;
-    struct checked c = check_lent(host, lent, order);
-    r->number = c.number;
+    u32 turn = s->turn;
+    struct checked c = check_lent(host, lent, s->order);
+    r->number = c.number ? c.number : check_place(s, lent, &c);
     r->index = c.index;
     r->spoken = r->word = 0;
-    if (c.number)
+    if (r->number)
         return;
-    if (order >= n) {
-        r->number = order == n && turn == 0 ? 9 : 8;
-        return;
-    }
-    const u32 *o = lent->job.at + 4 * order;
-    if (turn >= turns(o, lent->table)) {
-        r->number = 8;
-        return;
-    }
-    struct walk w = {host, lent->masks.at, lent->deals.at, c.before.a, c.before.b + turn, c.before.deals};
+    const u32 *o = lent->job.at + 4 * s->order;
+    struct walk w = {host, lent->masks.at, lent->deals.at, s->used};
     struct share v;
     int done = 1;
     switch (o[0]) {
     case 4: v = met(&w, mul_word(&w, get(s, o[2]), get(s, o[3])) + heard); break;
-    case 5: v = refreshed(&w, refresh_word(&w, get(s, o[2])) + heard); break;
+    case 5: v = met(&w, refresh_word(&w, get(s, o[2])) + heard); break;
     case 7: done = one_bit_turn(r, &w, o[3], heard, &v); break;
     case 8: done = exact_turn(r, &w, o[3], turn, heard, &v); break;
     case 9: done = sign_turn(r, &w, get(s, o[2]), ONE_LESS_SIGN, turn, heard, &v); break;
@@ -90,6 +103,7 @@ static inline __attribute__((always_inline)) void hear_in(struct answer *r, u32 
         s->order++;
         run(r, &w, lent);
     }
+    keep(r, &w);
 }
 
 struct answer hear(struct state s, u32 host, const struct lent *lent, u32 heard)
@@ -116,15 +130,14 @@ static inline void run_day(struct answer *r, struct walk *w, const struct day *d
     s->order = next_order(h.counted, order);
     s->turn = 0;
     r->word = 0;
-    r->spoken = w->b;
     if (s->order == DAY_END)
         return;
     if (s->order < MEAN)
         curve_begin(s, w, quarter(d, s->order), d->table);
     else
         exact_begin(s, w, scale(get(s, 0), MEAN_FACTOR[h.n - 1]), MEAN_SHIFT);
+    to_refresh(w);
     r->word = adder_word(s, w, 0);
-    r->spoken++;
 }
 
 struct answer start_day(u32 host, const struct day *d)
@@ -134,51 +147,56 @@ struct answer start_day(u32 host, const struct day *d)
     r.number = c.lent.number;
     if (r.number)
         return r;
-    struct walk w = {host, d->masks.at, d->deals.at, 0, 0, 0};
+    struct walk w = {host, d->masks.at, d->deals.at, {0, 0, 0}};
     run_day(&r, &w, d, c.hours, 0);
+    keep(&r, &w);
     return r;
 }
 
-/* Conditions 8 and 9; a quarter that is left out has no turns. */
-static inline u32 check_day_place(const struct state *s, struct list table, quarters_set counted)
+/* Conditions 8, 18 and 9; a quarter that is left out has no turns. */
+static inline u32 check_day_place(const struct state *s, struct list table, const struct day_checked *c)
 {
+    u32 rows = table.n / 2, turns = 0, more = more_deals_of_curve(0, rows, s->turn);
     if (s->order > MEAN)
-        return s->order == DAY_END && s->turn == 0 ? 9 : 8;
-    u32 turns = s->order == MEAN ? COST[8].b : counts(counted, s->order) ? exact_curve(table.n / 2).b : 0;
-    return s->turn < turns ? 0 : 8;
+        return s->order > DAY_END || s->turn ? 8 : same_used(s->used, c->lent.whole) ? 9 : 18;
+    if (s->order == MEAN) {
+        turns = COST[8].b;
+        more = MORE_DEALS[8];
+    } else if (counts(c->hours.counted, s->order)) {
+        turns = exact_curve(rows).b;
+    }
+    return s->turn >= turns ? 8 : same_used(s->used, used_at(c->lent.before, s->turn, more)) ? 0 : 18;
 }
 
-static inline __attribute__((always_inline)) void hear_day_in(struct answer *r, u32 host, const struct day *d,
-                    u32 heard)
+/* A call of its own: taken into hear_day, whose state gcc then spreads over registers, it costs more. */
+__attribute__((noinline)) void hear_day_at(struct answer *r, u32 host, const struct day *d, u32 heard)
 {
     struct state *s = &r->state;
     u32 order = s->order, turn = s->turn;
     struct day_checked c = check_lent_day(host, d, order);
-    struct cost used = c.lent.before;
-    r->number = c.lent.number ? c.lent.number : check_day_place(s, d->table, c.hours.counted);
+    r->number = c.lent.number ? c.lent.number : check_day_place(s, d->table, &c);
     r->index = r->spoken = r->word = 0;
     if (r->number)
         return;
-    struct walk w = {host, d->masks.at, d->deals.at, used.a, used.b + turn, used.deals};
+    struct walk w = {host, d->masks.at, d->deals.at, s->used};
     struct share v;
-    if (order < MEAN) {
-        if (!curve_turn(r, &w, quarter(d, order), 0, d->table, turn, heard, &v))
-            return;
-        put(s, 1, add(get(s, 1), get(s, FACTOR)));
-        v = add(get(s, 0), v);
-    } else if (!exact_turn(r, &w, MEAN_SHIFT, turn, heard, &v)) {
-        return;
+    int done = order < MEAN ? curve_turn(r, &w, quarter(d, order), 0, d->table, turn, heard, &v)
+                            : exact_turn(r, &w, MEAN_SHIFT, turn, heard, &v);
+    if (done) {
+        if (order < MEAN) {
+            put(s, 1, add(get(s, 1), get(s, FACTOR)));
+            v = add(get(s, 0), v);
+        }
+        put(s, 0, v);
+        run_day(r, &w, d, c.hours, order + 1);
     }
-    put(s, 0, v);
-    run_day(r, &w, d, c.hours, order + 1);
+    keep(r, &w);
 }
 
 struct answer hear_day(struct state s, u32 host, const struct day *d, u32 heard)
 {
     struct answer r;
     r.state = s;
-    hear_day_in(&r, host, d, heard);
+    hear_day_at(&r, host, d, heard);
     return r;
 }
-
-void hear_day_at(struct answer *r, u32 host, const struct day *d, u32 heard) { hear_day_in(r, host, d, heard); }

@@ -321,6 +321,12 @@ static void work(struct day *d)
     d->spoken = from1.count + from2.count;
 }
 
+/* Whether a worker's stored places say that all was used that the day needs. */
+static int all_used(const lamphiek_state *s, const lamphiek_counts *need)
+{
+    return s->used_a == need->a && s->used_b == need->b && s->used_deals == need->deals;
+}
+
 /* ---- plant room */
 
 static int64_t opened(const struct day *d, int i)
@@ -366,7 +372,8 @@ int main(int argc, char **argv)
     free(d.a);
     free(d.b);
     free(d.deals);
-    if (d.dealt != d.counts.deals || d.spoken != d.counts.words)
+    if (d.dealt != d.counts.deals || d.spoken != d.counts.words || !all_used(&d.one, &d.counts) ||
+        !all_used(&d.two, &d.counts))
         stop("the counts disagree");
     int64_t mean = opened(&d, 0), above = opened(&d, 1);
     printf("mean %" PRId64 "\nabove the last row %" PRId64 " of %" PRIu32 " quarters\n", mean, above, d.counted);

@@ -40,7 +40,8 @@ class Masks(ctypes.Structure):
 
 
 class State(ctypes.Structure):
-    _fields_ = [("m", c_uint32 * LANE), ("mask", c_uint32 * LANE), ("order", c_uint32), ("turn", c_uint32)]
+    _fields_ = [("m", c_uint32 * LANE), ("mask", c_uint32 * LANE), ("order", c_uint32), ("turn", c_uint32),
+                ("used_a", c_uint32), ("used_b", c_uint32), ("used_deals", c_uint32)]
 
 
 class Quarters(ctypes.Structure):
@@ -131,7 +132,8 @@ def curve(library, mode, reading, factor_a=2654435769, factor_b=2246822519):
     result = Shares((masks.l1[0], masks.l2[0]), (one.m[0], one.mask[0]), (two.m[0], two.mask[0]))
     completed(library.lamphiek_open(result, value))
     spoken = from1.count + from2.count
-    if (prepared.count, spoken) != (counts.deals, counts.words):
+    used = {(s.used_a, s.used_b, s.used_deals) for s in (one, two)}
+    if (prepared.count, spoken) != (counts.deals, counts.words) or used != {(counts.a, counts.b, counts.deals)}:
         raise RuntimeError("the counts disagree")
     return mode, reading, value.value, prepared.count, spoken
 

@@ -52,6 +52,9 @@ pub struct State {
     pub mask: [u32; 24],
     pub order: u32,
     pub turn: u32,
+    pub used_a: u32,
+    pub used_b: u32,
+    pub used_deals: u32,
 }
 
 #[repr(C)]
@@ -224,6 +227,10 @@ fn curve(mode: u32, reading: i64) -> Result<(i64, u32, u32), Refused> {
     })?;
     let spoken = from1.count + from2.count;
     assert_eq!((prepared.count, spoken), (counts.deals, counts.words), "the counts disagree");
+    for s in [one, two] {
+        let (used, need) = ((s.used_a, s.used_b, s.used_deals), (counts.a, counts.b, counts.deals));
+        assert_eq!(used, need, "the stored places are not at the end");
+    }
     assert!(job.unused_a(&a)?.is_empty() && job.unused_b(&b)?.is_empty(), "the lists have just what the job needs");
     Ok((value, prepared.count, spoken))
 }

@@ -18,6 +18,7 @@ struct run {
     lamphiek_counts counts;
     uint32_t *a, *b, *deals;
     uint32_t dealt, spoken;
+    int all_used;           /* by both workers, at the end */
     lamphiek_shares shares; /* of register 0: the reading, at the end the value */
 };
 
@@ -37,6 +38,12 @@ static uint32_t *sample_list(uint32_t words, uint32_t factor)
     for (uint32_t i = 0; i < words; i++)
         list[i] = factor * (i + 2);
     return list;
+}
+
+/* Whether a worker's stored places say that all was used that the job needs. */
+static int all_used(const lamphiek_state *s, const lamphiek_counts *need)
+{
+    return s->used_a == need->a && s->used_b == need->b && s->used_deals == need->deals;
 }
 
 /* Hosts 1 and 2, each hearing what the other spoke, until the end. Gives the first number that is not 0. */
@@ -59,6 +66,7 @@ static uint32_t work(struct run *r)
                               r->deals, r->dealt, word1);
     }
     r->spoken = from1.count + from2.count;
+    r->all_used = all_used(&one, &r->counts) && all_used(&two, &r->counts);
     r->shares.host1 = (lamphiek_worker_share){one.m[0], one.mask[0]};
     r->shares.host2 = (lamphiek_worker_share){two.m[0], two.mask[0]};
     return from1.number ? from1.number : from2.number;
@@ -106,7 +114,7 @@ static int curve(const char *mode, int64_t reading)
     free(r.deals);
     if (number)
         return refused(number);
-    if (r.dealt != r.counts.deals || r.spoken != r.counts.words) {
+    if (r.dealt != r.counts.deals || r.spoken != r.counts.words || !r.all_used) {
         fputs("one_process: the counts disagree\n", stderr);
         return 1;
     }

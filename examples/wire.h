@@ -4,7 +4,8 @@
  *   - everything here travels in the clear, and whoever greets as host 1 is believed. Put an authenticated, encrypted
  *     channel under it (TLS with known peers, say): who reads the words of two hosts can work out the reading;
  *   - a mask list must never be used twice, not even after a run that broke. After every job cut the used words off
- *     (lamphiek_unused_a and _b give what is left), and draw fresh lists in good time;
+ *     (lamphiek_unused_a and _b give what is left), and draw fresh lists in good time: a worker's state tells how far a
+ *     job is with them (its stored places);
  *   - the hosts print their shares and words, to show what each saw. A real host prints none of them.
  *
  * What is said, in order:

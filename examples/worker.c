@@ -43,6 +43,17 @@ static lamphiek_answer take_deals(struct worker *w)
     return answer;
 }
 
+/* How much of the lists the job has used, which the state tells at any moment (R-7), and how much it needs in all; also
+ * where a peer was lost. */
+static void print_used(const struct worker *w)
+{
+    lamphiek_counts need = {0};
+    if (!lamphiek_check(w->job, w->job_words, w->table, LAMPHIEK_HOUSE_WORDS, &need).number)
+        printf("used %" PRIu32 " of %" PRIu32 " words of list A, %" PRIu32 " of %" PRIu32 " of list B, %" PRIu32
+               " of %" PRIu32 " deals\n",
+               w->state.used_a, need.a, w->state.used_b, need.b, w->state.used_deals, need.deals);
+}
+
 /* Each worker sends its word first and then takes the other's, so neither waits for the other to begin. */
 static lamphiek_answer talk(struct worker *w)
 {
@@ -79,8 +90,10 @@ static lamphiek_answer serve(struct worker *w)
     lamphiek_answer answer = {0};
     if (w->host == 2)
         answer = take_deals(w);
-    if (!answer.number)
+    if (!answer.number) {
         answer = talk(w);
+        print_used(w);
+    }
     if (answer.number) {
         printf("stopped with number %" PRIu32 "\n", answer.number);
         return answer;

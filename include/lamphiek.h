@@ -1,5 +1,5 @@
 /* Lamphiek: a masked calibration engine for three hosts (docs/01-scope.md, and of docs/02-change-requests.md R-1 to
- * R-6), for C11, C++11 and later.
+ * R-7), for C11, C++11 and later.
  *
  * No call allocates, blocks, or keeps anything between calls: what a call reads and writes is lent to it for that call
  * alone. Words are uint32_t, and arithmetic on them is modulo 2^32.
@@ -55,7 +55,7 @@ extern "C" {
 #endif
 
 /* ---- the numbers: document 01, "Turned down, in checking order"; 12, 16 and 17 are a day's alone, checked in
- * this order directly after 1; 13 to 15 are loading's alone */
+ * this order directly after 1; 13 to 15 are loading's alone; 18 is hearing's alone, directly after 8 */
 enum {
     LAMPHIEK_OK = 0,           /* completed */
     LAMPHIEK_NO_HOST = 1,      /* starting or hearing names a host other than 1 or 2 */
@@ -77,7 +77,8 @@ enum {
     LAMPHIEK_CALENDAR = 16,    /* the weekday is above 6, or any weekday, the day's or not, has more than 8 open or 4
                                   cleaning windows, or one whose end is not after its start or is above 1440; or the
                                   calendar is not of 182 words */
-    LAMPHIEK_CLOSED = 17       /* no quarter of the day's weekday counts */
+    LAMPHIEK_CLOSED = 17,      /* no quarter of the day's weekday counts */
+    LAMPHIEK_STORED = 18       /* the state's stored places are not what is used up to its place; before 9 */
 };
 
 /* ---- a job: 1 to 64 orders of four words, kind, target, first source and fourth word; registers are 0 to 15 */
@@ -168,10 +169,17 @@ typedef struct {
 } lamphiek_masks;
 
 /* Host 1 or 2: in each lane its registers, then its kept words; and its place (at the end: number of orders, and 0). In
- * a day the order is the quarter from 0, one that counts, then 96 for the mean, and the end is 97 and 0. */
+ * a day the order is the quarter from 0, one that counts, then 96 for the mean, and the end is 97 and 0.
+ *
+ * Behind the place its stored places (R-7): how many words of list A, words of list B and deals the job or day has
+ * used, up to and with the word spoken at the place, or by the end; either host counts all three. What it still
+ * needs is its need (the counts of lamphiek_check, of a day those told below) less these, so that lists can be refilled
+ * in time. Every call is lent the lists from their start all the same; and where a job or day breaks off, all that it
+ * needs is used up, since host 0 has dealt from it. */
 typedef struct {
     uint32_t m[LAMPHIEK_LANE], mask[LAMPHIEK_LANE];
     uint32_t order, turn;
+    uint32_t used_a, used_b, used_deals;
 } lamphiek_state;
 
 /* Which quarters of a day count: quarter q, from 0, at bit q % 32 of bits[q / 32], 1 where it counts. */
@@ -192,9 +200,10 @@ LAMPHIEK_ASSERT(offsetof(lamphiek_shares, host2) == 4 * sizeof(uint32_t));
 LAMPHIEK_ASSERT(sizeof(lamphiek_counts) == 4 * sizeof(uint32_t));
 LAMPHIEK_ASSERT(sizeof(lamphiek_masks) == 32 * sizeof(uint32_t));
 LAMPHIEK_ASSERT(offsetof(lamphiek_masks, l2) == 16 * sizeof(uint32_t));
-LAMPHIEK_ASSERT(sizeof(lamphiek_state) == 50 * sizeof(uint32_t));
+LAMPHIEK_ASSERT(sizeof(lamphiek_state) == 53 * sizeof(uint32_t));
 LAMPHIEK_ASSERT(offsetof(lamphiek_state, mask) == 24 * sizeof(uint32_t));
 LAMPHIEK_ASSERT(offsetof(lamphiek_state, order) == 48 * sizeof(uint32_t));
+LAMPHIEK_ASSERT(offsetof(lamphiek_state, used_a) == 50 * sizeof(uint32_t));
 LAMPHIEK_ASSERT(sizeof(lamphiek_quarters) == 3 * sizeof(uint32_t));
 LAMPHIEK_ASSERT(sizeof(lamphiek_answer) == 4 * sizeof(uint32_t));
 
@@ -236,13 +245,14 @@ lamphiek_answer lamphiek_prepare(lamphiek_masks *masks, const uint32_t *job, siz
  * word: the word to speak, which may be 0 too. At the end (order is job_words / 4) there is none, and 0 is given.
  * count: how many words this host has spoken, the one to speak now included. */
 
-/* Starts a job from the registers in the state, whatever its kept words and its place are. Writes the state. Numbers 1
- * to 7. */
+/* Starts a job from the registers in the state, whatever its kept words, place and stored places are. Writes the state.
+ * Numbers 1 to 7. */
 lamphiek_answer lamphiek_start(lamphiek_state *state, uint32_t host, const uint32_t *job, size_t job_words,
                                const uint32_t *table, size_t table_words, const uint32_t *masks, size_t masks_words,
                                const uint32_t *deals, size_t deals_words);
 
-/* Hears the word that the other host spoke at the state's place. Writes the state. Numbers 1 to 9. */
+/* Hears the word that the other host spoke at the state's place. Writes the state. Numbers 1 to 8, 18, 9, in this
+ * order. */
 lamphiek_answer lamphiek_hear(lamphiek_state *state, uint32_t host, const uint32_t *job, size_t job_words,
                               const uint32_t *table, size_t table_words, const uint32_t *masks, size_t masks_words,
                               const uint32_t *deals, size_t deals_words, uint32_t heard);
@@ -276,7 +286,7 @@ lamphiek_answer lamphiek_day_prepare(lamphiek_masks *masks, const uint32_t *tabl
                                      const uint32_t *b, size_t b_words, uint32_t *deals, size_t deals_words);
 
 /* Hosts 1 and 2: as lamphiek_start and lamphiek_hear, word and count too; the end is order 97. Starting only writes the
- * state. Numbers 1, 12, 16, 17, then 5 to 7; hearing also 8, in a quarter that is left out too, and 9. */
+ * state. Numbers 1, 12, 16, 17, then 5 to 7; hearing then 8, in a quarter that is left out too, 18, 9. */
 lamphiek_answer lamphiek_day_start(lamphiek_state *state, uint32_t host, const uint32_t *table, size_t table_words,
                                    const uint32_t *shares, size_t shares_words, const uint32_t *calendar,
                                    size_t calendar_words, uint32_t weekday, const uint32_t *masks, size_t masks_words,

@@ -1,6 +1,6 @@
-/* Every number of document 01, R-3, R-5 and R-6 by every call that can give it. All that a refused call is lent stands
- * on pages that cannot be written (but for the number of unused masks), and every list that is only read ends where a
- * page ends behind which nothing can be read: a store, or a read too far, ends the program. */
+/* Every number of document 01, R-3, R-5, R-6 and R-7 by every call that can give it. All that a refused call is lent
+ * stands on pages that cannot be written (but for the number of unused masks), and every list that is only read ends
+ * where a page ends behind which nothing can be read: a store, or a read too far, ends the program. */
 #define _GNU_SOURCE
 #include "border.h"
 #include <stdio.h>
@@ -8,7 +8,7 @@
 #include <sys/mman.h>
 #include <unistd.h>
 
-enum { PAGE = 4096, NUMBERS = 18 };
+enum { PAGE = 4096, NUMBERS = 19 };
 
 /* The numbers that each must give here: bit n for number n. */
 static const struct {
@@ -16,14 +16,11 @@ static const struct {
     uint32_t gives;
 } CALL[CALLS] = {{"split", 0x0800},   {"open", 0x0400},        {"check", 0x003c},     {"unused_a", 0x007c},
                  {"unused_b", 0x007c}, {"load", 0xe000},        {"prepare", 0x00fc},   {"start", 0x00fe},
-                 {"hear", 0x03fe},     {"day_quarters", 0x30000}, {"day_prepare", 0x310e0}, {"day_start", 0x310e2},
-                 {"day_hear", 0x313e2}};
+                 {"hear", 0x403fe},    {"day_quarters", 0x30000}, {"day_prepare", 0x310e0}, {"day_start", 0x310e2},
+                 {"day_hear", 0x713e2}};
 static unsigned reached[CALLS][NUMBERS], failed;
 
 const struct sealed *sealed;
-
-#define TASK(g) LIST((g).job), LIST((g).table)
-#define HOST(g, host) host, TASK(g), LISTS(g, host)
 
 void expect(int holds, const char *file, int line, const char *what)
 {
@@ -175,9 +172,12 @@ static void refuse_lists(struct given g)
     IS(UNUSED_B, BARE(said), LAMPHIEK_SHORT_MASKS, 0);
 }
 
+/* In the sealed states nothing is used, but at the end all that the job needs: what is refused at another place, or for
+ * another fault, would be refused with 18 behind it. */
 static void refuse_places(struct given g)
 {
     for (uint32_t host = 1; host <= 2; host++) {
+        IS(HEAR, lamphiek_hear(WRITABLE(lamphiek_state, state), HOST(g, host), 7), LAMPHIEK_STORED, 0);
         for (size_t i = 0; i < PLACES; i++)
             IS(HEAR, lamphiek_hear(WRITABLE(lamphiek_state, elsewhere[i]), HOST(g, host), 7), LAMPHIEK_PLACE, 0);
         IS(HEAR, lamphiek_hear(WRITABLE(lamphiek_state, end), HOST(g, host), 7), LAMPHIEK_END, 0);
@@ -202,11 +202,12 @@ static void refuse_readings(void)
 static void complete(struct given g)
 {
     static const uint32_t addition[4] = {LAMPHIEK_ADD, 1, 2, 3};
-    lamphiek_state s = {{0}, {0}, 9, 9};
+    lamphiek_state s = {{0}, {0}, 9, 9, 9, 9, 9};
     s.m[2] = 5, s.m[3] = 7, s.mask[2] = 1, s.m[20] = 99;
     lamphiek_answer r = lamphiek_start(&s, 1, addition, 4, NULL, 0, NULL, 0, NULL, 0);
     EXPECT(r.number == 0 && r.count == 0 && r.word == 0);
     EXPECT(s.m[1] == 12 && s.mask[1] == 1 && s.order == 1 && s.turn == 0);
+    EXPECT(s.used_a == 0 && s.used_b == 0 && s.used_deals == 0);
 
     uint32_t buffer[DEALS + 2], said = 0;
     memset(buffer, 0xA5, sizeof buffer);
@@ -223,6 +224,7 @@ static void seal(void)
                                                {2, 0},       {2, 1},           {UINT32_MAX, 0}, {1, UINT32_MAX}};
     struct sealed *s = pages(sizeof *s);
     s->end.order = 1;
+    use(&s->end, A_WORDS, B_WORDS, DEALS);
     for (int i = 0; i < PLACES; i++) {
         s->elsewhere[i].order = places[i][0];
         s->elsewhere[i].turn = places[i][1];
@@ -257,6 +259,7 @@ int main(void)
     complete_hours(g.table);
     refuse_loads();
     complete_loads();
+    stored_places(g.table);
     for (int call = 0; call < CALLS; call++)
         for (uint32_t n = 0; n < NUMBERS; n++)
             if (CALL[call].gives >> n & 1 && !reached[call][n]) {

@@ -1,5 +1,5 @@
 /* The parts of the border test: what calls are lent and how their answers are judged, jobs (border.c), days
- * (border_day.c), opening hours (border_hours.c) and loading (border_load.c). */
+ * (border_day.c), opening hours (border_hours.c), loading (border_load.c) and stored places (border_used.c). */
 #ifndef BORDER_H
 #define BORDER_H
 #include "lamphiek.h"
@@ -19,7 +19,8 @@ struct sealed {
     lamphiek_counts counts;
     lamphiek_masks masks;
     lamphiek_quarters quarters;
-    lamphiek_state state, end, elsewhere[PLACES], day_end, day_elsewhere[DAY_PLACES], left_out[LEFT_OUT_PLACES];
+    lamphiek_state state, end, elsewhere[PLACES], day_end, day_elsewhere[DAY_PLACES], left_out[LEFT_OUT_PLACES],
+        scattered_end;
     uint32_t deals[DAY_DEALS], table[LAMPHIEK_TABLE_WORDS];
 };
 extern const struct sealed *sealed;
@@ -33,6 +34,8 @@ struct given { struct list job, shares, calendar, table, a, b, deals; uint32_t w
 
 #define LIST(l) (l).at, (l).n
 #define LISTS(g, host) LIST((host) == 1 ? (g).a : (g).b), LIST((g).deals)
+#define TASK(g) LIST((g).job), LIST((g).table)
+#define HOST(g, host) host, TASK(g), LISTS(g, host)
 #define DAY(g) LIST((g).table), LIST((g).shares), LIST((g).calendar), (g).weekday
 #define DAY_HOST(g, host) host, DAY(g), LISTS(g, host)
 
@@ -50,6 +53,14 @@ struct list fenced(const uint32_t *words, size_t n);
 struct list shorter(struct list l);
 static const struct list NONE = {NULL, 0};
 
+/* Puts these stored places into a state. */
+static inline void use(lamphiek_state *s, uint32_t a, uint32_t b, uint32_t deals)
+{
+    s->used_a = a;
+    s->used_b = b;
+    s->used_deals = deals;
+}
+
 /* ---- border_day.c */
 void seal_days(struct sealed *s);
 /* A day on this table with every quarter open, and lists as long as it needs. */
@@ -63,10 +74,15 @@ void complete_day(struct list table);
 /* A calendar of which every weekday has one open window, 0 to 1440. */
 void open_always(uint32_t calendar[LAMPHIEK_CALENDAR_WORDS]);
 void seal_left_out(struct sealed *s);
+/* A day of quarters 0, 40, 41 and 95, and lists as long as it needs. */
+struct given a_scattered_day(struct list table);
 void refuse_hours(struct list table);
 void complete_hours(struct list table);
 
 /* ---- border_load.c */
 void refuse_loads(void);
 void complete_loads(void);
+
+/* ---- border_used.c */
+void stored_places(struct list table);
 #endif

@@ -1,4 +1,5 @@
-/* A day's numbers: 1, 12, 5, 6, 7, 8, 9, in this order; 16 and 17, which stand before 5, are in border_hours.c. */
+/* A day's numbers: 1, 12, 5, 6, 7, 8, 9, in this order; 16 and 17, which stand before 5, are in border_hours.c, and 18,
+ * which stands before 9, is in border_used.c. */
 #include "border.h"
 #include <string.h>
 
@@ -31,6 +32,7 @@ void seal_days(struct sealed *s)
                                                    {UINT32_MAX, 0},
                                                    {UINT32_MAX, UINT32_MAX}};
     s->day_end.order = END;
+    use(&s->day_end, DAY_A_WORDS, DAY_B_WORDS, DAY_DEALS);
     for (int i = 0; i < DAY_PLACES; i++) {
         s->day_elsewhere[i].order = places[i][0];
         s->day_elsewhere[i].turn = places[i][1];
@@ -115,6 +117,7 @@ static void refuse_day_lists(struct given g)
 static void refuse_day_places(struct given g)
 {
     for (uint32_t host = 1; host <= 2; host++) {
+        IS(DAY_HEAR, lamphiek_day_hear(WRITABLE(lamphiek_state, state), DAY_HOST(g, host), 7), LAMPHIEK_STORED, 0);
         for (size_t i = 0; i < DAY_PLACES; i++)
             IS(DAY_HEAR, lamphiek_day_hear(WRITABLE(lamphiek_state, day_elsewhere[i]), DAY_HOST(g, host), 7),
                LAMPHIEK_PLACE, 0);
@@ -158,9 +161,11 @@ void complete_day(struct list table)
         r = lamphiek_day_start(&s, DAY_HOST(g, host));
         EXPECT(r.number == 0 && r.index == 0 && r.count == 1 && zero(s.m, s.mask, 0) && s.order == 0 && s.turn == 0);
         s.order = 40, s.turn = B_WORDS - 1;
+        use(&s, 41 * A_WORDS, 41 * B_WORDS, 41 * DEALS);
         r = lamphiek_day_hear(&s, DAY_HOST(g, host), 7);
         EXPECT(r.number == 0 && r.count == 41 * B_WORDS + 1 && zero(s.m, s.mask, 2) && s.order == 41 && s.turn == 0);
         s.order = MEAN, s.turn = MEAN_TURNS - 1;
+        use(&s, DAY_A_WORDS, DAY_B_WORDS, DAY_DEALS);
         r = lamphiek_day_hear(&s, DAY_HOST(g, host), 7);
         EXPECT(r.number == 0 && r.count == DAY_B_WORDS && r.word == 0 && s.order == END && s.turn == 0);
     }

@@ -188,9 +188,11 @@ void seal_left_out(struct sealed *s)
         s->left_out[i].order = places[i][0];
         s->left_out[i].turn = places[i][1];
     }
+    s->scattered_end.order = MEAN + 1;
+    use(&s->scattered_end, N * A_WORDS + MEAN_A, N * B_WORDS + MEAN_B, N * DEALS + MEAN_DEALS);
 }
 
-static struct given a_scattered_day(struct list table)
+struct given a_scattered_day(struct list table)
 {
     uint32_t calendar[LAMPHIEK_CALENDAR_WORDS] = {0};
     struct given g = a_day(table);
@@ -221,7 +223,8 @@ static void refuse_left_out(struct list table)
         for (size_t i = 0; i < LEFT_OUT_PLACES; i++)
             IS(DAY_HEAR, lamphiek_day_hear(WRITABLE(lamphiek_state, left_out[i]), DAY_HOST(g, host), 7), LAMPHIEK_PLACE,
                0);
-        IS(DAY_HEAR, lamphiek_day_hear(WRITABLE(lamphiek_state, day_end), DAY_HOST(g, host), 7), LAMPHIEK_END, 0);
+        IS(DAY_HEAR, lamphiek_day_hear(WRITABLE(lamphiek_state, scattered_end), DAY_HOST(g, host), 7), LAMPHIEK_END, 0);
+        IS(DAY_HEAR, lamphiek_day_hear(WRITABLE(lamphiek_state, day_end), DAY_HOST(g, host), 7), LAMPHIEK_STORED, 0);
     }
 }
 
@@ -260,10 +263,12 @@ void complete_hours(struct list table)
             uint32_t next = i + 1 < N ? COUNTED[i + 1] : MEAN;
             EXPECT(s.order == COUNTED[i]);
             s.turn = B_WORDS - 1;
+            use(&s, (i + 1) * A_WORDS, (i + 1) * B_WORDS, (i + 1) * DEALS);
             r = lamphiek_day_hear(&s, DAY_HOST(g, host), 7);
             EXPECT(r.number == 0 && r.count == (i + 1) * B_WORDS + 1 && s.order == next && s.turn == 0);
         }
         s.turn = MEAN_B - 1;
+        use(&s, (uint32_t)g.a.n, (uint32_t)g.b.n, (uint32_t)g.deals.n);
         r = lamphiek_day_hear(&s, DAY_HOST(g, host), 7);
         EXPECT(r.number == 0 && r.count == g.b.n && r.word == 0 && s.order == MEAN + 1 && s.turn == 0);
     }

@@ -38,9 +38,9 @@ static int bad_hours(void)
 static int bad_day(void)
 {
     lamphiek_masks masks = {{0}, {0}};
-    lamphiek_state state = {{0}, {0}, 0, 0};
+    lamphiek_state state = {{0}, {0}, 0, 0, 0, 0, 0};
     lamphiek_answer r;
-    masks.l2[15] = state.m[0] = state.order = 7;
+    masks.l2[15] = state.m[0] = state.order = state.used_deals = 7;
     open_on_6(0, LAMPHIEK_MINUTES);
     r = lamphiek_day_prepare(&masks, DAY, masks_list, DAY_A, masks_list, DAY_B, deals, DAY_DEALS);
     int bad = r.number != LAMPHIEK_OK || r.count != DAY_DEALS || masks.l2[15] != 0;
@@ -51,8 +51,31 @@ static int bad_day(void)
     bad |= r.number != LAMPHIEK_OK || r.count != 1 || state.m[0] != 0 || state.order != 0 || state.turn != 0;
     r = lamphiek_day_hear(&state, 2, DAY, masks_list, DAY_B, deals, DAY_DEALS, 1);
     bad |= r.number != LAMPHIEK_OK || r.count != 2 || state.order != 0 || state.turn != 1;
+    bad |= state.used_a != 4 || state.used_b != 2 || state.used_deals != 2;
     state.order = LAMPHIEK_QUARTERS + 1, state.turn = 0;
+    bad |= lamphiek_day_hear(&state, 1, DAY, masks_list, DAY_A, NULL, 0, 1).number != LAMPHIEK_STORED;
+    state.used_a = DAY_A, state.used_b = DAY_B, state.used_deals = DAY_DEALS;
     return bad | (lamphiek_day_hear(&state, 1, DAY, masks_list, DAY_A, NULL, 0, 1).number != LAMPHIEK_END);
+}
+
+/* Stored places of either host, by kind 7: two deals, and a product with a known value. */
+static int bad_used(void)
+{
+    static const uint32_t one_bit[LAMPHIEK_ORDER_WORDS] = {LAMPHIEK_ONE_BIT, 0, 0, 3};
+    lamphiek_state state = {{0}, {0}, 0, 0, 9, 9, 9};
+    int bad = sizeof state != 212 || offsetof(lamphiek_state, turn) != 196;
+    bad |= offsetof(lamphiek_state, used_a) != 200 || offsetof(lamphiek_state, used_b) != 204;
+    bad |= offsetof(lamphiek_state, used_deals) != 208;
+    for (uint32_t host = 1; host <= 2; host++) {
+        bad |= lamphiek_start(&state, host, one_bit, 4, NULL, 0, masks_list, 3, deals, 2).number != LAMPHIEK_OK;
+        bad |= state.order != 0 || state.used_a != 3 || state.used_b != 1 || state.used_deals != 2;
+        state.used_deals = 1;
+        bad |= lamphiek_hear(&state, host, one_bit, 4, NULL, 0, masks_list, 3, deals, 2, 1).number != LAMPHIEK_STORED;
+        state.used_deals = 2;
+        bad |= lamphiek_hear(&state, host, one_bit, 4, NULL, 0, masks_list, 3, deals, 2, 1).number != LAMPHIEK_OK;
+        bad |= state.order != 1 || state.used_a != 3 || state.used_b != 1 || state.used_deals != 2;
+    }
+    return bad;
 }
 
 static int bad_load(void)
@@ -73,7 +96,7 @@ int main(void)
     lamphiek_shares shares = {{0, 0}, {0, 0}, {0, 0}};
     lamphiek_counts counts = {1, 1, 1, 1};
     lamphiek_masks masks = {{0}, {0}};
-    lamphiek_state state = {{0}, {0}, 0, 0};
+    lamphiek_state state = {{0}, {0}, 0, 0, 0, 0, 0};
     uint32_t table[LAMPHIEK_HOUSE_WORDS] = {0}, number = LAMPHIEK_END;
     int64_t value = 0;
     lamphiek_house(table);
@@ -90,5 +113,5 @@ int main(void)
     bad |= masks.l2[1] != 9 || state.m[1] != 40 || state.mask[1] != 2 || state.order != 1 || state.turn != 0;
     bad |= lamphiek_hear(&state, 2, job, LAMPHIEK_ORDER_WORDS, NULL, 0, NULL, 0, NULL, 0, 1).number != LAMPHIEK_END;
     bad |= bad_hours(); /* on a calendar of zeros, which the day then writes */
-    return bad | bad_day() | bad_load();
+    return bad | bad_day() | bad_used() | bad_load();
 }

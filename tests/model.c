@@ -93,7 +93,9 @@ lamphiek_answer model_prepare(lamphiek_masks *masks, const uint32_t *job, size_t
 /* What a hearing begins with. */
 static struct answer held(const lamphiek_state *state)
 {
-    struct answer r = {.state.order = state->order, .state.turn = state->turn};
+    struct answer r = {.state = {.order = state->order,
+                                 .turn = state->turn,
+                                 .used = {state->used_a, state->used_b, state->used_deals}}};
     memcpy(r.state.m, state->m, sizeof state->m);
     memcpy(r.state.l, state->mask, sizeof state->mask);
     return r;
@@ -107,6 +109,9 @@ static lamphiek_answer told(lamphiek_state *state, const struct answer *r)
         memcpy(state->mask, r->state.l, sizeof state->mask);
         state->order = r->state.order;
         state->turn = r->state.turn;
+        state->used_a = r->state.used.a;
+        state->used_b = r->state.used.b;
+        state->used_deals = r->state.used.deals;
     }
     return (lamphiek_answer){r->number, r->index, r->spoken, r->word};
 }

@@ -5,8 +5,8 @@
  * splitting and opening; calls on accepted and damaged jobs, tables and lists, and on forged states; a host alone that
  * hears words at random from its start to its end; and whole runs of three hosts, whose registers are opened and held
  * to plain arithmetic too. On the way of a run calls are made on copies of a host's state that a run does not make:
- * refused ones, other places, other registers, other words. Now and then the same with a day in a job's place
- * (random_day.c), calendars (random_hours.c) and texts of tables (random_load.c). */
+ * refused ones, other places, other stored places, other registers, other words. Now and then the same with a day in a
+ * job's place (random_day.c), calendars (random_hours.c) and texts of tables (random_load.c). */
 #include "random.h"
 #include <inttypes.h>
 #include <stdio.h>
@@ -69,9 +69,7 @@ static void round_of_damage(void)
             forged.library = stray;
         if (chance(80))
             forge_place(&forged.library, &l);
-        forged.model = forged.library;
-        uint32_t number = make_host(); /* each draw by itself: every compiler then draws alike */
-        both_hear(&forged, number, &l, draw(), FORGED);
+        hear_forged(forged, make_host(), &l, false);
     }
 }
 
@@ -103,7 +101,7 @@ static void forge_registers(struct host *h, const uint32_t *order)
 static void astray(struct host h, uint32_t number, const struct lent *l)
 {
     struct lent other = *l;
-    switch (below(6)) {
+    switch (below(7)) {
     case 0: /* another word is heard */
         both_hear(&h, number, l, draw(), GENUINE);
         break;
@@ -113,14 +111,13 @@ static void astray(struct host h, uint32_t number, const struct lent *l)
         break;
     case 2: /* another place */
         forge_place(&h.library, l);
-        h.model = h.library;
-        both_hear(&h, number, l, draw(), FORGED);
+        hear_forged(h, number, l, false);
         break;
     case 3: /* another job or table, which may be damaged */
         other = make_other(l);
         h.model = h.library;
         if (chance(70))
-            both_hear(&h, number, &other, draw(), FORGED);
+            hear_forged(h, number, &other, false);
         else
             both_start(&h, number, &other);
         break;
@@ -129,6 +126,9 @@ static void astray(struct host h, uint32_t number, const struct lent *l)
         number = chance(80) ? number : make_host();
         both_hear(&h, number, &other, draw(), GENUINE);
         break;
+    case 5:
+        hear_miscounted(h, number, l, false);
+        break;
     default: /* starting again */
         both_start(&h, number, l);
     }
@@ -136,11 +136,15 @@ static void astray(struct host h, uint32_t number, const struct lent *l)
 
 static bool ended(const struct host *h, const struct lent *l) { return h->library.order == l->job.n / 4; }
 
-/* At the end of a job. */
+/* At the end of a job, which has used what it needs. */
 static void past_end(struct host h, uint32_t number, const struct lent *l)
 {
+    lamphiek_counts need;
+    if (both_check(l, &need) || !holds(&h.library, (struct used){need.a, need.b, need.deals}))
+        fail("the stored places at the end");
     if (both_hear(&h, number, l, draw(), GENUINE).number != LAMPHIEK_END)
         fail("hearing at the end");
+    hear_miscounted(h, number, l, false);
 }
 
 static void round_of_one_host(void)

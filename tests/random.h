@@ -1,6 +1,6 @@
 /* The parts of the random test: what is drawn and lent (random_make.c), each call made on the library and on the model
- * (random_both.c), days (random_day.c), opening hours (random_hours.c), loading (random_load.c), and what plain
- * arithmetic says (random_plain.c). */
+ * (random_both.c), days (random_day.c), opening hours (random_hours.c), loading (random_load.c), stored places
+ * (random_used.c), and what plain arithmetic says (random_plain.c). */
 #ifndef RANDOM_H
 #define RANDOM_H
 #include "model.h"
@@ -147,6 +147,25 @@ void round_of_hours(void);
 
 void round_of_texts(void);
 void round_of_long_text(struct words all);
+
+/* ---- random_used.c */
+
+/* How much of the lists is used: words of A, words of B, deals. */
+struct used {
+    uint32_t a, b, deals;
+};
+
+/* Of a job or a day, up to and with the exchange of a place, at the end in all; anything where the place is none. */
+struct used plain_used(const struct lent *l, uint32_t order, uint32_t turn);
+struct used plain_day_used(const struct lent *l, uint32_t order, uint32_t turn);
+/* Whether these are a state's stored places; and puts them into a host's. */
+bool holds(const lamphiek_state *s, struct used u);
+void store(struct host *h, struct used u);
+/* Hears, in a job or a day, on the library's state for both sides, whose stored places are made right for what is lent,
+ * or now and then not. */
+void hear_forged(struct host h, uint32_t number, const struct lent *l, bool day);
+/* The same on a genuine state with other stored places, which is refused for them. */
+void hear_miscounted(struct host h, uint32_t number, const struct lent *l, bool day);
 
 /* ---- random_plain.c */
 

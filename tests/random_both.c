@@ -4,16 +4,19 @@
  *   - the answer, all of it, and every word that was lent to be written, with what lies around it: equal on both sides;
  *   - where a call is refused, also that all of that is as it was lent (unused masks: but for the number);
  *   - lists that are only read: as they were;
- *   - a state after starting or hearing: the registers and the place, equal. The kept words are not compared: each side
- *     keeps what it needs in its own way, so each gets back its own (document 01 says nothing about how they lie). What
- *     they are worth is seen in the words spoken and the registers written later, which are compared;
- *   - a starting or hearing that is not refused is made once more on the library, the starting on other kept words and
- *     another place, a day's on other registers too: all of the state as before, but for kept words at the end, which
- *     are free;
+ *   - a state after starting or hearing: the registers, the place and the stored places, equal. The kept words are not
+ *     compared: each side keeps what it needs in its own way, so each gets back its own (document 01 says nothing about
+ *     how they lie). What they are worth is seen in the words spoken and the registers written later, which are
+ *     compared;
+ *   - where it is not refused, the stored places also with plain counting, and the count of words spoken with them;
+ *   - a starting or hearing that is not refused is made once more on the library, the starting on other kept words,
+ *     another place and other stored places, a day's on other registers too: all of the state as before, but for kept
+ *     words at the end, which are free;
  *   - a hearing on forged kept words, the same on both sides: what depends on them is not compared. At a product or a
  *     refresh of its own (kinds 4, 5) that is nothing, so all is compared as above. Inside kinds 7 to 10 it is the word
- *     given, and the registers that the order's result reaches; number, index, count, place and the other registers are
- *     compared. In a day, whose quarters begin with what is lent, also the word that the next quarter begins with. */
+ *     given, and the registers that the order's result reaches; number, index, count, place, stored places and the
+ *     other registers are compared. In a day, whose quarters begin with what is lent, also the word that the next
+ *     quarter begins with. */
 #include "random_call.h"
 #include <string.h>
 
@@ -165,10 +168,12 @@ lamphiek_answer both_day_prepare(lamphiek_masks *masks, const struct lent *l)
     return both_prepare_of(DAY_PREPARE, masks, l);
 }
 
-/* Whether the states agree in their place, and in the registers that are not among these (bit i for register i). */
+/* Whether the states agree in their place, in the stored places, and in the registers that are not among these (bit i
+ * for register i). */
 static bool same_states(const lamphiek_state *x, const lamphiek_state *y, uint32_t but)
 {
     bool alike = x->order == y->order && x->turn == y->turn;
+    alike = alike && holds(x, (struct used){y->used_a, y->used_b, y->used_deals});
     for (int i = 0; i < LAMPHIEK_REGISTERS; i++)
         alike = alike && (but >> i & 1 || (x->m[i] == y->m[i] && x->mask[i] == y->mask[i]));
     return alike;
@@ -205,8 +210,8 @@ static lamphiek_answer hear_by(const struct side *by, lamphiek_state *s, const s
                     l->deals.n, now.heard);
 }
 
-/* The library's call made once more, on its own words or, for a starting, on other kept words and another place, for a
- * day's on other registers too: these make no difference, and nothing that is not lent does. */
+/* The library's call made once more, on its own words or, for a starting, on other kept words, another place and other
+ * stored places, for a day's on other registers too: these make no difference, and nothing that is not lent does. */
 static void again(const struct lent *l)
 {
     lamphiek_state s = now.before.of.state, first = now.library.of.state;
@@ -216,6 +221,7 @@ static void again(const struct lent *l)
         s.m[i] ^= 1u << i, s.mask[i] += 1;
     s.order += starts;
     s.turn -= starts;
+    s.used_a -= starts, s.used_b ^= starts, s.used_deals += starts;
     lamphiek_answer r = starts ? start_by(&LIBRARY, &s, l) : hear_by(&LIBRARY, &s, l);
     same(!memcmp(&r, &now.answers[0], sizeof r), "made once more it answers otherwise");
     same(ended ? same_states(&s, &first, 0) : !memcmp(&s, &first, sizeof s), "made once more it writes otherwise");
@@ -232,10 +238,21 @@ static void host_begins(enum call call, const struct host *h, uint32_t number, c
     now.model.of.state = h->model;
 }
 
+/* What a completed call left in the library's state, and how many words it says were spoken. */
+static void used_by_counting(void)
+{
+    const lamphiek_state *s = &now.library.of.state;
+    struct used u = (is_day() ? plain_day_used : plain_used)(now.lent, s->order, s->turn);
+    same(holds(s, u), "the stored places are otherwise than by plain counting");
+    same(now.answers[0].count == u.b, "as many words spoken are not stored");
+}
+
 /* but: registers that are not compared. */
 static void host_ends(struct host *h, uint32_t but)
 {
     bool refused = answered();
+    if (!refused)
+        used_by_counting();
     same(same_guards(), "written outside the state");
     same(!refused || same_frames(&now.library, &now.before), "written though refused");
     same(same_states(&now.library.of.state, &now.model.of.state, but), "the states differ");

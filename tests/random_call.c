@@ -7,7 +7,7 @@
 #include <string.h>
 #include <unistd.h>
 
-enum { NUMBERS = 18, TEXT_SHOWN = 128 };
+enum { NUMBERS = 19, TEXT_SHOWN = 128 };
 
 /* The numbers that each can give: bit n for number n. */
 static const struct {
@@ -16,7 +16,7 @@ static const struct {
 } CALL[CALLS] = {{"split", 0x801},     {"open", 0x401},         {"check", 0x03d},      {"unused_a", 0x07d},
                  {"unused_b", 0x07d}, {"house", 0x001},        {"load", 0xe001},      {"day_quarters", 0x30001},
                  {"prepare", 0x0fd},  {"day_prepare", 0x310e1}, {"start", 0x0ff},     {"day_start", 0x310e3},
-                 {"hear", 0x3ff},     {"day_hear", 0x313e3}};
+                 {"hear", 0x403ff},   {"day_hear", 0x713e3}};
 
 struct made now;
 
@@ -30,6 +30,18 @@ static void print_list(const char *name, struct words w, size_t most)
     for (size_t i = 0; i < w.n && i < most; i++)
         printf(" %" PRIu32, w.at[i]);
     puts(w.n > most && most ? " .." : "");
+}
+
+static void print_answers(void)
+{
+    for (int side = 0; side < 2; side++) {
+        const lamphiek_answer *r = &now.answers[side];
+        printf("  %s: number %" PRIu32 ", index %" PRIu32 ", count %" PRIu32 ", word %" PRIu32 "; words",
+               side ? "model" : "library", r->number, r->index, r->count, r->word);
+        for (size_t i = 0; i < sizeof now.model.of / sizeof(uint32_t); i++)
+            printf(" %" PRIu32, (side ? &now.model : &now.library)->of.words[i]);
+        puts("");
+    }
 }
 
 static void print_arguments(void)
@@ -60,22 +72,16 @@ static void print_arguments(void)
         puts("");
     }
     if (now.call >= START)
-        printf("  host %" PRIu32 ", place %" PRIu32 " %" PRIu32 ", heard %" PRIu32 "\n", now.host, s->order, s->turn,
-               now.heard);
-    for (int side = 0; side < 2; side++) {
-        const lamphiek_answer *r = &now.answers[side];
-        printf("  %s: number %" PRIu32 ", index %" PRIu32 ", count %" PRIu32 ", word %" PRIu32 "; words",
-               side ? "model" : "library", r->number, r->index, r->count, r->word);
-        for (size_t i = 0; i < sizeof now.model.of / sizeof(uint32_t); i++)
-            printf(" %" PRIu32, (side ? &now.model : &now.library)->of.words[i]);
-        puts("");
-    }
+        printf("  host %" PRIu32 ", place %" PRIu32 " %" PRIu32 ", stored %" PRIu32 " %" PRIu32 " %" PRIu32
+               ", heard %" PRIu32 "\n",
+               now.host, s->order, s->turn, s->used_a, s->used_b, s->used_deals, now.heard);
 }
 
 void fail(const char *what)
 {
     printf("random: seed %" PRIu64 ", call %" PRIu64 ", %s: %s\n", seed_of_run, calls, CALL[now.call].name, what);
     print_arguments();
+    print_answers();
     fflush(stdout);
     _exit(1);
 }

@@ -149,9 +149,7 @@ void round_of_day_damage(void)
             struct host forged = make_state();
             if (chance(90))
                 forge_day_place(&forged.library, &whole, l.table);
-            forged.model = forged.library;
-            uint32_t number = make_host(); /* each draw by itself, here and below: every compiler then draws alike */
-            both_day_hear(&forged, number, &l, draw(), FORGED);
+            hear_forged(forged, make_host(), &l, true);
         }
     }
 }
@@ -205,7 +203,7 @@ static void day_astray(struct host h, uint32_t number, const struct lent *l)
 {
     struct lent other = *l;
     uint32_t job[JOB_MOST];
-    switch (below(8)) {
+    switch (below(9)) {
     case 0: /* other registers: no quarter reads one */
         forge_registers(&h);
         both_day_hear(&h, number, l, draw(), GENUINE);
@@ -216,27 +214,25 @@ static void day_astray(struct host h, uint32_t number, const struct lent *l)
         break;
     case 2: /* another place */
         forge_day_place(&h.library, l, l->table);
-        h.model = h.library;
-        both_day_hear(&h, number, l, draw(), FORGED);
+        hear_forged(h, number, l, true);
         break;
     case 3: /* another table, list of shares, calendar or weekday, or lists too short */
         other = damage_day(other);
-        h.model = h.library;
-        both_day_hear(&h, number, &other, draw(), FORGED);
+        hear_forged(h, number, &other, true);
         break;
     case 4: /* a job's call on the day's state */
         other.job = lend(ROOM_OTHER_JOB, job, make_job(job, 1 + below(ORDERS), false));
-        h.model = h.library;
-        both_hear(&h, number, &other, draw(), FORGED);
+        hear_forged(h, number, &other, false);
         break;
     case 5: /* perhaps another host, whose share one side has read before */
-        number = make_host();
-        h.model = h.library;
-        both_day_hear(&h, number, l, draw(), FORGED);
+        hear_forged(h, make_host(), l, true);
         break;
     case 6: /* the same quarters by another calendar */
         other = same_hours(other);
         both_day_hear(&h, number, &other, draw(), GENUINE);
+        break;
+    case 7:
+        hear_miscounted(h, number, l, true);
         break;
     default: /* starting again */
         both_day_start(&h, number, l);
@@ -245,10 +241,16 @@ static void day_astray(struct host h, uint32_t number, const struct lent *l)
 
 static bool ended(const struct host *h) { return h->library.order == END; }
 
+/* At the end, where the day has used what it needs. */
 static void past_end(struct host h, uint32_t number, const struct lent *l)
 {
+    uint32_t quarters[LAMPHIEK_QUARTERS];
+    lamphiek_counts need = day_needs(l->table.at, l->table.n, counted(l, quarters));
+    if (!holds(&h.library, (struct used){need.a, need.b, need.deals}))
+        fail("the stored places at the end of a day");
     if (both_day_hear(&h, number, l, draw(), GENUINE).number != LAMPHIEK_END)
         fail("hearing at the end of a day");
+    hear_miscounted(h, number, l, true);
 }
 
 /* Where every quarter's share is the same, a quarter's kept words are as good in any other. */
@@ -267,6 +269,7 @@ void round_of_hops(void)
     while (r.number == 0 && !ended(&h)) {
         if (chance(20) && h.library.order < MEAN) { /* at last into the last quarter, and so to the mean */
             h.library.order = h.model.order = quarters[hops ? below(n) : n - 1];
+            store(&h, plain_day_used(&l, h.library.order, h.library.turn));
             hops -= hops > 0;
         }
         if (chance(20))

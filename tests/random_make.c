@@ -255,6 +255,9 @@ void make_registers(lamphiek_state *s)
     }
     s->order = chance(50) ? below(4) : draw();
     s->turn = chance(50) ? below(4) : draw();
+    s->used_a = draw();
+    s->used_b = draw();
+    s->used_deals = draw();
 }
 
 /* A place on a job's way, the end, one off either, or anywhere. */

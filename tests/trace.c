@@ -116,7 +116,7 @@ static const struct {
     {"state", 1, 1, do_state},      {"unused", 1, 1, do_unused},    {"load", 0, ANY, load_table},
     {"opening", 1, 1 + 2 * WINDOWS_MOST, set_opening},
     {"cleaning", 1, 1 + 2 * WINDOWS_MOST, set_cleaning},
-    {"weekday", 1, 1, set_weekday},
+    {"weekday", 1, 1, set_weekday}, {"used", 1, 1, do_used},        {"mark", 4, 4, do_mark},
 };
 
 /* What no line has set yet: the house table, a whole day, and every weekday open all day. */

@@ -57,5 +57,5 @@ lamphiek_answer work_hear(const struct work *w, uint32_t host, lamphiek_state *s
 
 command do_run, do_day;                         /* trace_run.c */
 command do_job, do_sheet, do_lend, do_place;    /* trace_call.c */
-command do_prepare, do_start, do_hear, do_talk, do_state, do_unused;
+command do_prepare, do_start, do_hear, do_talk, do_state, do_unused, do_used, do_mark;
 #endif

@@ -56,6 +56,17 @@ int do_place(const uint32_t *words, size_t n)
     return 1;
 }
 
+int do_mark(const uint32_t *words, size_t n)
+{
+    (void)n;
+    if (!is_host(words[0]))
+        return 0;
+    held[words[0]].used_a = words[1];
+    held[words[0]].used_b = words[2];
+    held[words[0]].used_deals = words[3];
+    return 1;
+}
+
 /* ---- calls */
 
 /* Words in front, and two of each register behind them. */
@@ -114,11 +125,12 @@ int do_start(const uint32_t *words, size_t n)
 
 int do_hear(const uint32_t *words, size_t n)
 {
-    lamphiek_state s = held[words[0] == 2 ? 2 : 1];
+    lamphiek_state s = held[words[0] == 2 ? 2 : 1], before = s;
     (void)n;
     make_masks(&now);
     lamphiek_answer r = work_hear(&now, words[0], &s, words[1]);
     free_masks(&now);
+    must(r.number == 0 || !memcmp(&s, &before, sizeof s), "a refused hearing writes the state");
     keep(words[0], r, &s);
     put_word(r, &s);
     return 1;
@@ -153,6 +165,16 @@ int do_state(const uint32_t *words, size_t n)
         return 0;
     const lamphiek_state *s = &held[words[0]];
     put_registers("state", s->order, s->turn, s->m, s->mask);
+    return 1;
+}
+
+int do_used(const uint32_t *words, size_t n)
+{
+    (void)n;
+    if (!is_host(words[0]))
+        return 0;
+    const lamphiek_state *s = &held[words[0]];
+    put("used", (const uint32_t[]){s->used_a, s->used_b, s->used_deals}, 3);
     return 1;
 }
 

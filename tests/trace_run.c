@@ -24,6 +24,12 @@ static lamphiek_counts day_needs(void)
                              n * quarter.b + last.b};
 }
 
+/* Whether the stored places are at the end. */
+static bool all_used(const lamphiek_state *s, const struct work *w)
+{
+    return s->used_a == w->a_words && s->used_b == w->b_words && s->used_deals == w->deals_words;
+}
+
 /* Both hosts start and carry their words to each other up to the end, which is this order. */
 static void talk_to(const struct work *w, uint32_t last, uint32_t words, struct end *e)
 {
@@ -39,6 +45,7 @@ static void talk_to(const struct work *w, uint32_t last, uint32_t words, struct 
     }
     must(from1.number == 0 && from2.number == 0, "what was accepted is not run");
     must(from1.count + from2.count == words && from1.word == 0 && from2.word == 0, "a host ends early");
+    must(all_used(&e->first, w) && all_used(&e->second, w), "the lists' use is miscounted");
 }
 
 static void put_open(const struct end *e)

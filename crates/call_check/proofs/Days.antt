@@ -15,6 +15,7 @@ use Rattle.jobs.specs.CostTable.{curve-cost, kind-costs, kind-cost}
 use Rattle.calls.specs.Lent.{or-else, dealer-lists-fault}
 use Rattle.calls.specs.Scripts.{script-cost}
 use Rattle.gates.specs.Costs.{cost-of}
+use Rattle.jobs.specs.declared.Counts.{Counts}
 use Rattle.jobs.specs.Counts.{counted}
 use Rattle.calls.specs.Lent.{passed}
 use Rattle.calls.proofs.Faults.{none-passed}
@@ -34,7 +35,8 @@ use Rattle.call_check.specs.Days.{no-quarters, passed-quarters, passed-n
 -- a call that is turned down has nothing to walk by
 pub nothing-found : (r : DayFinding) (n : ℕ) (T : List ℕ) (H : Hours)
     → (r .number ≡ n) × (counted (r .day .curve) ≡ cost-of 0 0 0 0) × (r .day .quarters ≡ no-quarters) × (r .day .n ≡ 0)
-    → (n ≡ 0 → ⊥) → DayIs (r .number) T H (r .day)
+    × (counted (r .whole) ≡ cost-of 0 0 0 0)
+    → (n ≡ 0 → ⊥) → DayIs (r .number) T H (r .day) (r .whole)
 unfolding passed-quarters passed-n
 nothing-found r n T H t ne =
     let some : r .number ≡ 0 → ⊥ = λ z. ne (sym (t .0) ∙ z) in
@@ -42,6 +44,8 @@ nothing-found r n T H t ne =
       curve = t .1 ∙ none-passed (r .number) (curve-cost 0 (length (rows T))) some;
       quarters = t .2 ∙ no-bits (r .number) some;
       n = t .3 ∙ no-number (r .number) some;
+      counts = t .4
+          ∙ none-passed (r .number) (day-of (counted-quarters (H .calendar) (H .weekday)) (curve-cost 0 (length (rows T)))) some;
     }
   where
     no-bits : (m : ℕ) → (m ≡ 0 → ⊥) → no-quarters ≡ passed-quarters m H
@@ -119,9 +123,15 @@ module _ (table : List ℕ) (n : ℕ) (H : Hours) (day : n ≡ 192) (c : Counted
         counts-are : k ≡ curve-cost 0 (length (rows table))
         counts-are = e ∙ ap (curve-cost 0) row-count
 
-        pub day-found : (d : Day) → counted (d .curve) ≡ k → d .quarters ≡ c .quarters → d .n ≡ c .n → DayIs 0 table H d
+        -- the counts of the whole day
+        day-are : day-of (c .n) k ≡ day-of (counted-quarters (H .calendar) (H .weekday)) (curve-cost 0 (length (rows table)))
+        day-are = ap₂ day-of n-is counts-are
+
+        pub day-found : (d : Day) (whole : Counts) → counted (d .curve) ≡ k → d .quarters ≡ c .quarters → d .n ≡ c .n
+            → counted whole ≡ day-of (c .n) k → DayIs 0 table H d whole
         unfolding passed passed-quarters passed-n
-        day-found d ed eq en = record { curve = ed ∙ counts-are; quarters = eq ∙ bits-are; n = en ∙ n-is }
+        day-found d whole ed eq en ew =
+            record { curve = ed ∙ counts-are; quarters = eq ∙ bits-are; n = en ∙ n-is; counts = ew ∙ day-are }
 
         pub few-counts : (k .deals ≤ 1000) × (k .words ≤ 1000) × (k .a ≤ 1000) × (k .b ≤ 1000)
         unfolding curve-cost
@@ -142,5 +152,5 @@ module _ (table : List ℕ) (n : ℕ) (H : Hours) (day : n ≡ 192) (c : Counted
         lists-day h x need A B D en ex =
             let m = ex
             ∙ ap (λ (q : Cost). dealer-lists-fault q A B D)
-            (en ∙ ap₂ (λ (m : ℕ) (q : Cost). needs-of h (day-of m q)) n-is counts-are) in
+            (en ∙ ap (needs-of h) day-are) in
             rw (eq-eqb n 192 day, no-number, kept) (ap {B = Fault} (λ (y : ℕ). (y, 0)) m)

@@ -33,26 +33,28 @@ pub struct Day {
     pub n: u32,
 }
 
-// The number, 0 for none; where there is one, the day is all 0. The index is 0 at every number.
+// The number, 0 for none; where there is one, the day and its counts are all 0. The index is 0 at every number.
 pub struct DayFinding {
     pub number: u32,
     pub day: Day,
+    pub whole: Counts,
 }
 
 fn day_turned_down(number: u32) -> DayFinding
     ensures { λ r.
         ⌜ (r .number ≡ number) × (counted (r .day .curve) ≡ cost-of 0 0 0 0)
-        × (r .day .quarters ≡ no-quarters) × (r .day .n ≡ 0) ⌝ }
+        × (r .day .quarters ≡ no-quarters) × (r .day .n ≡ 0) × (counted (r .whole) ≡ cost-of 0 0 0 0) ⌝ }
 {
+    let none = Counts {
+        deals: 0,
+        words: 0,
+        a: 0,
+        b: 0,
+    };
     DayFinding {
         number,
         day: Day {
-            curve: Counts {
-                deals: 0,
-                words: 0,
-                a: 0,
-                b: 0,
-            },
+            curve: none,
             quarters: Quarters {
                 low: 0,
                 middle: 0,
@@ -60,6 +62,7 @@ fn day_turned_down(number: u32) -> DayFinding
             },
             n: 0,
         },
+        whole: none,
     }
 }
 
@@ -110,7 +113,7 @@ fn check_day(
         (curve-cost 0 (length (rows (now (table .entry)))))))
         (now (a .entry)) (now (b .entry)) (now (deals .entry))) ⌝ }
     ensures day { λ r.
-        ⌜ DayIs (r .number) (now (table .entry)) (hours (now (calendar .entry)) weekday) (r .day) ⌝ }
+        ⌜ DayIs (r .number) (now (table .entry)) (hours (now (calendar .entry)) weekday) (r .day) (r .whole) ⌝ }
 {
     if shares.len() != DAY_WORDS {
         return day_turned_down(12);
@@ -123,7 +126,8 @@ fn check_day(
         return day_turned_down(5);
     }
     let curve = curve_counts((table.len() / 2) as u32);
-    let number = lists_fault(needs_of(host, day_counts(curve, found.n)), a, b, deals);
+    let whole = day_counts(curve, found.n);
+    let number = lists_fault(needs_of(host, whole), a, b, deals);
     if number != 0 {
         return day_turned_down(number);
     }
@@ -135,6 +139,7 @@ fn check_day(
             quarters,
             n: found.n,
         },
+        whole,
     }
 }
 
@@ -155,7 +160,7 @@ pub fn check_day_lent(
         (day-script 32 (now (table .entry)) (length (now (shares .entry))) (hours (now (calendar .entry)) weekday))
         (now (masks .entry)) (now (deals .entry))) ⌝ }
     ensures day { λ r.
-        ⌜ DayIs (r .number) (now (table .entry)) (hours (now (calendar .entry)) weekday) (r .day) ⌝ }
+        ⌜ DayIs (r .number) (now (table .entry)) (hours (now (calendar .entry)) weekday) (r .day) (r .whole) ⌝ }
 {
     match host {
         1 | 2 => check_day(host, table, shares, calendar, weekday, masks, masks, deals),
@@ -179,7 +184,7 @@ pub fn check_day_dealer(
         (day-script 32 (now (table .entry)) (length (now (shares .entry))) (hours (now (calendar .entry)) weekday))
         (now (a .entry)) (now (b .entry)) (now (deals .entry)) ⌝ }
     ensures day { λ r.
-        ⌜ DayIs (r .number) (now (table .entry)) (hours (now (calendar .entry)) weekday) (r .day) ⌝ }
+        ⌜ DayIs (r .number) (now (table .entry)) (hours (now (calendar .entry)) weekday) (r .day) (r .whole) ⌝ }
 {
     check_day(0, table, shares, calendar, weekday, a, b, deals)
 }

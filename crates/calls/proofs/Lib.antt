@@ -1,3 +1,4 @@
 pub mod Lists
+pub mod Hearing
 pub mod Scripts
 pub mod Faults

@@ -45,7 +45,7 @@ module _ (xs ys : Lane) (e : length xs ≡ 96) (f : length ys ≡ 96) where
       → s ≡ with-shares (own-state s) (day-list xs ys)
   unfolding with-shares
   shares-behind s h k =
-      ap₂ {C = State} (λ (a b : Lane). record { m = a; mask = b; order = s .order; turn = s .turn })
+      ap₂ {C = State} (λ (a b : Lane). record { m = a; mask = b; order = s .order; turn = s .turn; stored = s .stored })
       (behind-is (s .m) xs h ∙ ap (λ (a : Lane). fresh (take 24 (s .m) ++ a)) (sym (firsts-list xs ys (e ∙ sym f))))
       (behind-is (s .mask) ys k ∙ ap (λ (a : Lane). fresh (take 24 (s .mask) ++ a)) (sym (seconds-list xs ys (e ∙ sym f))))
 

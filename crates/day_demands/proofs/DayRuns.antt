@@ -9,7 +9,7 @@ use lib.ListN.{length, take, length-take}
 use lib.Seq.{take-all}
 use Rattle.gates.specs.Steps.{Lane}
 use Rattle.gates.specs.Hosts.{Pair}
-use Rattle.calls.specs.Calls.{State, Answer, start, hear, Prepared, prepare, prepare-walk}
+use Rattle.calls.specs.Calls.{stored-places, State, Answer, start, hear, Prepared, prepare, prepare-walk}
 use Rattle.runs.specs.Runs.{Spoken, placed-word, Among, Dealer, idle, ready, Side, waiting, going, side-state, World, world}
 use Rattle.runs.specs.Runs.{Turned, Call, lent1, lent2, Dealt, preparation, held, started, stepped, prepares, starts1, starts2}
 use Rattle.runs.specs.Runs.{hears1, hears2, given-out, Run, begin, complete, refuse}
@@ -73,7 +73,8 @@ module _ (w : ℕ) (S : DaySetting) where
 
   -- a host that is given two lanes
   abbrev pub given-lanes : (a b : Lane) → State
-  given-lanes a b = record { m = behind-zeros a; mask = behind-zeros b; order = 0; turn = 0 }
+  given-lanes a b =
+      record { m = behind-zeros a; mask = behind-zeros b; order = 0; turn = 0; stored = stored-places 0 0 0 }
 
   pub given-held : (a b : Lane) → length a ≡ 96 → length b ≡ 96
       → held (day-staged w S) (given-lanes a b) ≡ (behind-zeros a, behind-zeros b)

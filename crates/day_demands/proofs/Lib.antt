@@ -13,3 +13,4 @@ pub mod DayRuns
 pub mod Back
 pub mod Returned
 pub mod KnownSides
+pub mod DayPlaces

@@ -13,10 +13,11 @@ use Rattle.tables.proofs.Rows.{rules}
 use Rattle.gates.specs.Hosts.{Pair}
 use Rattle.jobs.specs.Job.{Fault}
 use Rattle.calls.specs.Calls.{State}
-use Rattle.demands.specs.Conditions.{Single}
-use Rattle.demands.specs.Numbers.{Told}
+use Rattle.demands.specs.Conditions.{walks-places, Single}
+use Rattle.demands.specs.Numbers.{Told, ToldPlaces}
 use Rattle.demands.proofs.Numbers.{numbers}
 use Rattle.demands.proofs.Placed.{gates-placed}
+use Rattle.demands.proofs.Walked.{gates-walked, gates-all}
 use Rattle.demands.proofs.Demand1.{demand1}
 use Rattle.calendars.specs.Calendar.{calendar-number}
 use Rattle.calendars.specs.Hours.{HoursNumbered}
@@ -24,6 +25,7 @@ use Rattle.calendars.proofs.OpeningHours.{opening-hours}
 use Rattle.days.specs.Day.{day-gates, day-steps, Hours, counting, day-fault, day-script}
 use Rattle.days.specs.DayCalls.{firsts, seconds, with-shares, own-state, day-given, day-lent, day-start, day-hear, day-prepare}
 use Rattle.days.proofs.Lanes.{front-lane}
+use Rattle.days.proofs.Quarters.{day-gates-count}
 use Rattle.days.proofs.Counts.{day-counts, day-orders, day-orderly}
 use Rattle.day_demands.specs.Numbers.{DayNumbered, no-day, no-hours, no-table, faultless, day-terms, DayNumbers}
 
@@ -33,7 +35,7 @@ module _ (table : List ℕ) (n : ℕ) (H : Hours) where
   abbrev hours-number : ℕ
   hours-number = calendar-number (H .calendar) (H .weekday)
 
-  fault-is : DayNumbered table n H (day-fault table n H .0) (day-fault table n H .1)
+  pub fault-is : DayNumbered table n H (day-fault table n H .0) (day-fault table n H .1)
   unfolding day-fault
   fault-is =
       go hours-number (eqb n 192) (eqb hours-number 0) (keeps-rules table) (opening-hours .numbered (H .calendar) (H .weekday)) refl refl
@@ -89,6 +91,16 @@ told table n H =
       orders = day-orders 32 table n H;
     }
 
+told-places : (table : List ℕ) (n : ℕ) (H : Hours) → ToldPlaces (day-script 32 table n H) (day-terms table n H)
+unfolding day-steps
+told-places table n H =
+    let gs = day-gates 32 (counting H) (rows table) in
+    record {
+      walked = λ before behind d e p. gates-walked 32 gs before behind d e p;
+      walked-all =
+          gates-all 32 gs ∙ ap (λ (k : ℕ). walks-places 32 gs (k, 0)) (day-gates-count 32 (counting H) (rows table));
+    }
+
 pub day-numbers : DayNumbers
 unfolding day-prepare day-start day-hear with-shares
 day-numbers =
@@ -98,13 +110,13 @@ day-numbers =
       starting = λ h T S H M D.
           numbers .starting (day-lent 32 h T S H M D) (day-terms T (length S) H) (told T (length S) H) (day-given S);
       hearing = λ h T S H M D s v.
-          numbers .hearing (day-lent 32 h T S H M D) (day-terms T (length S) H) (told T (length S) H) (day-orderly 32 T (length S) H)
-          (with-shares s S) v;
+          numbers .hearing (day-lent 32 h T S H M D) (day-terms T (length S) H) (told T (length S) H) (told-places T (length S) H)
+          (day-orderly 32 T (length S) H) (with-shares s S) v;
       one-preparation = λ T S H. numbers .one-preparation (day-terms T (length S) H) (single T (length S) H);
       one-start = λ h T S H M D. numbers .one-start (day-terms T (length S) H) (single T (length S) H) h M D;
-      one-hearing = λ h T S H M D o x.
+      one-hearing = λ h T S H M D o x u.
           numbers .one-hearing (day-script 32 T (length S) H) (day-terms T (length S) H) (told T (length S) H) (day-orderly 32 T (length S) H)
-          (single T (length S) H) h M D o x;
+          (single T (length S) H) h M D o x u;
       preparing-unchanged = λ T S H A B D h.
           let p = demand1 .preparing-unchanged (day-script 32 T (length S) H) A B D (day-given S) h in
           (ap {B = Pair} (λ (r : Pair). (take 16 (r .0), take 16 (r .1))) (p .0), p .1, p .2);

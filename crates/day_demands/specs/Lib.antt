@@ -6,3 +6,4 @@ pub mod Runs
 pub mod Returned
 pub mod Holdings
 pub mod KnownSides
+pub mod DayPlaces

@@ -18,6 +18,7 @@ use Rattle.programs.specs.Costs.{program-cost}
 use Rattle.programs.proofs.Points.{target}
 use Rattle.calls.specs.Lent.{Worker, worker-with}
 use Rattle.calls.specs.Places.{found}
+use Rattle.calls.specs.declared.Stored.{Stored}
 use Rattle.calls.specs.Calls.{State, Answer, word-at, report, hear-walk}
 use Rattle.walks.specs.Workers.{cursor, first-at, new-mask, sum-of, heard-at}
 use Rattle.walks.specs.Halts.{reported}
@@ -108,7 +109,7 @@ head-spares g gs (also e p) = e
 
 module _ (h : ℕ) (M D : List ℕ) (w : ℕ) (o k₁ k₂ : ℕ) (t₁ t₂ : Lane) (l₁ : length t₁ ≤ 104) (l₂ : length t₂ ≤ 104) (own : List Gate)
     (sp : Spares 15 own) (i : ℕ) (g : Gate) (there : fetched own i ≡ At g) (speaks : Exchanging (meaning w g ∷ [])) (rest : List Step)
-    (x a b n : ℕ) (m l : Lane) (r : Held h M D w o k₁ k₂ t₁ t₂ l₁ l₂ (m, l)) (v : ℕ) where
+    (x a b n : ℕ) (m l : Lane) (r : Held h M D w o k₁ k₂ t₁ t₂ l₁ l₂ (m, l)) (stored : Stored) (v : ℕ) where
   abbrev P : Worker
   P = worker-with h M D
 
@@ -116,7 +117,7 @@ module _ (h : ℕ) (M D : List ℕ) (w : ℕ) (o k₁ k₂ : ℕ) (t₁ t₂ : L
   hs = drop (suc i) own
 
   abbrev state-at : (order : ℕ) → Lane → Lane → State
-  state-at q c c′ = record { m = c; mask = c′; order = q; turn = x }
+  state-at q c c′ = record { m = c; mask = c′; order = q; turn = x; stored = stored }
 
   -- what the code answers, and the day
   abbrev pub code : Answer

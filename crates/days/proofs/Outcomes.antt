@@ -7,14 +7,16 @@ use Prim.Native.Nat.{ℕ, suc}
 use lib.Dec.{eqb}
 use lib.ListN.{set}
 use Rattle.gates.specs.Gates.{Gate}
-use Rattle.gates.specs.Steps.{Lane, Exchange, product, refresh, known-product, Step, local, deal, exchange, end, say1, say2, new-at, Cursor, past}
+use Rattle.gates.specs.Steps.{Lane, Exchange, product, refresh, known-product, Step, local, deal, exchange, end, say1, say2, new-at, past-deal, Cursor}
+use Rattle.gates.specs.Steps.{past}
 use Rattle.gates.specs.Meaning.{meaning}
 use Rattle.gates.specs.Costs.{step-cost}
 use Rattle.gates.specs.Walk.{far}
 use Rattle.gates.specs.Hosts.{Pair, on-m, on-mask, word-of1, word-of2}
 use Rattle.gates.proofs.GateSteps.{OfGate, of-gate}
 use Rattle.calls.specs.Lent.{Worker, worker1, worker2, worker-with}
-use Rattle.calls.specs.Calls.{Answer, word-at}
+use Rattle.calls.specs.declared.Stored.{Stored}
+use Rattle.calls.specs.Calls.{counted-to, Answer, word-at}
 use Rattle.walks.specs.Workers.{cursor, deal-taken}
 use Rattle.walks.specs.Halts.{going-on, reported}
 use Rattle.walks.proofs.Halts.{passes, stops}
@@ -23,9 +25,10 @@ use Rattle.runs.proofs.Written.{Spares, none, also}
 use Rattle.days.proofs.Moved.{moved, moved-exchange, Ready, Embeds, Same, same-local, same-deal, same-exchange, same-gate}
 use Rattle.days.proofs.Moved.{still-ready, put-same}
 
--- at a product or refresh, with the word spoken there; or behind the last gate, with so many words of A and deals used
+-- at a product or refresh, with the word spoken there and the walk's places; or behind the last gate, with so many words of A and deals
+-- used
 pub data Outcome : Type 0 where
-  halts : (word : ℕ) → Pair → Outcome
+  halts : (word : ℕ) → Stored → Pair → Outcome
   goes-by : (a dealt : ℕ) → Pair → Outcome
 
 module _ (h : ℕ) (M D : List ℕ) where
@@ -36,12 +39,12 @@ module _ (h : ℕ) (M D : List ℕ) where
   outcome [] a b n s = goes-by a n s
   outcome (local d m l ∷ ss) a b n s = outcome ss a b n (P .act (local d m l) (cursor 0 0 a b n) s)
   outcome (deal d f ∷ ss) a b n s = outcome ss (suc a) b (suc n) (P .act (deal d f) (cursor 0 0 a b n) s)
-  outcome (exchange d e ∷ ss) a b n s = halts (P .say e (cursor 0 0 a b n) s) s
+  outcome (exchange d e ∷ ss) a b n s = halts (P .say e (cursor 0 0 a b n) s) (counted-to (past (exchange d e) (cursor 0 0 a b n))) s
   outcome (end ∷ ss) a b n s = outcome ss a b n s
 
   -- the answer that comes of it at the place (o, x), with b words spoken before and the steps ss behind the gates
   unfoldable pub answer-behind : List Step → (o x b : ℕ) → Outcome → Answer
-  answer-behind ss o x b (halts v s) = going-on (suc b) v (s .0) (s .1) o x
+  answer-behind ss o x b (halts v u s) = going-on (suc b) v (s .0) (s .1) o x u
   answer-behind ss o x b (goes-by a n s) = reported P ss (cursor o x a b n) s
 
   -- the place does not matter to what a host does
@@ -78,7 +81,8 @@ module _ (h : ℕ) (M D : List ℕ) where
             ∙ ih (suc a) (suc n) _
         go ih (exchange d e) t =
             stops P (map (meaning w) gs ++ ss) o x a b n s (exchange d e) tt
-            ∙ ap (λ (v : ℕ). going-on (suc b) v (s .0) (s .1) o x) (says-any e o x a b n s)
+            ∙ ap (λ (v : ℕ). going-on (suc b) v (s .0) (s .1) o x (counted-to (past (exchange d e) (cursor 0 0 a b n))))
+            (says-any e o x a b n s)
         go ih end t = absurd t
 
   -- a local step, a deal
@@ -94,7 +98,7 @@ module _ (h : ℕ) (M D : List ℕ) where
   -- ---- the cursor behind the gates, where the walk goes by them
 
   abbrev pub Far : (xs ss : List Step) (o x a b n : ℕ) → Outcome → Type 0
-  Far xs ss o x a b n (halts v s) = Unit
+  Far xs ss o x a b n (halts v u s) = Unit
   Far xs ss o x a b n (goes-by a′ n′ s) = far (xs ++ ss) (cursor o x a b n) ≡ far ss (cursor o x a′ b n′)
 
   pub goes-far : (w : ℕ) (gs : List Gate) (ss : List Step) (o x a b n : ℕ) (s : Pair)
@@ -105,7 +109,7 @@ module _ (h : ℕ) (M D : List ℕ) where
     where
       on : (xs : List Step) (y : Step) (a b n a₁ n₁ : ℕ) → past y (cursor o x a b n) ≡ cursor o x a₁ b n₁
           → (r : Outcome) → Far xs ss o x a₁ b n₁ r → Far (y ∷ xs) ss o x a b n r
-      on xs y a b n a₁ n₁ e (halts v s) p = tt
+      on xs y a b n a₁ n₁ e (halts v u s) p = tt
       on xs y a b n a₁ n₁ e (goes-by a′ n′ s) p = ap (far (xs ++ ss)) e ∙ p
 
       go : ((a n : ℕ) (s : Pair) → Far (map (meaning w) gs) ss o x a b n (outcome (map (meaning w) gs) a b n s))
@@ -131,11 +135,11 @@ module _ (h : ℕ) (M D : List ℕ) (ρ : ℕ → ℕ) (x₁ x₂ : ℕ) (e₁ e
   Ready2 s = Ready x₁ (s .0) × Ready x₂ (s .1)
 
   unfoldable pub larger-outcome : Outcome → Outcome
-  larger-outcome (halts v s) = halts v (larger s)
+  larger-outcome (halts v u s) = halts v u (larger s)
   larger-outcome (goes-by a n s) = goes-by a n (larger s)
 
   abbrev pub ended-on : Outcome → Pair
-  ended-on (halts v s) = s
+  ended-on (halts v u s) = s
   ended-on (goes-by a n s) = s
 
   -- the same word is spoken
@@ -154,6 +158,14 @@ module _ (h : ℕ) (M D : List ℕ) (ρ : ℕ → ℕ) (x₁ x₂ : ℕ) (e₁ e
         go false (refresh O a) = rw (E₂ .seen (s .1) (r .1) a)
         go true (known-product O a b) = rw (E₁ .seen (s .0) (r .0) a, E₁ .seen (s .0) (r .0) b, E₂ .seen (s .1) (r .1) b)
         go false (known-product O a b) = rw (E₁ .seen (s .0) (r .0) a, E₂ .seen (s .1) (r .1) b)
+
+  -- and as much used
+  used-same : (d : ℕ) (e : Exchange) (a b n : ℕ)
+      → past (exchange (ρ d) (moved-exchange ρ e)) (cursor 0 0 a b n) ≡ past (exchange d e) (cursor 0 0 a b n)
+  unfolding past new-at past-deal moved-exchange
+  used-same d (product O i j) a b n = refl
+  used-same d (refresh O i) a b n = refl
+  used-same d (known-product O i j) a b n = refl
 
   -- the walks end alike, and slot 15 still holds what it held
   abbrev Alike : List Step → List Step → (a b n : ℕ) → Pair → Type 0
@@ -180,8 +192,8 @@ module _ (h : ℕ) (M D : List ℕ) (ρ : ℕ → ℕ) (x₁ x₂ : ℕ) (e₁ e
       ∙ ap₂ {C = Pair} (λ (v z : Lane). (v, z)) (put-same ρ x₁ (s .0) (r .0) d 0 t e₁ E₁ 0 refl)
       (put-same ρ x₂ (s .1) (r .1) d k t e₂ E₂ k refl) in
       rw (acts-deal h M D d f (cursor 0 0 a b n) s, e) (ih (suc a) (suc n) u ru)
-  step-alike xs ys a b n s r t (same-exchange e) ih =
-      (ap (λ (v : ℕ). halts v (larger s)) (says-same (cursor 0 0 a b n) s r e), r)
+  step-alike {d = d} xs ys a b n s r t (same-exchange e) ih =
+      (ap₂ (λ (v : ℕ) (u : Stored). halts v u (larger s)) (says-same (cursor 0 0 a b n) s r e) (ap counted-to (used-same d e a b n)), r)
 
   pub gates-alike : (w : ℕ) (gs : List Gate) → Spares 15 gs → (a b n : ℕ) (s : Pair) → Ready2 s
       → Alike (map (meaning w) gs) (map (meaning w) (map (moved ρ) gs)) a b n s

@@ -18,7 +18,8 @@ use Rattle.gates.specs.Hosts.{Pair}
 use Rattle.programs.specs.Costs.{program-cost}
 use Rattle.programs.proofs.Points.{target}
 use Rattle.calls.specs.Lent.{Worker, worker-with}
-use Rattle.calls.specs.Calls.{Answer}
+use Rattle.calls.specs.declared.Stored.{Stored}
+use Rattle.calls.specs.Calls.{stored-places, Answer}
 use Rattle.walks.specs.Workers.{cursor}
 use Rattle.walks.specs.Halts.{going-on, reported}
 use Rattle.walks.proofs.Halts.{passes-end, ends}
@@ -126,9 +127,9 @@ module _ (h : ℕ) (M D : List ℕ) (w : ℕ) (o k₁ k₂ : ℕ) (t₁ t₂ : L
   -- the code's answer and the day's, with b words spoken before and the orders' steps rest behind: so many are spoken in the gates, and all
   -- is the cursor behind the day
   pub data Walked (rest : List Step) (x b spoken : ℕ) (all : Cursor) (day code : Answer) : Type 0 where
-    halted : (v : ℕ) (s : Pair) → Held s → code ≡ going-on (suc b) v (s .0) (s .1) 0 x
-        → day ≡ going-on (suc b) v (inside s .0) (inside s .1) o x → Walked rest x b spoken all day code
-    gone-by : (a n : ℕ) (s : Pair) → code ≡ going-on b 0 (s .0) (s .1) 1 0 → Held (behind s)
+    halted : (v : ℕ) (u : Stored) (s : Pair) → Held s → code ≡ going-on (suc b) v (s .0) (s .1) 0 x u
+        → day ≡ going-on (suc b) v (inside s .0) (inside s .1) o x u → Walked rest x b spoken all day code
+    gone-by : (a n : ℕ) (s : Pair) → code ≡ going-on b 0 (s .0) (s .1) 1 0 (stored-places a b n) → Held (behind s)
         → day ≡ reported P rest (cursor (suc o) 0 a b n) (inside (behind s)) → all ≡ far rest (cursor (suc o) 0 a b n)
         → spoken ≡ 0 → Walked rest x b spoken all day code
 
@@ -168,8 +169,8 @@ module _ (h : ℕ) (M D : List ℕ) (w : ℕ) (o k₁ k₂ : ℕ) (t₁ t₂ : L
 
     by-outcome : (u : Outcome) → Ends u
     unfolding larger-outcome answer-behind
-    by-outcome (halts v z) p q g =
-        halted v z g
+    by-outcome (halts v u z) p q g =
+        halted v u z g
         (ends-in h M D w hs (end ∷ []) 0 x a b n s ∙ ap (answer-behind h M D (end ∷ []) 0 x b) p)
         (ends-in h M D w (map (moved (place o)) hs) _ o x a b n (inside s) ∙ ap (answer-behind h M D _ o x b) q)
     by-outcome (goes-by a′ n′ z) p q g =

@@ -29,10 +29,17 @@ day-given S = (replicate 24 0 ++ firsts S, replicate 24 0 ++ seconds S)
 -- a host's state with the lent shares behind it; and the state without them
 unfoldable pub with-shares : State → (shares : List ℕ) → State
 with-shares s S =
-    record { m = fresh (s .m ++ firsts S); mask = fresh (s .mask ++ seconds S); order = s .order; turn = s .turn }
+    record {
+      m = fresh (s .m ++ firsts S);
+      mask = fresh (s .mask ++ seconds S);
+      order = s .order;
+      turn = s .turn;
+      stored = s .stored;
+    }
 
 abbrev pub own-state : State → State
-own-state s = record { m = take 24 (s .m); mask = take 24 (s .mask); order = s .order; turn = s .turn }
+own-state s =
+    record { m = take 24 (s .m); mask = take 24 (s .mask); order = s .order; turn = s .turn; stored = s .stored }
 
 abbrev pub own-answer : Answer → Answer
 own-answer a =

@@ -27,6 +27,7 @@ use Rattle.calendars.specs.Calendar.{calendar-number}
 use Rattle.calendars.specs.Quarters.{held}
 use Rattle.calendars.proofs.Counting.{held-where, number-alike, number-le}
 use Rattle.call_check.specs.declared.day.Day.{Day}
+use Rattle.jobs.specs.declared.Counts.{Counts}
 use Rattle.call_check.specs.Days.{passed-quarters, passed-n, DayIs}
 use Rattle.days.specs.Day.{Hours, counting, day-steps, day-script, day-of}
 use Rattle.days.specs.DayCalls.{day-given, own-masks, day-prepare}
@@ -56,7 +57,7 @@ module _ (table S : List ℕ) (H : Hours) (A B D : List ℕ) where
     day-lent = accepted table (length S) H (no-dealer-fault σ A B D e)
 
     -- the quarters that count by the words in hand count by the hours
-    module _ (d : Day) (is : DayIs 0 table H d) where
+    module _ (d : Day) {whole : Counts} (is : DayIs 0 table H d whole) where
       abbrev f : ℕ → Bool
       f = held (d .quarters)
 

@@ -14,7 +14,7 @@ use Rattle.programs.specs.Orders.{program}
 use Rattle.jobs.specs.Additions.{added-word, added-all}
 use Rattle.jobs.proofs.Additions.{additive-steps}
 use Rattle.calls.specs.Lent.{worker-with}
-use Rattle.calls.specs.Calls.{word-at, spoken-at}
+use Rattle.calls.specs.Calls.{word-at, spoken-at, counted-to, stored-at}
 use Rattle.walks.specs.Halts.{going-on, reported}
 use Rattle.walks.proofs.Alike.{written, passes-each}
 use Rattle.demands.specs.Additions.{AllAdditive}
@@ -33,14 +33,14 @@ module _ (w : ℕ) (ps : List Row) where
   pub worker-adds : (h : ℕ) (M D : List ℕ) (os : List Order) → AllAdditive os → (c : Cursor) (s : Pair)
       → c .turn ≡ 0
       → reported (worker-with h M D) (steps os) c s
-      ≡ going-on (c .b) 0 (added-all w os s .0) (added-all w os s .1) (length os + c .order) 0
-  unfolding job-steps added-all reported walk past word-at spoken-at
-  worker-adds h M D [] f c s z = rw z (ap (λ (n : ℕ). going-on (c .b) 0 (s .0) (s .1) n 0) (omega arith))
+      ≡ going-on (c .b) 0 (added-all w os s .0) (added-all w os s .1) (length os + c .order) 0 (counted-to c)
+  unfolding job-steps added-all reported walk past word-at spoken-at stored-at
+  worker-adds h M D [] f c s z = rw z (ap (λ (n : ℕ). going-on (c .b) 0 (s .0) (s .1) n 0 (counted-to c)) (omega arith))
   worker-adds h M D (o ∷ os) f c s z =
       ap (λ (ss : List Step). reported (worker-with h M D) ss c s) (additive-steps w ps o (f 0 (omega arith)) (steps os))
       ∙ passes-each h M D (o .target) (added-word w o) (steps os) c s
       ∙ worker-adds h M D os (λ q l. f (suc q) (omega arith)) (past end c) (written (o .target) (added-word w o) s) refl
-      ∙ ap (λ (n : ℕ). going-on (c .b) 0 (added-all w (o ∷ os) s .0) (added-all w (o ∷ os) s .1) n 0) (omega arith)
+      ∙ ap (λ (n : ℕ). going-on (c .b) 0 (added-all w (o ∷ os) s .0) (added-all w (o ∷ os) s .1) n 0 (counted-to c)) (omega arith)
 
   -- and host 0 deals nothing
   pub dealer-adds : (A B : List ℕ) (os : List Order) → AllAdditive os → (c : Cursor) (s : Pair) (t : List Pair)

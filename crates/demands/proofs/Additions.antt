@@ -21,7 +21,7 @@ use Rattle.jobs.proofs.Accepted.{Good, accepted-orders}
 use Rattle.jobs.proofs.Additions.{additive-steps, others-kept, target-written, registers-added, orders-append, in-fours}
 use Rattle.calls.specs.Scripts.{Script, job-script}
 use Rattle.calls.specs.Lent.{Worker, worker-with, lent, lent-fault}
-use Rattle.calls.specs.Calls.{Answer, fresh2, word-at, spoken-at, report, start-walk, start}
+use Rattle.calls.specs.Calls.{stored-places, Answer, fresh2, word-at, spoken-at, counted-to, stored-at, report, start-walk, start}
 use Rattle.calls.specs.Calls.{script-deals, prepare-walk, prepare}
 use Rattle.calls.proofs.Faults.{no-fault, no-dealer-fault}
 use Rattle.walks.specs.Halts.{going-on, reported}
@@ -62,12 +62,12 @@ module _ (w : ℕ) (job table : List ℕ) (all : AllAdditive (orders job)) where
         }
 
   module _ (h : ℕ) (M D : List ℕ) (r : Pair) (z : start (lent h σ M D) r .number ≡ 0) where
-    at-start : start (lent h σ M D) r ≡ going-on 0 0 (left r .0) (left r .1) (length (orders job)) 0
+    at-start : start (lent h σ M D) r ≡ going-on 0 0 (left r .0) (left r .1) (length (orders job)) 0 (stored-places 0 0 0)
     unfolding start-walk reported steps-of job-gates
     at-start =
         start-none (lent h σ M D) r z .1
         ∙ worker-adds w (rows table) h M D (orders job) all origin (fresh2 r) refl
-        ∙ ap (λ (n : ℕ). going-on 0 0 (left r .0) (left r .1) n 0) (add-zero (length (orders job)))
+        ∙ ap (λ (n : ℕ). going-on 0 0 (left r .0) (left r .1) n 0 (stored-places 0 0 0)) (add-zero (length (orders job)))
 
     -- a kept word is no accepted order's target
     leaves-kept : (i : ℕ) → 16 ≤ i → Leaves job 0 (start (lent h σ M D) r .state .order) i
@@ -132,9 +132,9 @@ module _ (w : ℕ) (job table : List ℕ) (o : Order) (a : Additive o) where
       -- where the first of two answers comes to the job's end
       at-end : (p : Conf Pair) → p .rest ≡ []
           → report P (walk (P .act) (adding w o []) (p .cur) (p .state) (p .trail)) ≡ and-then w o (report P p)
-      unfolding walk past word-at spoken-at
+      unfolding walk past word-at spoken-at stored-at
       at-end p e =
-          ap (λ (z : Pair). going-on (p .cur .b) 0 (z .0) (z .1) (suc (p .cur .order)) 0)
+          ap (λ (z : Pair). going-on (p .cur .b) 0 (z .0) (z .1) (suc (p .cur .order)) 0 (counted-to (p .cur)))
           (acts-each h M D (o .target) (added-word w o) (p .cur) (p .state))
           ∙ ap (λ (ts : List Step). and-then w o (report P (conf ts (p .cur) (p .state) (p .trail)))) (sym e)
 

@@ -1,24 +1,30 @@
 -- A call that meets no condition does its work, whatever it is lent and given. Assumes nothing.
 use mathlib.Core.Path.{_≡_, refl, sym, ap, _∙_}
 use mathlib.Core.Logic.{inl, inr}
+use mathlib.Core.Bool.{Bool, true, false, cond}
 use mathlib.Core.List.{List, [], _∷_, _++_}
 use Prim.Native.Nat.{ℕ, zero, suc}
+use native.Mathlib.Nat.{zero-add}
 use native.Mathlib.Omega.{arith}
 use lib.ListN.{length, take, drop}
 use Rattle.gates.specs.Steps.{Exchange, Step, local, deal, exchange, end, Cursor, origin, past}
 use Rattle.gates.specs.Walk.{far}
+use Rattle.gates.specs.Costs.{cost}
+use Rattle.gates.proofs.Needs.{far-used}
 use Rattle.gates.specs.Hosts.{Pair}
 use Rattle.jobs.specs.Job.{Fault}
 use Rattle.calls.specs.Scripts.{Script}
-use Rattle.calls.specs.Places.{Found, found, seek}
+use Rattle.calls.specs.Places.{Found, nowhere, found, here, seek}
 use Rattle.calls.specs.Lent.{Lent, dealer-fault, worker-of}
-use Rattle.calls.specs.Calls.{State, Answer, fresh, report, unless, start-walk, hear-walk, place-fault, found-of, resume, hear}
+use Rattle.calls.specs.Calls.{State, Answer, fresh, counted-to, stored-at, report, start-walk, hear-walk, place-fault, walked-to}
+use Rattle.calls.specs.Calls.{found-of, hear}
+use Rattle.calls.proofs.Hearing.{places-path, resumed-there, resume-none}
 use Rattle.calls.specs.Calls.{Prepared, script-deals, prepare-walk, prepared, prepare}
 use Rattle.runs.specs.Runs.{Among}
-use Rattle.demands.specs.Conditions.{Place, places-from}
+use Rattle.demands.specs.Conditions.{Place, places-from, used-in}
 use Rattle.demands.specs.Completed.{walks-on, Located, Completed}
 use Rattle.runs.proofs.Places.{here-self, here-other, Upto, level, upto-past, upto-not}
-use Rattle.runs.proofs.Refusals.{unless-none, start-none, hear-none}
+use Rattle.runs.proofs.Refusals.{start-none, hear-none}
 use Rattle.demands.proofs.Placed.{Placed, a-turn, the-end, nothing, placed}
 
 -- ---- `seek` finds the product or refresh behind the steps pre
@@ -32,7 +38,7 @@ behind : (d : ℕ) (e : Exchange) (c : Cursor) → Upto (c .order) (suc (c .turn
 unfolding past
 behind d e c = level refl (omega arith)
 
-seek-to : (pre ss : List Step) (d : ℕ) (e : Exchange) (c : Cursor)
+pub seek-to : (pre ss : List Step) (d : ℕ) (e : Exchange) (c : Cursor)
     → seek (far pre c .order) (far pre c .turn) (pre ++ (exchange d e ∷ ss)) c ≡ found (exchange d e ∷ ss) (far pre c)
 unfolding seek far
 seek-to [] ss d e c = rw (here-self c)
@@ -69,11 +75,13 @@ pub prepare-none : (σ : Script) (A B buf : List ℕ) (r : Pair) → prepare σ 
 unfolding prepare
 prepare-none σ A B buf r h = prepared-done (dealer-fault σ A B buf .0) (dealer-fault σ A B buf) σ A B buf r refl h
 
-resumed : (loan : Lent) (s : State) (v : ℕ) (ss : List Step) (c : Cursor) (d : ℕ) (e : Exchange)
-    → resume (worker-of loan) s v (found (exchange d e ∷ ss) c)
-    ≡ walks-on loan ss (past (exchange d e) c) (worker-of loan .hear d e c (s .m, s .mask) v)
-unfolding resume place-fault unless hear-walk
-resumed loan s v ss c d e = refl
+-- what a hearing that meets no condition answers, by what is found at its place
+pub resumed : (loan : Lent) (s : State) (v : ℕ) → hear loan s v .number ≡ 0
+    → hear loan s v ≡ report (worker-of loan) (hear-walk (worker-of loan) s v (found-of loan s))
+resumed loan s v z =
+    let p = hear-none loan s v z in
+    let q = resume-none (worker-of loan) s v (found-of loan s) (sym (ap (λ (a : Answer). a .number) (p .1)) ∙ z) in
+    p .1 ∙ resumed-there (worker-of loan) s v (found-of loan s) (q .0) (q .1)
 
 module _ (loan : Lent) (s : State) (v : ℕ) (pre ss : List Step) (d : ℕ) (e : Exchange)
     (is : loan .script .steps ≡ pre ++ (exchange d e ∷ ss))
@@ -85,7 +93,8 @@ module _ (loan : Lent) (s : State) (v : ℕ) (pre ss : List Step) (d : ℕ) (e :
   pub heard : hear loan s v .number ≡ 0
       → hear loan s v ≡ walks-on loan ss (past (exchange d e) (far pre origin))
       (worker-of loan .hear d e (far pre origin) (s .m, s .mask) v)
-  heard h = hear-none loan s v h .1 ∙ ap {B = Answer} (resume (worker-of loan) s v) found-there ∙ resumed loan s v ss (far pre origin) d e
+  unfolding hear-walk
+  heard h = resumed loan s v h ∙ ap (λ (f : Found). report (worker-of loan) (hear-walk (worker-of loan) s v f)) found-there
 
 -- ---- every place has its product or refresh
 
@@ -102,12 +111,12 @@ past-one y ss c o x z =
       turn = z .turn;
     }
 
-located : (ss : List Step) (c : Cursor) (o x : ℕ) → Among (o, x) (places-from (c .order) (c .turn) ss) → Located ss c o x
+pub located-at : (ss : List Step) (c : Cursor) (o x : ℕ) → Among (o, x) (places-from (c .order) (c .turn) ss) → Located ss c o x
 unfolding places-from past far
-located [] c o x h = absurd h
-located (local d m l ∷ ss) c o x h = past-one (local d m l) ss c o x (located ss (past (local d m l) c) o x h)
-located (deal d f ∷ ss) c o x h = past-one (deal d f) ss c o x (located ss (past (deal d f) c) o x h)
-located (exchange d e ∷ ss) c o x (inl p) =
+located-at [] c o x h = absurd h
+located-at (local d m l ∷ ss) c o x h = past-one (local d m l) ss c o x (located-at ss (past (local d m l) c) o x h)
+located-at (deal d f ∷ ss) c o x h = past-one (deal d f) ss c o x (located-at ss (past (deal d f) c) o x h)
+located-at (exchange d e ∷ ss) c o x (inl p) =
     record {
       before = [];
       target = d;
@@ -117,13 +126,60 @@ located (exchange d e ∷ ss) c o x (inl p) =
       order = sym (ap (λ (q : Place). q .0) p);
       turn = sym (ap (λ (q : Place). q .1) p);
     }
-located (exchange d e ∷ ss) c o x (inr h) = past-one (exchange d e) ss c o x (located ss (past (exchange d e) c) o x h)
-located (end ∷ ss) c o x h = past-one end ss c o x (located ss (past end c) o x h)
+located-at (exchange d e ∷ ss) c o x (inr h) = past-one (exchange d e) ss c o x (located-at ss (past (exchange d e) c) o x h)
+located-at (end ∷ ss) c o x h = past-one end ss c o x (located-at ss (past end c) o x h)
+
+-- ---- R-7: the walk's places where `seek` finds a place, by what the steps up to and with it use
+
+pub counted-far : (ss : List Step) → counted-to (far ss origin) ≡ used-in ss
+counted-far ss =
+    let k = far-used ss origin in
+    places-path (k .a ∙ zero-add (cost ss .a)) (k .b ∙ zero-add (cost ss .b)) (k .deals ∙ zero-add (cost ss .deals))
+
+pub far-append : (ss ts : List Step) (c : Cursor) → far (ss ++ ts) c ≡ far ts (far ss c)
+unfolding far
+far-append [] ts c = refl
+far-append (x ∷ ss) ts c = far-append ss ts (past x c)
+
+pub walked-there : (ss : List Step) (o x : ℕ) (l : Located ss origin o x)
+    → walked-to (seek o x ss origin) ≡ used-in (l .before ++ (exchange (l .target) (l .gate) ∷ []))
+unfolding walked-to stored-at far
+walked-there ss o x l =
+    let own : List Step = exchange (l .target) (l .gate) ∷ [] in
+    rw (← l .order, ← l .turn)
+    (ap (λ (ts : List Step). walked-to (seek (far (l .before) origin .order) (far (l .before) origin .turn) ts origin)) (l .is)
+    ∙ ap walked-to (seek-to (l .before) (l .behind) (l .target) (l .gate) origin))
+    ∙ ap counted-to (sym (far-append (l .before) own origin))
+    ∙ counted-far (l .before ++ own)
+
+-- at the end all steps are passed
+ends-over : (o x : ℕ) (ss : List Step) (c : Cursor) → place-fault (seek o x ss c) ≡ 9 → walked-to (seek o x ss c) ≡ counted-to (far ss c)
+unfolding seek far walked-to stored-at place-fault
+ends-over o x [] c = go (here o x c)
+  where
+    go : (b : Bool) → place-fault (cond b (found [] c) nowhere) ≡ 9 → walked-to (cond b (found [] c) nowhere) ≡ counted-to c
+    go true e = refl
+    go false e = absurd (omega arith)
+ends-over o x (local d m l ∷ ss) c = ends-over o x ss (past (local d m l) c)
+ends-over o x (deal d f ∷ ss) c = ends-over o x ss (past (deal d f) c)
+ends-over o x (exchange d y ∷ ss) c = go (here o x c) (ends-over o x ss (past (exchange d y) c))
+  where
+    go : (b : Bool) → (place-fault (seek o x ss (past (exchange d y) c)) ≡ 9
+        → walked-to (seek o x ss (past (exchange d y) c)) ≡ counted-to (far ss (past (exchange d y) c)))
+        → place-fault (cond b (found (exchange d y ∷ ss) c) (seek o x ss (past (exchange d y) c))) ≡ 9
+        → walked-to (cond b (found (exchange d y ∷ ss) c) (seek o x ss (past (exchange d y) c)))
+        ≡ counted-to (far ss (past (exchange d y) c))
+    go true h e = absurd (omega arith)
+    go false h e = h e
+ends-over o x (end ∷ ss) c = ends-over o x ss (past end c)
+
+pub walked-over : (ss : List Step) (o x : ℕ) → place-fault (seek o x ss origin) ≡ 9 → walked-to (seek o x ss origin) ≡ used-in ss
+walked-over ss o x e = ends-over o x ss origin e ∙ counted-far ss
 
 -- where a completed hearing stands
 pub standing-at : (loan : Lent) (s : State) (v : ℕ) → hear loan s v .number ≡ 0
     → Located (loan .script .steps) origin (s .order) (s .turn)
-unfolding found-of resume
+unfolding found-of
 standing-at loan s v z = go (placed (s .order) (s .turn) (loan .script .steps) origin)
   where
     f : Found
@@ -132,14 +188,23 @@ standing-at loan s v z = go (placed (s .order) (s .turn) (loan .script .steps) o
     fine : place-fault f ≡ 0
     fine =
         let p = hear-none loan s v z in
-        let n : resume (worker-of loan) s v f .number ≡ 0 = sym (ap (λ (x : Answer). x .number) (p .1)) ∙ z in
-        unless-none (place-fault f) (place-fault f, 0) s (report (worker-of loan) (hear-walk (worker-of loan) s v f)) refl n .0
+        resume-none (worker-of loan) s v f (sym (ap (λ (x : Answer). x .number) (p .1)) ∙ z) .0
 
     go : {q y : ℕ} → Placed (s .order) (s .turn) (places-from 0 0 (loan .script .steps)) q y (place-fault f)
         → Located (loan .script .steps) origin (s .order) (s .turn)
-    go (a-turn a e) = located (loan .script .steps) origin (s .order) (s .turn) a
+    go (a-turn a e) = located-at (loan .script .steps) origin (s .order) (s .turn) a
     go (the-end a b e) = absurd (omega (arith, e, fine))
     go (nothing a b e) = absurd (omega (arith, e, fine))
+
+-- and the stored places that it was given
+pub own-places : (loan : Lent) (s : State) (v : ℕ) → hear loan s v .number ≡ 0
+    → (l : Located (loan .script .steps) origin (s .order) (s .turn))
+    → s .stored ≡ used-in (l .before ++ (exchange (l .target) (l .gate) ∷ []))
+unfolding found-of
+own-places loan s v z l =
+    let p = hear-none loan s v z in
+    resume-none (worker-of loan) s v (found-of loan s) (sym (ap (λ (a : Answer). a .number) (p .1)) ∙ z) .1
+    ∙ walked-there (loan .script .steps) (s .order) (s .turn) l
 
 pub completed : Completed
 unfolding script-deals prepare-walk fresh start-walk
@@ -148,5 +213,5 @@ completed =
       preparing = λ σ A B buf r h. prepare-none σ A B buf r h .1;
       starting = λ loan r h. start-none loan r h .1;
       hearing = λ loan s v pre ss d e is o x h. heard loan s v pre ss d e is o x h;
-      located = λ ss o x h. located ss origin o x h;
+      located = λ ss o x h. located-at ss origin o x h;
     }

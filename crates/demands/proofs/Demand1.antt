@@ -13,17 +13,19 @@ use Rattle.jobs.specs.CostTable.{table-counts}
 use Rattle.jobs.specs.FirstFault.{Numbered, faultless}
 use Rattle.jobs.proofs.FirstFault.{job-number, number-0}
 use Rattle.jobs.proofs.CostTable.{cost-table}
+use Rattle.jobs.proofs.Indices.{gates-length}
 use Rattle.calls.specs.Scripts.{Script, job-script}
 use Rattle.calls.proofs.Scripts.{job-made}
 use Rattle.calls.specs.Lent.{Lent, lent, lent-fault, dealer-fault, worker-of}
-use Rattle.calls.specs.Calls.{State, Answer, fresh, report, unless, given, start-walk, start, hear-walk, place-fault, found-of}
+use Rattle.calls.specs.Calls.{State, Answer, fresh, report, unless, given, start-walk, start, hear-walk, hearing-fault, found-of}
 use Rattle.calls.specs.Calls.{resume, hear, prepared, prepare}
-use Rattle.demands.specs.Conditions.{places-from, Terms, Single}
-use Rattle.demands.specs.Numbers.{Told}
+use Rattle.demands.specs.Conditions.{places-from, used-in, walks-places, Terms, Single}
+use Rattle.demands.specs.Numbers.{Told, ToldPlaces}
 use Rattle.demands.specs.Demand1.{terms-of, gate-terms, given-back, Demand1At, Demand1}
 use Rattle.runs.proofs.Chain.{job-orders, job-orderly}
 use Rattle.runs.proofs.Refusals.{start-state, hear-state, prepare-back}
 use Rattle.demands.proofs.Placed.{gates-placed}
+use Rattle.demands.proofs.Walked.{gates-walked, gates-all}
 use Rattle.demands.proofs.Numbers.{numbers}
 
 -- ---- a job's terms
@@ -38,6 +40,15 @@ module _ (w : ℕ) (job table : List ℕ) where
         needs = n;
         places = ap (places-from 0 0) (job-made w job table) ∙ gates-placed w 0 (job-gates w job table);
         orders = job-orders w job table;
+      }
+
+  told-places : (needs : Cost) → ToldPlaces (job-script w job table) (terms-of w job table needs)
+  told-places needs =
+      record {
+        walked = λ before behind d e p. gates-walked w (job-gates w job table) before behind d e (sym (job-made w job table) ∙ p);
+        walked-all =
+            ap used-in (job-made w job table) ∙ gates-all w (job-gates w job table)
+            ∙ ap (λ (n : ℕ). walks-places w (job-gates w job table) (n, 0)) (gates-length w job table);
       }
 
   single : Single (Numbered w job table)
@@ -73,8 +84,9 @@ unfolding hear resume
 hear-rest loan s v h =
     let f = found-of loan s in
     let a = report (worker-of loan) (hear-walk (worker-of loan) s v f) in
-    unless-rest (lent-fault loan .0) (lent-fault loan) s (unless (place-fault f) (place-fault f, 0) s a) h
-    (λ k. unless-rest (place-fault f) (place-fault f, 0) s a k (λ z. absurd (z refl)))
+    let n = hearing-fault (s .stored) f in
+    unless-rest (lent-fault loan .0) (lent-fault loan) s (unless n (n, 0) s a) h
+    (λ k. unless-rest n (n, 0) s a k (λ z. absurd (z refl)))
 
 -- the registers as they were given
 start-back : (loan : Lent) (r : Pair) → start loan r .number ≢ 0 → start loan r .state ≡ given-back r
@@ -94,13 +106,15 @@ module _ (w : ℕ) (needs : (job table : List ℕ) → Cost) (costs : (job table
         preparing = λ job table A B D r. numbers .preparing (job-script w job table) (terms job table) (job-told job table) A B D r;
         starting = λ h job table M D r. numbers .starting (lent h (job-script w job table) M D) (terms job table) (job-told job table) r;
         hearing = λ h job table M D s v.
-            numbers .hearing (lent h (job-script w job table) M D) (terms job table) (job-told job table) (job-orderly w job table) s v;
+            numbers .hearing (lent h (job-script w job table) M D) (terms job table) (job-told job table)
+            (told-places w job table (needs job table)) (job-orderly w job table) s v;
         one-preparation = λ job table. numbers .one-preparation (terms job table) (single w job table);
         one-start = λ h job table M D. numbers .one-start (terms job table) (single w job table) h M D;
-        one-hearing = λ h job table M D o x.
+        one-hearing = λ h job table M D o x u.
             numbers .one-hearing (job-script w job table) (terms job table) (job-told job table) (job-orderly w job table)
-            (single w job table) h M D o x;
+            (single w job table) h M D o x u;
         told = job-told;
+        told-places = λ job table. told-places w job table (needs job table);
         single = single w;
         preparing-unchanged = λ σ A B D r h. let p = prepare-back σ A B D r h in (p .0, p .1, prepare-rest σ A B D r h);
         starting-unchanged = λ loan r h. let p = start-rest loan r h in (start-back loan r h, p .0, p .1);

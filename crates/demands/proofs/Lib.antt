@@ -2,9 +2,14 @@ pub mod Curves
 pub mod Family
 pub mod Demand3
 pub mod Placed
+pub mod Walked
 pub mod Numbers
 pub mod Demand1
 pub mod Completed
+pub mod Standing
+pub mod OwnWords
+pub mod LaterCalls
+pub mod RememberedPlaces
 pub mod Demand2
 pub mod Whole
 pub mod ReturnedCurves

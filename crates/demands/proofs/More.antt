@@ -18,7 +18,7 @@ use Rattle.jobs.specs.Job.{orders, job-fault, job-gates, steps-of}
 use Rattle.jobs.proofs.Additions.{orders-append, in-fours}
 use Rattle.calls.specs.Scripts.{Script, job-script, ends, Closed}
 use Rattle.calls.specs.Lent.{Worker, worker-with, lent}
-use Rattle.calls.specs.Calls.{State, Answer, Prepared, fresh2, word-at, spoken-at, report, start-walk, start, hear, prepare-walk, prepare}
+use Rattle.calls.specs.Calls.{State, Answer, Prepared, fresh2, word-at, spoken-at, stored-at, report, start-walk, start, hear, prepare-walk, prepare}
 use Rattle.calls.proofs.Faults.{no-fault, no-dealer-fault}
 use Rattle.walks.proofs.Gates.{programs-append}
 use Rattle.runs.proofs.Chain.{job-orders, job-closed}
@@ -56,7 +56,7 @@ module _ (h : ℕ) (M D : List ℕ) where
 
   continues : (ss ts : List Step) (c : Cursor) (s : Pair) (t : List Pair) (n : ℕ) → Closed ss → ends ss + c .order ≡ n
       → Continues n ts (walk (P .act) ss c s t) (walk (P .act) (ss ++ ts) c s t)
-  unfolding walk past ends word-at spoken-at
+  unfolding walk past ends word-at spoken-at stored-at
   continues [] ts c s t n cl e =
       record { within = omega arith; before = λ l. absurd (omega arith); over = λ q. refl; after = λ q. refl }
   continues (local d m l ∷ ss) ts c s t n cl e = continues ss ts c (P .act (local d m l) c s) t n (cl .1) e

@@ -14,13 +14,17 @@ use Rattle.jobs.specs.Job.{Fault, short-a, short-b, short-deals}
 use Rattle.calls.specs.Scripts.{Script, script-cost, ends, Orderly}
 use Rattle.calls.specs.Places.{Found}
 use Rattle.calls.specs.Lent.{Lent, or-else, lists-fault, lent-fault, dealer-lists-fault, dealer-fault, worker-of}
-use Rattle.calls.specs.Calls.{State, Answer, report, unless, given, start-walk, start, hear-walk, place-fault, found-of, resume}
-use Rattle.calls.specs.Calls.{hear, prepared, prepare}
+use Rattle.calls.specs.declared.Stored.{Stored}
+use Rattle.calls.specs.Calls.{State, Answer, report, unless, given, start-walk, start, hear-walk, place-fault, walked-to, hearing-fault}
+use Rattle.calls.specs.Calls.{found-of, resume, hear, prepared, prepare}
+use Rattle.calls.proofs.Hearing.{Judged, no-place, unequal, equal, judged}
 use Rattle.runs.specs.Runs.{Among}
+use Rattle.demands.specs.Conditions as Conditions
 use Rattle.demands.specs.Conditions.{Place, places-from, Terms, Single, PreparationIs, of-itself, of-lists, of-buffer}
 use Rattle.demands.specs.Conditions.{prepares-well, list-needed, StartIs, stranger, of-its-own, of-its-list, of-its-deals}
 use Rattle.demands.specs.Conditions.{starts-well, end-place, HearingIs, as-starting, misplaced, ended, hears-well}
-use Rattle.demands.specs.Numbers.{Told, Numbers}
+use Rattle.demands.specs.Numbers.{Told, ToldPlaces, Numbers}
+use Rattle.demands.proofs.Completed.{located-at, walked-there, walked-over}
 use Rattle.demands.proofs.Placed.{last-turn, Placed, a-turn, the-end, nothing, placed, last-turn-0, before-end, gates-placed}
 
 -- ---- whether a number is below another, as the checks ask
@@ -163,36 +167,66 @@ module _ (loan : Lent) (T : Terms) (told : Told (loan .script) T) where
 
 -- ---- hearing
 
-module _ (loan : Lent) (T : Terms) (told : Told (loan .script) T) (ok : Orderly (loan .script)) (s : State) where
+module _ (loan : Lent) (T : Terms) (told : Told (loan .script) T) (places : ToldPlaces (loan .script) T) (ok : Orderly (loan .script))
+    (s : State) where
   abbrev Is : ℕ → ℕ → Type 0
-  Is = HearingIs T (loan .host) (loan .masks) (loan .deals) (s .order, s .turn)
+  Is = HearingIs T (loan .host) (loan .masks) (loan .deals) (s .order, s .turn) (s .stored)
 
   abbrev all : List Step
   all = loan .script .steps
 
+  abbrev f : Found
+  f = found-of loan s
+
   end-turn : last-turn 0 all ≡ 0
   end-turn = last-turn-0 all 0 (ok .closed) (λ e. refl)
 
-  place-is : Starts loan T told 0 0 → (n : ℕ) → Placed (s .order) (s .turn) (places-from 0 0 all) (ends all) (last-turn 0 all) n → Is n 0
-  place-is z n (a-turn h q) = rw q (hears-well z (subst (Among (s .order, s .turn)) (told .places) h))
-  place-is z n (the-end a b q) = rw q (ended z (ap₂ {C = Place} (λ (i j : ℕ). (i, j)) (a ∙ told .orders) (b ∙ end-turn)))
-  place-is z n (nothing h g q) =
-      rw q
-      (misplaced z (λ k. h (subst (Among (s .order, s .turn)) (sym (told .places)) k))
-      (λ e. g (ap (λ (p : Place). p .0) e ∙ sym (told .orders)) (ap (λ (p : Place). p .1) e ∙ sym end-turn)))
+  -- what the state's place is
+  data At : Type 0 where
+    at-turn : Among (s .order, s .turn) (T .places) → walked-to f ≡ T .walked (s .order, s .turn) → place-fault f ≡ 0 → At
+    at-end : (s .order, s .turn) ≡ end-place T → walked-to f ≡ T .walked (s .order, s .turn) → place-fault f ≡ 9 → At
+    at-none : (Among (s .order, s .turn) (T .places) → ⊥) → (s .order, s .turn) ≢ end-place T → place-fault f ≡ 8 → At
 
-  found-is : Starts loan T told 0 0 → Is (place-fault (found-of loan s)) 0
+  is-placed : At
   unfolding found-of
-  found-is z =
+  is-placed =
       let e : ends all ≡ 0 + ends all = omega arith in
-      place-is z _ (rw e (placed (s .order) (s .turn) all origin))
+      go (rw e (placed (s .order) (s .turn) all origin))
+    where
+      go : Placed (s .order) (s .turn) (places-from 0 0 all) (ends all) (last-turn 0 all) (place-fault f) → At
+      go (a-turn h q) =
+          let l = located-at all origin (s .order) (s .turn) h in
+          at-turn (subst (Among (s .order, s .turn)) (told .places) h)
+          (walked-there all (s .order) (s .turn) l
+          ∙ places .walked (l .before) (l .behind) (l .target) (l .gate) (l .is)
+          ∙ ap₂ (λ (o x : ℕ). T .walked (o, x)) (l .order) (l .turn))
+          q
+      go (the-end a b q) =
+          let p : (s .order, s .turn) ≡ end-place T = ap₂ {C = Place} (λ (i j : ℕ). (i, j)) (a ∙ told .orders) (b ∙ end-turn) in
+          at-end p (walked-over all (s .order) (s .turn) q ∙ places .walked-all ∙ ap (T .walked) (sym p)) q
+      go (nothing h g q) =
+          at-none (λ k. h (subst (Among (s .order, s .turn)) (sym (told .places)) k))
+          (λ e. g (ap (λ (p : Place). p .0) e ∙ sym (told .orders)) (ap (λ (p : Place). p .1) e ∙ sym end-turn)) q
 
-  resumed-is : Starts loan T told 0 0 → (v : ℕ)
-      → Is (resume (worker-of loan) s v (found-of loan s) .number) (resume (worker-of loan) s v (found-of loan s) .index)
+  by-place : Starts loan T told 0 0 → (n : ℕ) → Judged (s .stored) f n → At → Is n 0
+  by-place z _ (no-place p) (at-turn h w q) = absurd (omega (arith, p, q))
+  by-place z _ (no-place p) (at-end h w q) = absurd (omega (arith, p, q))
+  by-place z _ (no-place p) (at-none h g q) = misplaced z h g
+  by-place z _ (unequal p u) (at-turn h w q) = Conditions.unequal z (inl h) (λ e. u (e ∙ sym w))
+  by-place z _ (unequal p u) (at-end h w q) = Conditions.unequal z (inr h) (λ e. u (e ∙ sym w))
+  by-place z _ (unequal p u) (at-none h g q) = absurd (p q)
+  by-place z _ (equal p u) (at-turn h w q) = rw q (hears-well z h (u ∙ w))
+  by-place z _ (equal p u) (at-end h w q) = rw q (ended z h (u ∙ w))
+  by-place z _ (equal p u) (at-none h g q) = absurd (p q)
+
+  found-is : Starts loan T told 0 0 → Is (hearing-fault (s .stored) f) 0
+  found-is z = by-place z _ (judged (s .stored) f) is-placed
+
+  resumed-is : Starts loan T told 0 0 → (v : ℕ) → Is (resume (worker-of loan) s v f .number) (resume (worker-of loan) s v f .index)
   unfolding resume
   resumed-is z v =
-      let f : Found = found-of loan s in
-      unless-is Is (place-fault f) (place-fault f, 0) s (report (worker-of loan) (hear-walk (worker-of loan) s v f)) refl
+      let n : ℕ = hearing-fault (s .stored) f in
+      unless-is Is n (n, 0) s (report (worker-of loan) (hear-walk (worker-of loan) s v f)) refl
       (λ e. subst (λ (n : ℕ). Is n 0) e (found-is z)) (λ k e. found-is z)
 
   turned : {n i : ℕ} (k : ℕ) → Starts loan T told n i → n ≡ suc k → Is n i
@@ -266,23 +300,35 @@ module _ (T : Terms) (single : Single (T .own)) (host : ℕ) (M D : List ℕ) wh
   one-start (starts-well h z k l) (starts-well a y m n) = (refl, refl)
 
   module _ (o x : ℕ) (apart : Among (o, x) (T .places) → (o, x) ≢ end-place T) where
-    pub one-hearing : {n i m j : ℕ} → HearingIs T host M D (o, x) n i → HearingIs T host M D (o, x) m j → (n ≡ m) × (i ≡ j)
-    one-hearing (as-starting p) (as-starting q) = one-start p q
-    one-hearing (as-starting p) (misplaced z h k) = absurd (omega (arith, one-start p z .0))
-    one-hearing (as-starting p) (ended z h) = absurd (omega (arith, one-start p z .0))
-    one-hearing (as-starting p) (hears-well z h) = absurd (omega (arith, one-start p z .0))
-    one-hearing (misplaced z h k) (as-starting p) = absurd (omega (arith, one-start p z .0))
-    one-hearing (misplaced z h k) (misplaced y a b) = (refl, refl)
-    one-hearing (misplaced z h k) (ended y a) = absurd (k a)
-    one-hearing (misplaced z h k) (hears-well y a) = absurd (h a)
-    one-hearing (ended z h) (as-starting p) = absurd (omega (arith, one-start p z .0))
-    one-hearing (ended z h) (misplaced y a b) = absurd (b h)
-    one-hearing (ended z h) (ended y a) = (refl, refl)
-    one-hearing (ended z h) (hears-well y a) = absurd (apart a h)
-    one-hearing (hears-well z h) (as-starting p) = absurd (omega (arith, one-start p z .0))
-    one-hearing (hears-well z h) (misplaced y a b) = absurd (a h)
-    one-hearing (hears-well z h) (ended y a) = absurd (apart h a)
-    one-hearing (hears-well z h) (hears-well y a) = (refl, refl)
+    module _ (u : Stored) where
+      pub one-hearing : {n i m j : ℕ} → HearingIs T host M D (o, x) u n i → HearingIs T host M D (o, x) u m j → (n ≡ m) × (i ≡ j)
+      one-hearing (as-starting p) (as-starting q) = one-start p q
+      one-hearing (as-starting p) (misplaced z h k) = absurd (omega (arith, one-start p z .0))
+      one-hearing (as-starting p) (Conditions.unequal z h k) = absurd (omega (arith, one-start p z .0))
+      one-hearing (as-starting p) (ended z h k) = absurd (omega (arith, one-start p z .0))
+      one-hearing (as-starting p) (hears-well z h k) = absurd (omega (arith, one-start p z .0))
+      one-hearing (misplaced z h k) (as-starting p) = absurd (omega (arith, one-start p z .0))
+      one-hearing (misplaced z h k) (misplaced y a b) = (refl, refl)
+      one-hearing (misplaced z h k) (Conditions.unequal y (inl a) b) = absurd (h a)
+      one-hearing (misplaced z h k) (Conditions.unequal y (inr a) b) = absurd (k a)
+      one-hearing (misplaced z h k) (ended y a b) = absurd (k a)
+      one-hearing (misplaced z h k) (hears-well y a b) = absurd (h a)
+      one-hearing (Conditions.unequal z h k) (as-starting p) = absurd (omega (arith, one-start p z .0))
+      one-hearing (Conditions.unequal z (inl h) k) (misplaced y a b) = absurd (a h)
+      one-hearing (Conditions.unequal z (inr h) k) (misplaced y a b) = absurd (b h)
+      one-hearing (Conditions.unequal z h k) (Conditions.unequal y a b) = (refl, refl)
+      one-hearing (Conditions.unequal z h k) (ended y a b) = absurd (k b)
+      one-hearing (Conditions.unequal z h k) (hears-well y a b) = absurd (k b)
+      one-hearing (ended z h k) (as-starting p) = absurd (omega (arith, one-start p z .0))
+      one-hearing (ended z h k) (misplaced y a b) = absurd (b h)
+      one-hearing (ended z h k) (Conditions.unequal y a b) = absurd (b k)
+      one-hearing (ended z h k) (ended y a b) = (refl, refl)
+      one-hearing (ended z h k) (hears-well y a b) = absurd (apart a h)
+      one-hearing (hears-well z h k) (as-starting p) = absurd (omega (arith, one-start p z .0))
+      one-hearing (hears-well z h k) (misplaced y a b) = absurd (a h)
+      one-hearing (hears-well z h k) (Conditions.unequal y a b) = absurd (b k)
+      one-hearing (hears-well z h k) (ended y a b) = absurd (apart h a)
+      one-hearing (hears-well z h k) (hears-well y a b) = (refl, refl)
 
 -- no product or refresh has the end's place
 apart : (σ : Script) (T : Terms) → Told σ T → Orderly σ → (o x : ℕ) → Among (o, x) (T .places) → (o, x) ≢ end-place T
@@ -295,9 +341,9 @@ numbers =
     record {
       preparing = λ σ T t A B D r. preparation-is σ T t A B D r;
       starting = λ loan T t r. start-is loan T t r;
-      hearing = λ loan T t o s v. hearing-is loan T t o s v;
+      hearing = λ loan T t k o s v. hearing-is loan T t k o s v;
       one-preparation = λ T single A B D n i m j p q. one-preparation T single A B D p q;
       one-start = λ T single h M D n i m j p q. one-start T single h M D p q;
-      one-hearing = λ σ T t ok single h M D o x n i m j p q. one-hearing T single h M D o x (apart σ T t ok o x) p q;
+      one-hearing = λ σ T t ok single h M D o x u n i m j p q. one-hearing T single h M D o x (apart σ T t ok o x) u p q;
       gates-placed = λ w gates. gates-placed w 0 gates;
     }

@@ -98,7 +98,7 @@ before-end (end ∷ ss) p t o x c h = omega (arith, before-end ss (suc p) 0 o x 
 
 -- ---- lists of gates
 
-gate-placed : (w o x : ℕ) (g : Gate) (ss : List Step)
+pub gate-placed : (w o x : ℕ) (g : Gate) (ss : List Step)
     → places-from o x (meaning w g ∷ ss) ≡ cond (speaks g) ((o, x) ∷ places-from o (suc x) ss) (places-from o x ss)
 unfolding meaning speaks places-from
 gate-placed w o x (Add d a b) ss = refl

@@ -4,9 +4,11 @@ use mathlib.Core.Logic.{_↔_, inl, inr}
 use mathlib.Core.List.{List, []}
 use Prim.Native.Nat.{ℕ, _<_}
 use native.Mathlib.Omega.{arith}
+use Rattle.gates.specs.Steps.{origin}
 use Rattle.gates.specs.Hosts.{Pair}
 use Rattle.calls.specs.Scripts.{script-cost, orders-in}
-use Rattle.calls.specs.Calls.{State}
+use Rattle.calls.specs.Places.{seek}
+use Rattle.calls.specs.Calls.{State, walked-to}
 use Rattle.runs.specs.Runs.{Stage, staged, Spoken, ready, going, World, world, Call, lent1, lent2, preparation, held}
 use Rattle.runs.specs.Runs.{Completes, prepares, starts1, starts2, hears1, hears2, given-out, begin, Finished, Accepted}
 use Rattle.demands.specs.Conditions.{places-from, Terms, Single, PreparationIs, of-itself, of-lists, of-buffer, prepares-well}
@@ -29,6 +31,7 @@ module _ (S : Stage) (buf : List ℕ) (r : Pair) where
         needs = script-cost (S .script);
         places = places-from 0 0 (S .script .steps);
         orders = orders-in (S .script);
+        walked = λ p. walked-to (seek (p .0) (p .1) (S .script .steps) origin);
       }
 
   abbrev own-told : Told (S .script) own

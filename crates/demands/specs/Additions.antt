@@ -14,7 +14,7 @@ use Rattle.jobs.specs.FirstFault.{order}
 use Rattle.jobs.specs.Additions.{Additive, added-word, added, added2, added-all}
 use Rattle.calls.specs.Scripts.{job-script}
 use Rattle.calls.specs.Lent.{lent}
-use Rattle.calls.specs.Calls.{State, Answer, Prepared, fresh2, prepare, start, hear}
+use Rattle.calls.specs.Calls.{stored-places, State, Answer, Prepared, fresh2, prepare, start, hear}
 use Rattle.runs.specs.Runs.{Setting, staged, Spoken, Dealer, Side, going, world, Call, Run}
 
 -- a list of such orders alone
@@ -63,6 +63,7 @@ and-then w o r =
             mask = added w o (r .state .mask);
             order = suc (r .state .order);
             turn = 0;
+            stored = r .state .stored;
           };
     }
 
@@ -152,6 +153,7 @@ pub record Additions (w : ℕ) : Type 0 where
               mask = added-all w (orders job) (fresh2 r) .1;
               order = length (orders job);
               turn = 0;
+              stored = stored-places 0 0 0;
             };
       }
   -- every kept word stays the 0 that it was: no order's target lies behind the registers

@@ -1,16 +1,19 @@
--- Document 01, "Turned down, in checking order": conditions 1 to 9 of preparation, starting and hearing, in the
--- document's words: what number a call has, and which index. Assumes nothing.
+-- Document 01, "Turned down, in checking order": conditions 1 to 9 of preparation, starting and hearing, and R-7's 18,
+-- in the document's words: what number a call has, and which index. Assumes nothing.
 use mathlib.Core.Path.{_≡_}
 use mathlib.Core.Logic.{_≢_, _⊎_}
 use mathlib.Core.Bool.{Bool, true, false, cond}
 use mathlib.Core.List.{List, [], _∷_, _++_}
-use Prim.Native.Nat.{ℕ, suc, _≤_, _<_}
+use Prim.Native.Nat.{ℕ, zero, suc, _≤_, _<_}
 use lib.Dec.{eqb}
-use lib.ListN.{length}
+use lib.ListN.{length, getD, take}
 use Rattle.gates.specs.Steps.{Step, local, deal, exchange, end}
-use Rattle.gates.specs.Costs.{Cost}
+use Rattle.gates.specs.Costs.{Cost, cost}
+use Rattle.gates.specs.Meaning.{job-steps}
 use Rattle.gates.specs.Gates.{Gate, Add, Sub, Xor, Mul, And, Refresh, MulKnown, AndKnown, Scale, Plus, Up, Bit, Const}
 use Rattle.gates.specs.Gates.{Public, Deal, DealBits}
+use Rattle.calls.specs.declared.Stored.{Stored}
+use Rattle.calls.specs.Calls.{stored-places}
 use Rattle.runs.specs.Runs.{Among}
 
 -- ---- places: "(order, and which of its products and refreshes, both from 0; the end is the number of orders and 0)"
@@ -55,6 +58,27 @@ unfoldable pub gate-places : (o : ℕ) → List (List Gate) → List Place
 gate-places o [] = []
 gate-places o (gs ∷ os) = order-places o 0 gs ++ gate-places (suc o) os
 
+-- ---- R-7, the walk's places: "On either host the walk counts all three, over the gates up to and with the place's own,
+-- at the end over all."
+
+-- the words of A and of B that steps use, and the deals, by document 01's counts
+abbrev pub used-in : List Step → Stored
+used-in ss = stored-places (cost ss .a) (cost ss .b) (cost ss .deals)
+
+-- the gates of an order up to and with its product or refresh number x
+unfoldable pub up-to : (x : ℕ) → List Gate → List Gate
+up-to x [] = []
+up-to zero (g ∷ gs) = g ∷ cond (speaks g) [] (up-to zero gs)
+up-to (suc x) (g ∷ gs) = g ∷ up-to (cond (speaks g) x (suc x)) gs
+
+-- all gates up to and with the place's own: of the orders before, and of its order; behind the last order none is left
+abbrev pub gates-to : List (List Gate) → Place → List (List Gate)
+gates-to os p = take (p .0) os ++ (up-to (p .1) (getD os (p .0) []) ∷ [])
+
+-- what they use
+unfoldable pub walks-places : (w : ℕ) → List (List Gate) → Place → Stored
+walks-places w os p = used-in (job-steps w (gates-to os p))
+
 -- ---- what the conditions speak of
 
 pub record Terms : Type 1 where
@@ -66,6 +90,8 @@ pub record Terms : Type 1 where
   -- the places of its products and refreshes, and the number of its orders
   pub places : List Place
   pub orders : ℕ
+  -- the walk's places at each of these places and at the end
+  pub walked : Place → Stored
 
 -- a relation holds of one number and one index
 abbrev pub Single : (ℕ → ℕ → Type 0) → Type 0
@@ -104,17 +130,21 @@ pub data StartIs (T : Terms) (h : ℕ) (masks deals : List ℕ) : (number index 
       → (h ≡ 2 → T .needs .deals ≤ length deals)
       → StartIs T h masks deals 0 0
 
--- ---- hearing, "1 to 9", in a state whose place is p
+-- ---- hearing, "1 to 9" and 18, in a state whose place is p and whose stored places are u
 
 abbrev pub end-place : Terms → Place
 end-place T = (T .orders, 0)
 
-pub data HearingIs (T : Terms) (h : ℕ) (masks deals : List ℕ) (p : Place) : (number index : ℕ) → Type 0 where
-  -- 1 to 7
-  as-starting : {n i : ℕ} → StartIs T h masks deals (suc n) i → HearingIs T h masks deals p (suc n) i
-  -- "8. The state's place is neither the end nor a product or refresh of this job."
-  misplaced : StartIs T h masks deals 0 0 → (Among p (T .places) → ⊥) → p ≢ end-place T
-      → HearingIs T h masks deals p 8 0
-  -- "9. Hearing is called at the end."
-  ended : StartIs T h masks deals 0 0 → p ≡ end-place T → HearingIs T h masks deals p 9 0
-  hears-well : StartIs T h masks deals 0 0 → Among p (T .places) → HearingIs T h masks deals p 0 0
+pub data HearingIs (T : Terms) (h : ℕ) (masks deals : List ℕ) (p : Place) (u : Stored) : (number index : ℕ) → Type 0
+  where
+    -- 1 to 7
+    as-starting : {n i : ℕ} → StartIs T h masks deals (suc n) i → HearingIs T h masks deals p u (suc n) i
+    -- "8. The state's place is neither the end nor a product or refresh of this job."
+    misplaced : StartIs T h masks deals 0 0 → (Among p (T .places) → ⊥) → p ≢ end-place T
+        → HearingIs T h masks deals p u 8 0
+    -- R-7: "18, stored places unequal to the walk's, after 8": so before 9, and at the end too
+    unequal : StartIs T h masks deals 0 0 → Among p (T .places) ⊎ (p ≡ end-place T) → u ≢ T .walked p
+        → HearingIs T h masks deals p u 18 0
+    -- "9. Hearing is called at the end."
+    ended : StartIs T h masks deals 0 0 → p ≡ end-place T → u ≡ T .walked p → HearingIs T h masks deals p u 9 0
+    hears-well : StartIs T h masks deals 0 0 → Among p (T .places) → u ≡ T .walked p → HearingIs T h masks deals p u 0 0

@@ -14,9 +14,10 @@ use Rattle.jobs.specs.CostTable.{table-counts}
 use Rattle.jobs.specs.FirstFault.{Numbered}
 use Rattle.calls.specs.Scripts.{Script, job-script}
 use Rattle.calls.specs.Lent.{Lent, lent}
-use Rattle.calls.specs.Calls.{State, Answer, Prepared, start, hear, prepare}
-use Rattle.demands.specs.Conditions.{gate-places, Terms, Single, PreparationIs, StartIs, HearingIs}
-use Rattle.demands.specs.Numbers.{Told}
+use Rattle.calls.specs.declared.Stored.{Stored}
+use Rattle.calls.specs.Calls.{stored-places, State, Answer, Prepared, start, hear, prepare}
+use Rattle.demands.specs.Conditions.{gate-places, walks-places, Terms, Single, PreparationIs, StartIs, HearingIs}
+use Rattle.demands.specs.Numbers.{Told, ToldPlaces}
 
 -- a job with its table, whose counts are k: conditions 2 to 5 as jobs/specs/FirstFault.antt has them, and the products
 -- and refreshes of its orders' gates
@@ -27,6 +28,7 @@ terms-of w job table k =
       needs = k;
       places = gate-places 0 (job-gates w job table);
       orders = length (orders job);
+      walked = walks-places w (job-gates w job table);
     }
 
 -- at 32 bits: its counts are the sum over its orders of document 01's table of costs
@@ -47,9 +49,16 @@ abbrev pub hear-job : (w h : ℕ) (job table masks deals : List ℕ) → State �
 hear-job w h job table M D s v = hear (lent h (job-script w job table) M D) s v
 
 -- "Refused starting gives back the registers it was given .. every other number in a refused answer is 0": so the eight
--- kept words and the place
+-- kept words, the place and (R-7) the stored places
 abbrev pub given-back : Pair → State
-given-back r = record { m = r .0 ++ replicate 8 0; mask = r .1 ++ replicate 8 0; order = 0; turn = 0 }
+given-back r =
+    record {
+      m = r .0 ++ replicate 8 0;
+      mask = r .1 ++ replicate 8 0;
+      order = 0;
+      turn = 0;
+      stored = stored-places 0 0 0;
+    }
 
 -- at the width w, in these terms
 pub record Demand1At (w : ℕ) (terms : (job table : List ℕ) → Terms) : Type 0 where
@@ -61,15 +70,16 @@ pub record Demand1At (w : ℕ) (terms : (job table : List ℕ) → Terms) : Type
   pub starting : (h : ℕ) (job table M D : List ℕ) (r : Pair)
       → StartIs (terms job table) h M D (start-job w h job table M D r .number) (start-job w h job table M D r .index)
   pub hearing : (h : ℕ) (job table M D : List ℕ) (s : State) (v : ℕ)
-      → HearingIs (terms job table) h M D (s .order, s .turn)
+      → HearingIs (terms job table) h M D (s .order, s .turn) (s .stored)
       (hear-job w h job table M D s v .number) (hear-job w h job table M D s v .index)
   -- and there is one such number and index
   pub one-preparation : (job table A B buffer : List ℕ) → Single (PreparationIs (terms job table) A B buffer)
   pub one-start : (h : ℕ) (job table M D : List ℕ) → Single (StartIs (terms job table) h M D)
-  pub one-hearing : (h : ℕ) (job table M D : List ℕ) (o x : ℕ)
-      → Single (HearingIs (terms job table) h M D (o, x))
+  pub one-hearing : (h : ℕ) (job table M D : List ℕ) (o x : ℕ) (u : Stored)
+      → Single (HearingIs (terms job table) h M D (o, x) u)
   -- a job's script is what these terms say, so that its calls are those of Numbers.antt
   pub told : (job table : List ℕ) → Told (job-script w job table) (terms job table)
+  pub told-places : (job table : List ℕ) → ToldPlaces (job-script w job table) (terms job table)
   pub single : (job table : List ℕ) → Single (Numbered w job table)
   -- "and changes no state and no lent word"; "every other number in a refused answer is 0"
   pub preparing-unchanged : (σ : Script) (A B D : List ℕ) (r : Pair) → prepare σ A B D r .number ≢ 0

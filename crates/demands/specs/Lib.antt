@@ -3,6 +3,7 @@ pub mod Conditions
 pub mod Numbers
 pub mod Demand1
 pub mod Completed
+pub mod RememberedPlaces
 pub mod Demand2
 pub mod Whole
 pub mod ReturnedCurves

@@ -8,6 +8,7 @@ use crate::rejected::faulty_order;
 use crate::rejected::ill_sized;
 use crate::rejected::no_host;
 use crate::rejected::short;
+use crate::rejected::unequal;
 use crate::unmarked::disagreeing;
 use crate::unmarked::slack;
 use crate::unmarked::splitting;
@@ -30,6 +31,7 @@ fn wrong_case(group: u32, i: u32) -> u32 {
         12 => at_place(8, i),
         13 => at_place(9, i),
         14 => disagreeing(i),
+        15 => unequal(i),
         _ => splitting(i),
     }
 }

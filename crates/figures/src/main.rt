@@ -69,4 +69,5 @@ fn main() {
     group_line(12, 0, 16);
     group_line(13, 16, 20);
     group_line(14, 0, 5);
+    group_line(15, 0, 24);
 }

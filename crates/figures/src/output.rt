@@ -1,8 +1,8 @@
 // The lines that the program writes. Their names are put together from the pieces below, numbered from 0.
 use std::num::wrapping_add_u32;
 
-// 0 to 14 name the groups of cases (`groups`), 15 is empty.
-const PIECES: [u8; 1101] = *b"kind 6, x = 0, k = 1, L = 2^31 opens -2^31
+// 0 to 15 name the groups of cases (`groups`), 16 is empty.
+const PIECES: [u8; 1149] = *b"kind 6, x = 0, k = 1, L = 2^31 opens -2^31
 splitting -2^30, -1, 0 and 2^30 - 1, opened again
 refused 11, splitting 2^30, -2^30 - 1, 2^31 - 1 and -2^31
 curve, at the last row its value, above it to 2^31 - 1 always -1
@@ -17,6 +17,7 @@ refused 7, deals one word short
 refused 8, places that are no product or refresh
 refused 9, hearing at the end
 refused 10, shares that disagree in L1, in L2 or in m
+refused 18, stored places unequal to the walk's
 
 kind
 , any words
@@ -39,44 +40,44 @@ curve one-bit
 ; the first:
 ";
 
-pub(crate) const NOTHING: u32 = 15;
+pub(crate) const NOTHING: u32 = 16;
 
-pub(crate) const KIND: u32 = 16;
+pub(crate) const KIND: u32 = 17;
 
-pub(crate) const ANY_WORDS: u32 = 17;
+pub(crate) const ANY_WORDS: u32 = 18;
 
-pub(crate) const IN_RANGE: u32 = 18;
+pub(crate) const IN_RANGE: u32 = 19;
 
-pub(crate) const ALL_KINDS: u32 = 19;
+pub(crate) const ALL_KINDS: u32 = 20;
 
 // The one-bit curve's name is the next.
-pub(crate) const EXACT_CURVE: u32 = 20;
+pub(crate) const EXACT_CURVE: u32 = 21;
 
-pub(crate) const HOUSE_COUNTS: u32 = 22;
+pub(crate) const HOUSE_COUNTS: u32 = 23;
 
-pub(crate) const HOUSE_RANGE: u32 = 23;
+pub(crate) const HOUSE_RANGE: u32 = 24;
 
-pub(crate) const HOUSE_BOTH: u32 = 24;
+pub(crate) const HOUSE_BOTH: u32 = 25;
 
-pub(crate) const TABLES_COUNTS: u32 = 25;
+pub(crate) const TABLES_COUNTS: u32 = 26;
 
-pub(crate) const TABLES_RANGE: u32 = 26;
+pub(crate) const TABLES_RANGE: u32 = 27;
 
-pub(crate) const TABLES_BOTH: u32 = 27;
+pub(crate) const TABLES_BOTH: u32 = 28;
 
-pub(crate) const CLOSE_TO_LINE: u32 = 28;
+pub(crate) const CLOSE_TO_LINE: u32 = 29;
 
-pub(crate) const OTHER_REGISTERS: u32 = 29;
+pub(crate) const OTHER_REGISTERS: u32 = 30;
 
-pub(crate) const COUNTS: u32 = 30;
+pub(crate) const COUNTS: u32 = 31;
 
-const CASES: u32 = 31;
+const CASES: u32 = 32;
 
-const WRONG: u32 = 32;
+const WRONG: u32 = 33;
 
-const MISMATCHES: u32 = 33;
+const MISMATCHES: u32 = 34;
 
-const FIRST: u32 = 34;
+const FIRST: u32 = 35;
 
 // Writes a piece, byte by byte.
 fn piece(number: u32) {

@@ -5,6 +5,7 @@ use crate::draw::lane;
 use crate::draw::list;
 use crate::draw::registers;
 use crate::lists::part;
+use calls::Stored;
 use dealer::Masks;
 use dealer::Prepared;
 use dealer::prepare;
@@ -23,6 +24,7 @@ pub(crate) struct Case {
     pub(crate) host: u32,
     pub(crate) order: u32,
     pub(crate) turn: u32,
+    pub(crate) stored: Stored,
     // words lent: masks (at a preparation of A), masks of B, and deals
     pub(crate) masks: u32,
     pub(crate) masks_b: u32,
@@ -46,6 +48,11 @@ pub(crate) fn in_call(call: u32, number: u32, index: u32) -> Case {
         host: call % 2 + 1,
         order,
         turn,
+        stored: Stored {
+            a: 0,
+            b: 0,
+            deals: 0,
+        },
         masks: 512,
         masks_b: 512,
         deals: 512,
@@ -62,7 +69,10 @@ fn host_answer(c: Case, given: u32, r: Answer) -> u32 {
     let lanes = changed(&m, 73, 0, given) | changed(&mask, 74, 0, given);
     let numbers = (r.number ^ c.number) | (r.index ^ c.index) | r.spoken | r.word;
     let place = (r.state.order ^ c.order) | (r.state.turn ^ c.turn);
-    lanes | numbers | place
+    let left = r.state.stored;
+    let due = c.stored;
+    let stored = (left.a ^ due.a) | (left.b ^ due.b) | (left.deals ^ due.deals);
+    lanes | numbers | place | stored
 }
 
 fn starting(c: Case, job: &[u32], table: &[u32]) -> u32 {
@@ -82,11 +92,13 @@ fn hearing(c: Case, job: &[u32], table: &[u32]) -> u32 {
     let lent: &[u32] = &drawn;
     let m = lane(73);
     let mask = lane(74);
+    let stored = c.stored;
     let s = State {
         m,
         mask,
         order: c.order,
         turn: c.turn,
+        stored,
     };
     let masks = part(lent, 0, c.masks);
     let deals = part(lent, 0, c.deals);

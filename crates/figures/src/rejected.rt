@@ -1,10 +1,12 @@
-// The cases of the numbers 1 to 9: which job and table, and which call.
+// The cases of the numbers 1 to 9 and 18: which job and table, and which call.
 use crate::lists::entry;
 use crate::lists::nth;
 use crate::lists::part;
 use crate::refusals::Case;
 use crate::refusals::in_call;
 use crate::refusals::refused;
+use calls::Stored;
+use std::num::wrapping_add_u32;
 
 // At 0 one kind 9: 24 words of A, 12 of B, 12 deals, 12 products. At 4 a bad order. At 8 three orders of which only the
 // second has a product, and only one.
@@ -338,11 +340,52 @@ const PLACES: [u32; 40] = [
     0, //
 ];
 
-// No product or refresh of an order, past the end, and at the end: both hosts hear there.
+// Stored places, of which A's are as many as B's and the deals' together.
+fn stored(b: u32, deals: u32) -> Stored {
+    Stored {
+        a: wrapping_add_u32(b, deals),
+        b,
+        deals,
+    }
+}
+
+// No product or refresh of an order, past the end, and at the end, with what the two jobs use in all: both hosts hear
+// there.
 pub(crate) fn at_place(number: u32, i: u32) -> u32 {
     let place = part(&PLACES, i / 2 % 10 * 4, 4);
     let mut c = in_call(i % 2 + 2, number, 0);
     c.order = entry(place, 2);
     c.turn = entry(place, 3);
+    c.stored = match entry(place, 0) {
+        0 => stored(12, 12),
+        _ => stored(1, 2),
+    };
     on_job(c, entry(place, 0), entry(place, 1))
+}
+
+// Number 18: one of the three places of the kind 9, one more or fewer than the walk's, at its fourth product or at the
+// end: both hosts hear there.
+pub(crate) fn unequal(i: u32) -> u32 {
+    let mut c = in_call(i % 2 + 2, 18, 0);
+    let ended = i / 2 % 2;
+    c.order = ended;
+    c.turn = match ended {
+        0 => 3,
+        _ => 0,
+    };
+    let mut s = match ended {
+        0 => stored(4, 4),
+        _ => stored(12, 12),
+    };
+    let off = match i / 4 % 2 {
+        0 => 1,
+        _ => 4294967295,
+    };
+    match i / 8 {
+        0 => s.a = wrapping_add_u32(s.a, off),
+        1 => s.b = wrapping_add_u32(s.b, off),
+        _ => s.deals = wrapping_add_u32(s.deals, off),
+    }
+    c.stored = s;
+    on_job(c, 0, 4)
 }

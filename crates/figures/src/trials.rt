@@ -19,6 +19,7 @@ use std::num::wrapping_add_u32;
 use std::num::wrapping_sub_u32;
 use trio::Shared;
 use trio::Trio;
+use worker::State;
 
 // An order, what its source opens, and the seed of everything else: of l1, l2 and m of the registers, A, B and the deal
 // buffer.
@@ -123,8 +124,15 @@ fn others_changed(s: Trio, c: Trial) -> u32 {
     any as u32
 }
 
-// 0 where nothing is refused, and both hosts at the end of one order have spoken half the words. A curve has a kind 9
-// for each row.
+// 1 where a host's stored places are not those of so many words spoken by it, and so many deals.
+fn misplaced(s: State, spoken: u32, deals: u32) -> u32 {
+    let left = s.stored;
+    let a = left.a ^ wrapping_add_u32(spoken, deals);
+    ((a | (left.b ^ spoken) | (left.deals ^ deals)) != 0) as u32
+}
+
+// 0 where nothing is refused, and both hosts at the end of one order have spoken half the words and stored the places
+// there. A curve has a kind 9 for each row.
 fn miscounted(s: Trio, c: Trial, rows: u32) -> u32 {
     let curve = (c.kind == 10) as u32;
     let relus = product(curve, rows);
@@ -135,7 +143,8 @@ fn miscounted(s: Trio, c: Trial, rows: u32) -> u32 {
     let turn = s.one.state.turn | s.two.state.turn;
     let order = (s.one.state.order ^ 1) | (s.two.state.order ^ 1);
     let spoken = (s.one.spoken ^ half) | (s.two.spoken ^ half);
-    ((refusal | turn | order | spoken | (s.deals ^ due_deals)) != 0) as u32
+    let places = misplaced(s.one.state, half, due_deals) | misplaced(s.two.state, half, due_deals);
+    ((refusal | turn | order | spoken | places | (s.deals ^ due_deals)) != 0) as u32
 }
 
 // A job run by the three hosts on drawn lists, with so many words of B. Where a word of the deal buffer past the deals

@@ -18,7 +18,7 @@ use Rattle.day_demands.specs.Runs.{DayDealer, unprepared, prepared, DayHost, ru
 use Rattle.day_demands.specs.Runs.{start1, start2, hear1, hear2, DayCompletes, day-prepares, day-starts1, day-starts2, day-hears1, day-hears2}
 use Rattle.day_demands.specs.Runs.{DayRefuses, day-refuses0, day-refuses1, day-refuses2, day-begin, dealer-masks, host-lanes, day-opened}
 use Rattle.day_demands.proofs.Numbers.{day-numbers}
-use Rattle.lamphiek.specs.Layout.{six-in, masks-in, state-in}
+use Rattle.lamphiek.specs.Layout.{six-in, masks-in, state-in, state-words}
 use Rattle.lamphiek.specs.Stepping.{masks-left, state-left}
 use Rattle.lamphiek.specs.FromC.{speaks, share-words}
 use Rattle.lamphiek.specs.DayFromC.{rests, runs-on, day-on, DayFromC}
@@ -54,7 +54,7 @@ module _ (S : DaySetting) where
         subst (λ (x : DayHost). DayCompletes 32 S starting2 (day-world (prepared r) buf one (rests s)) (day-world (prepared r) buf one x))
         (answers (start2 32 S D) s [] (start-full-day (list2 S) 2 (S .table) (S .hours) (S .B) D) n) (day-starts2 D d n)
 
-    module _ (l : length s ≡ 50) (z : DayDealer) (other : List ℕ) (said said₀ : List Spoken) (v : ℕ) (spoke : Among (speaks s v) said₀) where
+    module _ (l : length s ≡ state-words) (z : DayDealer) (other : List ℕ) (said said₀ : List Spoken) (v : ℕ) (spoke : Among (speaks s v) said₀) where
       heard1 : hear1 32 S D (state-in s) v .number ≡ 0
           → DayCompletes 32 S (hearing1 v) (day-world z buf (runs-on s said) (runs-on other said₀))
           (day-world z buf (day-on (hear1 32 S D (state-in s) v) s said) (runs-on other said₀))
@@ -75,7 +75,7 @@ module _ (S : DaySetting) where
 
 -- ---- refused hearings: the words are left, and read as the state that the call gives back
 
-module _ (s : List ℕ) (x : DayHost) (h : ℕ) (T L : List ℕ) (H : Hours) (M D : List ℕ) (v : ℕ) (l : length s ≡ 50) (e : host-state x ≡ state-in s)
+module _ (s : List ℕ) (x : DayHost) (h : ℕ) (T L : List ℕ) (H : Hours) (M D : List ℕ) (v : ℕ) (l : length s ≡ state-words) (e : host-state x ≡ state-in s)
     (n : day-hear 32 h T L H M D (state-in s) v .number ≢ 0) where
   still-refused : day-hear 32 h T L H M D (host-state x) v .number ≢ 0
   still-refused k = n (ap (λ (y : Calls.State). day-hear 32 h T L H M D y v .number) (sym e) ∙ k)

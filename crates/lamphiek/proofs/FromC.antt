@@ -20,7 +20,7 @@ use Rattle.runs.specs.Runs.{Setting, staged, Spoken, placed-word, Among, Dealer
 use Rattle.runs.specs.Runs.{registers, Refuses, refuses0, refuses0-elsewhere, lent1, lent2, Dealt, Begins, given-out}
 use Rattle.runs.specs.Runs.{Completes, prepares, starts1, starts2, hears1, hears2, six, preparing, starting1, starting2, hearing1, hearing2}
 use Rattle.runs.specs.Returned.{opened-now}
-use Rattle.lamphiek.specs.Layout.{six-in, six-out, masks-in, state-in, registers-in}
+use Rattle.lamphiek.specs.Layout.{six-in, six-out, masks-in, state-in, registers-in, state-words}
 use Rattle.lamphiek.specs.Readings.{shares-left}
 use Rattle.lamphiek.specs.Stepping.{preparation, masks-left, state-left}
 use Rattle.lamphiek.specs.FromC.{FromC, prepare0, start1, start2, hear1, hear2, waits, goes, speaks, on-with, share-words}
@@ -77,7 +77,7 @@ went-on : (a : Calls.Answer) (s : List ℕ) (st : Calls.State) (w : ℕ) (t : Li
     → going st t (placed-word st w ∷ said) ≡ on-with a s t said
 went-on a s st w t said e f = λ i. going (e i) t (placed-word (e i) (f i) ∷ said)
 
-module _ (s : List ℕ) (l : length s ≡ 50) (loan : Lent) where
+module _ (s : List ℕ) (l : length s ≡ state-words) (loan : Lent) where
   started-number : Calls.start loan (registers-in s) .number ≡ 0 → Calls.start loan (registers 16 (state-in s)) .number ≡ 0
   started-number z = sym (ap (λ (r : Pair). Calls.start loan r .number) (taken s)) ∙ z
 
@@ -94,7 +94,7 @@ module _ (s : List ℕ) (l : length s ≡ 50) (loan : Lent) where
       ≡ on-with (Calls.hear loan (state-in s) v) s t said
   heard-side v t said z = went-on (Calls.hear loan (state-in s) v) s _ _ t said (sym (hear-read s l loan v z)) refl
 
-module _ (S : Setting) (buf D s : List ℕ) (l : length s ≡ 50) where
+module _ (S : Setting) (buf D s : List ℕ) (l : length s ≡ state-words) where
   started1 : (z : Dealer) (two : Side) → start1 S D s .number ≡ 0
       → (t : List Pair) × Completes (staged 32 S) starting1 (world z buf (waits s) two) (world z buf (on-with (start1 S D s) s t []) two)
   started1 z two n =

@@ -108,7 +108,7 @@ hear-full n loan s v h =
     let P = worker-of loan in
     let f = Calls.found-of loan s in
     unless-full n (lent-fault loan .0) (lent-fault loan) s (Calls.resume P s v f) h
-    (unless-full n (Calls.place-fault f) (Calls.place-fault f, 0) s (Calls.report P (Calls.hear-walk P s v f)) h (hear-wide P k n s v f h))
+    (unless-full n (Calls.hearing-fault (s .stored) f) (Calls.hearing-fault (s .stored) f, 0) s (Calls.report P (Calls.hear-walk P s v f)) h (hear-wide P k n s v f h))
 
 -- ---- host 0
 

@@ -13,7 +13,7 @@ use Rattle.calls.specs.Lent.{Lent, dealer-fault}
 use Rattle.calls.specs.Calls as Calls
 use Rattle.runs.specs.Runs.{registers, Turned, at-start, at-hearing, waiting, side-state}
 use Rattle.runs.proofs.Refusals.{HasSlots, turned-back, hear-state}
-use Rattle.lamphiek.specs.Layout.{written, masks-in, masks-out, state-in, state-out, registers-in}
+use Rattle.lamphiek.specs.Layout.{written, masks-in, masks-out, state-words, state-in, places-out, state-out, registers-in}
 use Rattle.lamphiek.specs.Stepping.{preparation, masks-left, state-left}
 use Rattle.lamphiek.proofs.Packing.{state-back, masks-back}
 use Rattle.lamphiek.proofs.Told.{not-written, is-written}
@@ -73,16 +73,16 @@ module _ (M J T A B D : List ℕ) (l : length M ≡ 32) where
 
 -- ---- hosts 1 and 2
 
-pub state-full : (s : List ℕ) → length s ≡ 50 → Full 24 (state-in s)
+pub state-full : (s : List ℕ) → length s ≡ state-words → Full 24 (state-in s)
 state-full s e = record { m = part 24 0 s (omega (arith, e)); mask = part 24 24 s (omega (arith, e)) }
 
 pub taken : (s : List ℕ) → registers-in s ≡ registers 16 (state-in s)
 taken s = λ t. (sym (take-take 16 24 s (omega arith)) t, sym (take-take 16 24 (drop 24 s) (omega arith)) t)
 
-pub state-long : (a : Calls.Answer) (s : List ℕ) → Full 24 (a .state) → length s ≡ 50 → length (state-left a s) ≡ 50
+pub state-long : (a : Calls.Answer) (s : List ℕ) → Full 24 (a .state) → length s ≡ state-words → length (state-left a s) ≡ state-words
 state-long a s h l =
-    let tail : List ℕ = a .state .order ∷ a .state .turn ∷ [] in
-    written-length (a .number) 50 (state-out (a .state)) s
+    let tail : List ℕ = places-out (a .state) in
+    written-length (a .number) state-words (state-out (a .state)) s
     (omega (arith, length-append (a .state .m) (a .state .mask ++ tail), length-append (a .state .mask) tail, h .m, h .mask)) l
 
 -- the state of an answer, where the call completes; the words as they were, where it is refused
@@ -92,11 +92,11 @@ state-read a s h z = ap state-in (sym (is-written (a .number) _ s z)) ∙ state-
 pub same-read : (a : Calls.Answer) (s : List ℕ) → a .number ≢ 0 → state-in (state-left a s) ≡ state-in s
 same-read a s h = ap state-in (sym (not-written (a .number) _ s h))
 
-module _ (s : List ℕ) (l : length s ≡ 50) (loan : Lent) where
+module _ (s : List ℕ) (l : length s ≡ state-words) (loan : Lent) where
   start-is : Full 24 (Calls.start loan (registers-in s) .state)
   start-is = start-full 16 loan (registers-in s) (record { m = part 16 0 s (omega (arith, l)); mask = part 16 24 s (omega (arith, l)) })
 
-  pub start-long : length (state-left (Calls.start loan (registers-in s)) s) ≡ 50
+  pub start-long : length (state-left (Calls.start loan (registers-in s)) s) ≡ state-words
   start-long = state-long (Calls.start loan (registers-in s)) s start-is l
 
   pub start-read : Calls.start loan (registers-in s) .number ≡ 0 → state-in (state-left (Calls.start loan (registers-in s)) s) ≡ Calls.start loan (registers-in s) .state
@@ -114,7 +114,7 @@ module _ (s : List ℕ) (l : length s ≡ 50) (loan : Lent) where
     hear-is : Full 24 (Calls.hear loan (state-in s) v .state)
     hear-is = hear-full 24 loan (state-in s) v (state-full s l)
 
-    pub hear-long : length (state-left (Calls.hear loan (state-in s) v) s) ≡ 50
+    pub hear-long : length (state-left (Calls.hear loan (state-in s) v) s) ≡ state-words
     hear-long = state-long (Calls.hear loan (state-in s) v) s hear-is l
 
     pub hear-read : Calls.hear loan (state-in s) v .number ≡ 0 → state-in (state-left (Calls.hear loan (state-in s) v) s) ≡ Calls.hear loan (state-in s) v .state

@@ -7,7 +7,7 @@ use lib.ListN.{length, getD, set, take, drop, replicate, length-replicate, drop-
 use lib.Seq.{paste, take-all, take-at, drop-at, getD-drop, take-paste, length-paste, sets-eq}
 use Rattle.gates.specs.Hosts.{Pair}
 use Rattle.calls.specs.Calls as Calls
-use Rattle.lamphiek.specs.Layout.{state-in, state-out, masks-in, masks-out}
+use Rattle.lamphiek.specs.Layout.{state-words, state-in, places-out, state-out, masks-in, masks-out}
 
 -- ---- out of the list, into n words that held zeros
 
@@ -37,16 +37,18 @@ module _ (n : ℕ) (w m l u v : List ℕ) (room : n + n ≤ length w) (whole-m :
         front : take n (paste w 0 m n) ≡ take n m
         front = let z : n ≡ 0 + n = omega arith in ap (λ (k : ℕ). take k (paste w 0 m n)) z ∙ take-paste w 0 m n (omega arith) (omega arith)
 
-pub state-put : (w m l u v : List ℕ) (o t : ℕ) → length w ≡ 50 → length m ≡ 24 → length l ≡ 24 → u ≡ paste w 0 m 24 → v ≡ paste u 24 l 24
-    → set (set v 48 o) 49 t ≡ m ++ (l ++ (o ∷ t ∷ []))
-state-put w m l u v o t hw hm hl e f =
+pub state-put : (w m l u v : List ℕ) (o t a b n : ℕ) → length w ≡ state-words → length m ≡ 24 → length l ≡ 24
+    → u ≡ paste w 0 m 24 → v ≡ paste u 24 l 24
+    → set (set (set (set (set v 48 o) 49 t) 50 a) 51 b) 52 n ≡ m ++ (l ++ (o ∷ t ∷ a ∷ b ∷ n ∷ []))
+state-put w m l u v o t a b n hw hm hl e f =
+    let places : List ℕ = o ∷ t ∷ a ∷ b ∷ n ∷ [] in
     let long = both-length 24 w m l u v (omega arith) hm hl e f in
-    let all : length v ≤ 50 = omega (arith, long) in
-    sets-eq (o ∷ t ∷ []) v 48 (omega (arith, long))
-    ∙ ap (λ (x : List ℕ). x ++ (o ∷ t ∷ []) ++ drop 50 v) (both 24 w m l u v (omega arith) hm hl e f)
-    ∙ ap (λ (x : List ℕ). m ++ l ++ (o ∷ t ∷ []) ++ x) (drop-of-length-le v all)
-    ∙ append-nil (m ++ l ++ (o ∷ t ∷ []))
-    ∙ append-assoc m l (o ∷ t ∷ [])
+    let all : length v ≤ state-words = omega (arith, long) in
+    sets-eq places v 48 (omega (arith, long))
+    ∙ ap (λ (x : List ℕ). x ++ places ++ drop state-words v) (both 24 w m l u v (omega arith) hm hl e f)
+    ∙ ap (λ (x : List ℕ). m ++ l ++ places ++ x) (drop-of-length-le v all)
+    ∙ append-nil (m ++ l ++ places)
+    ∙ append-assoc m l places
 
 pub masks-put : (w m l u v : List ℕ) → length w ≡ 32 → length m ≡ 16 → length l ≡ 16 → u ≡ paste w 0 m 16 → v ≡ paste u 16 l 16 → v ≡ m ++ l
 masks-put w m l u v hw hm hl e f =
@@ -56,10 +58,17 @@ masks-put w m l u v hw hm hl e f =
 -- ---- there and back: what was put reads as what it was
 
 pub state-back : (s : Calls.State) → length (s .m) ≡ 24 → length (s .mask) ≡ 24 → state-in (state-out s) ≡ s
-state-back s hm hl = λ t. record { m = one t; mask = two t; order = three t; turn = four t }
+state-back s hm hl = λ t.
+    record {
+      m = one t;
+      mask = two t;
+      order = after 0 t;
+      turn = after 1 t;
+      stored = record { a = after 2 t; b = after 3 t; deals = after 4 t };
+    }
   where
     place : List ℕ
-    place = s .order ∷ s .turn ∷ []
+    place = places-out s
 
     behind : drop 24 (state-out s) ≡ s .mask ++ place
     behind = drop-at (s .m) (s .mask ++ place) 24 hm
@@ -76,12 +85,6 @@ state-back s hm hl = λ t. record { m = one t; mask = two t; order = three t; tu
 
     two : take 24 (drop 24 (state-out s)) ≡ s .mask
     two = ap (take 24) behind ∙ take-at (s .mask) place 24 hl
-
-    three : getD (state-out s) 48 0 ≡ s .order
-    three = after 0
-
-    four : getD (state-out s) 49 0 ≡ s .turn
-    four = after 1
 
 pub masks-back : (p : Pair) → length (p .0) ≡ 16 → length (p .1) ≡ 16 → masks-in (masks-out p) ≡ p
 masks-back p h k = λ t. (take-at (p .0) (p .1) 16 h t, second t)

@@ -16,7 +16,7 @@ use Rattle.day_demands.specs.Settings.{DaySetting, day-staged}
 use Rattle.day_demands.specs.Runs.{DayDealer, unprepared, prepared, DayHost, resting, running, day-world, host-state}
 use Rattle.day_demands.specs.Runs.{with-answer, prepare0, start1, start2, hear1, hear2, DayCompletes, DayRefuses}
 use Rattle.day_demands.specs.Runs.{DayRun, dealer-masks, day-opened}
-use Rattle.lamphiek.specs.Layout.{six-in, masks-in, state-in}
+use Rattle.lamphiek.specs.Layout.{six-in, masks-in, state-in, state-words}
 use Rattle.lamphiek.specs.Stepping.{masks-left, state-left}
 use Rattle.lamphiek.specs.FromC.{speaks, share-words}
 
@@ -36,10 +36,10 @@ pub record DayFromC : Type 0 where
   -- the words stay as many as the header's structs have
   pub masks-long : (M T L : List ℕ) (H : Hours) (A B D : List ℕ) → length M ≡ 32
       → length (masks-left (day-prepare 32 T L H A B D) M) ≡ 32
-  pub start-long : (s : List ℕ) (h : ℕ) (T L : List ℕ) (H : Hours) (M D : List ℕ) → length s ≡ 50
-      → length (state-left (day-start 32 h T L H M D) s) ≡ 50
-  pub hear-long : (s : List ℕ) (h : ℕ) (T L : List ℕ) (H : Hours) (M D : List ℕ) (v : ℕ) → length s ≡ 50
-      → length (state-left (day-hear 32 h T L H M D (state-in s) v) s) ≡ 50
+  pub start-long : (s : List ℕ) (h : ℕ) (T L : List ℕ) (H : Hours) (M D : List ℕ) → length s ≡ state-words
+      → length (state-left (day-start 32 h T L H M D) s) ≡ state-words
+  pub hear-long : (s : List ℕ) (h : ℕ) (T L : List ℕ) (H : Hours) (M D : List ℕ) (v : ℕ) → length s ≡ state-words
+      → length (state-left (day-hear 32 h T L H M D (state-in s) v) s) ≡ state-words
   -- before the first call, whatever the words hold
   pub begins : (S : DaySetting) (D one two : List ℕ) → DayRun 32 S [] (day-world unprepared D (rests one) (rests two))
   -- a preparation that completes
@@ -55,13 +55,13 @@ pub record DayFromC : Type 0 where
       (day-world (prepared (masks-in M)) buf one (day-on (start2 32 S D) s []))
   -- hearings that complete, of the word that the other spoke at that same place
   pub hears1 : (S : DaySetting) (z : DayDealer) (buf D s s2 : List ℕ) (said said2 : List Spoken) (v : ℕ)
-      → length s ≡ 50
+      → length s ≡ state-words
       → Among (speaks s v) said2
       → hear1 32 S D (state-in s) v .number ≡ 0
       → DayCompletes 32 S (hearing1 v) (day-world z buf (runs-on s said) (runs-on s2 said2))
       (day-world z buf (day-on (hear1 32 S D (state-in s) v) s said) (runs-on s2 said2))
   pub hears2 : (S : DaySetting) (z : DayDealer) (buf D s s1 : List ℕ) (said said1 : List Spoken) (v : ℕ)
-      → length s ≡ 50
+      → length s ≡ state-words
       → Dealt (day-staged 32 S) buf D
       → Among (speaks s v) said1
       → hear2 32 S D (state-in s) v .number ≡ 0
@@ -79,14 +79,14 @@ pub record DayFromC : Type 0 where
   -- a hearing, of a host that holds what the words read as
   pub refused-hearing1 : (S : DaySetting) (z : DayDealer) (buf s : List ℕ) (one two : DayHost) (h : ℕ)
       (T L : List ℕ) (H : Hours) (M D : List ℕ) (v : ℕ)
-      → length s ≡ 50
+      → length s ≡ state-words
       → host-state one ≡ state-in s
       → day-hear 32 h T L H M D (state-in s) v .number ≢ 0
       → DayRefuses 32 S (day-world z buf one two)
       (day-world z buf (with-answer one (state-in (state-left (day-hear 32 h T L H M D (state-in s) v) s))) two)
   pub refused-hearing2 : (S : DaySetting) (z : DayDealer) (buf s : List ℕ) (one two : DayHost) (h : ℕ)
       (T L : List ℕ) (H : Hours) (M D : List ℕ) (v : ℕ)
-      → length s ≡ 50
+      → length s ≡ state-words
       → host-state two ≡ state-in s
       → day-hear 32 h T L H M D (state-in s) v .number ≢ 0
       → DayRefuses 32 S (day-world z buf one two)

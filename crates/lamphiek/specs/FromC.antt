@@ -18,7 +18,7 @@ use Rattle.runs.specs.Runs.{Setting, staged, Spoken, placed-word, Among, Dealer
 use Rattle.runs.specs.Runs.{dealer-holds, with-masks, side-state, world, Turned, Refuses, Dealt, Begins, Completes}
 use Rattle.runs.specs.Runs.{preparing, starting1, starting2, hearing1, hearing2}
 use Rattle.runs.specs.Returned.{opened-now}
-use Rattle.lamphiek.specs.Layout.{six-in, masks-in, state-in, registers-in}
+use Rattle.lamphiek.specs.Layout.{six-in, masks-in, state-in, registers-in, state-words}
 use Rattle.lamphiek.specs.Readings.{shares-left}
 use Rattle.lamphiek.specs.Stepping.{preparation, masks-left, starting, hearing, state-left}
 
@@ -69,10 +69,10 @@ pub record FromC : Type 0 where
   -- the words stay as many as the header's structs have
   pub masks-long : (M J T A B D : List ℕ) → length M ≡ 32
       → length (masks-left (preparation M J T A B D) M) ≡ 32
-  pub start-long : (s : List ℕ) (h : ℕ) (J T M D : List ℕ) → length s ≡ 50
-      → length (state-left (starting s h J T M D) s) ≡ 50
-  pub hear-long : (s : List ℕ) (h : ℕ) (J T M D : List ℕ) (v : ℕ) → length s ≡ 50
-      → length (state-left (hearing s h J T M D v) s) ≡ 50
+  pub start-long : (s : List ℕ) (h : ℕ) (J T M D : List ℕ) → length s ≡ state-words
+      → length (state-left (starting s h J T M D) s) ≡ state-words
+  pub hear-long : (s : List ℕ) (h : ℕ) (J T M D : List ℕ) (v : ℕ) → length s ≡ state-words
+      → length (state-left (hearing s h J T M D v) s) ≡ state-words
   -- before the first call: words that hold the registers given, with whatever place and kept words
   pub begins : (S : Setting) (M D one two : List ℕ) → masks-in M ≡ (S .r1, S .r2)
       → registers-in one ≡ (S .rm, S .r1)
@@ -84,12 +84,12 @@ pub record FromC : Type 0 where
       × Completes (staged 32 S) preparing (world (idle (masks-in M)) D one two)
       (world (ready (masks-in (masks-left (prepare0 S D M) M)) t) (prepare0 S D M .buffer) one two)
   -- startings that complete
-  pub starts1 : (S : Setting) (z : Dealer) (buf D s : List ℕ) (two : Side) → length s ≡ 50
+  pub starts1 : (S : Setting) (z : Dealer) (buf D s : List ℕ) (two : Side) → length s ≡ state-words
       → start1 S D s .number ≡ 0
       → (t : List Pair)
       × Completes (staged 32 S) starting1 (world z buf (waits s) two)
       (world z buf (on-with (start1 S D s) s t []) two)
-  pub starts2 : (S : Setting) (r : Pair) (t₀ : List Pair) (buf D s : List ℕ) (one : Side) → length s ≡ 50
+  pub starts2 : (S : Setting) (r : Pair) (t₀ : List Pair) (buf D s : List ℕ) (one : Side) → length s ≡ state-words
       → Dealt (staged 32 S) buf D
       → start2 S D s .number ≡ 0
       → (t : List Pair)
@@ -98,7 +98,7 @@ pub record FromC : Type 0 where
   -- hearings that complete, of the word that the other spoke at that same place
   pub hears1 : (S : Setting) (z : Dealer) (buf D s s2 : List ℕ) (t t2 : List Pair) (said said2 : List Spoken)
       (v : ℕ)
-      → length s ≡ 50
+      → length s ≡ state-words
       → Among (speaks s v) said2
       → hear1 S D s v .number ≡ 0
       → (t′ : List Pair)
@@ -106,7 +106,7 @@ pub record FromC : Type 0 where
       (world z buf (on-with (hear1 S D s v) s t′ said) (goes s2 t2 said2))
   pub hears2 : (S : Setting) (z : Dealer) (buf D s s1 : List ℕ) (t t1 : List Pair) (said said1 : List Spoken)
       (v : ℕ)
-      → length s ≡ 50
+      → length s ≡ state-words
       → Dealt (staged 32 S) buf D
       → Among (speaks s v) said1
       → hear2 S D s v .number ≡ 0
@@ -126,10 +126,10 @@ pub record FromC : Type 0 where
       → Refuses 16 (world z buf one two)
       (world (with-masks z (masks-in (masks-left (preparation M J T A B D) M))) buf one two)
   -- a starting, a hearing
-  pub refused-start : (s : List ℕ) (h : ℕ) (J T M D : List ℕ) → length s ≡ 50
+  pub refused-start : (s : List ℕ) (h : ℕ) (J T M D : List ℕ) → length s ≡ state-words
       → starting s h J T M D .number ≢ 0
       → Turned 16 (state-in s) (state-in (state-left (starting s h J T M D) s))
-  pub refused-hearing : (s : List ℕ) (h : ℕ) (J T M D : List ℕ) (v : ℕ) → length s ≡ 50
+  pub refused-hearing : (s : List ℕ) (h : ℕ) (J T M D : List ℕ) (v : ℕ) → length s ≡ state-words
       → hearing s h J T M D v .number ≢ 0
       → Turned 16 (state-in s) (state-in (state-left (hearing s h J T M D v) s))
   -- opening, on a register's six words in the structs of the three hosts: what the run's hosts open as they stand, of

@@ -47,13 +47,28 @@ masks-in w = (take 16 w, take 16 (drop 16 w))
 abbrev pub masks-out : Pair → List ℕ
 masks-out p = p .0 ++ p .1
 
--- ---- lamphiek_state: the lane m and the lane of the host's mask, 24 words each, then order and turn
+-- ---- lamphiek_state: the lane m and the lane of the host's mask, 24 words each, then order and turn, then (R-7) the
+-- stored places in A, B and the deals
+
+abbrev pub state-words : ℕ
+state-words = 53
 
 abbrev pub state-in : List ℕ → Calls.State
-state-in w = record { m = take 24 w; mask = take 24 (drop 24 w); order = getD w 48 0; turn = getD w 49 0 }
+state-in w =
+    record {
+      m = take 24 w;
+      mask = take 24 (drop 24 w);
+      order = getD w 48 0;
+      turn = getD w 49 0;
+      stored = Calls.stored-places (getD w 50 0) (getD w 51 0) (getD w 52 0);
+    }
+
+-- what stands behind the lanes
+abbrev pub places-out : Calls.State → List ℕ
+places-out s = s .order ∷ s .turn ∷ s .stored .a ∷ s .stored .b ∷ s .stored .deals ∷ []
 
 abbrev pub state-out : Calls.State → List ℕ
-state-out s = s .m ++ (s .mask ++ (s .order ∷ s .turn ∷ []))
+state-out s = s .m ++ (s .mask ++ places-out s)
 
 -- the registers of a state: the first sixteen words of each lane
 abbrev pub registers-in : List ℕ → Pair

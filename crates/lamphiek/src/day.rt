@@ -74,7 +74,7 @@ pub extern "C" fn lamphiek_day_prepare(
 // Host 1 or 2 starts a day, from registers of 0, to its first word. Numbers 1, 12, 16, 17, 5, 6, 7.
 #[no_mangle]
 pub extern "C" fn lamphiek_day_start(
-    state: &mut [u32; 50],
+    state: &mut [u32; 53],
     host: u32,
     table: &[u32],
     shares: &[u32],
@@ -99,10 +99,10 @@ pub extern "C" fn lamphiek_day_start(
 }
 
 // Host 1 or 2 hears the word that the other spoke at its place of the day: up to its own next word. Numbers 1, 12, 16,
-// 17, 5, 6, 7, 8, 9.
+// 17, 5, 6, 7, 8, 18, 9.
 #[no_mangle]
 pub extern "C" fn lamphiek_day_hear(
-    state: &mut [u32; 50],
+    state: &mut [u32; 53],
     host: u32,
     table: &[u32],
     shares: &[u32],

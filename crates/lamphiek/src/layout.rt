@@ -5,6 +5,7 @@ ghost use lib.ListN.{length, take, drop};
 ghost use lib.Seq.{paste};
 ghost use Rattle.worker.specs.Answers.{state-of, lanes-of, state-with};
 ghost use Rattle.lamphiek.specs.Layout.{state-in, state-out, registers-in, masks-in, masks-out};
+use calls::Stored;
 use dealer::Masks;
 use worker::Registers;
 use worker::State;
@@ -41,7 +42,7 @@ fn registers_at(words: &[u32], at: usize) -> [u32; 16]
     registers
 }
 
-pub(crate) fn state_in(words: &[u32; 50]) -> State
+pub(crate) fn state_in(words: &[u32; 53]) -> State
     ensures { λ s. ⌜ state-of s ≡ state-in (now (words .entry)) ⌝ }
 {
     let m = lane_at(words, 0);
@@ -51,10 +52,15 @@ pub(crate) fn state_in(words: &[u32; 50]) -> State
         mask,
         order: words[48],
         turn: words[49],
+        stored: Stored {
+            a: words[50],
+            b: words[51],
+            deals: words[52],
+        },
     }
 }
 
-pub(crate) fn registers_in(words: &[u32; 50]) -> Registers
+pub(crate) fn registers_in(words: &[u32; 53]) -> Registers
     ensures { λ r. ⌜ lanes-of r ≡ registers-in (now (words .entry)) ⌝ }
 {
     let m = registers_at(words, 0);
@@ -62,13 +68,23 @@ pub(crate) fn registers_in(words: &[u32; 50]) -> Registers
     Registers { m, mask }
 }
 
-pub(crate) fn put_state(words: &mut [u32; 50], m: [u32; 24], mask: [u32; 24], order: u32, turn: u32)
-    ensures { λ _. ⌜ now (words .exit) ≡ state-out (state-with m mask order turn) ⌝ }
+pub(crate) fn put_state(
+    words: &mut [u32; 53],
+    m: [u32; 24],
+    mask: [u32; 24],
+    order: u32,
+    turn: u32,
+    stored: Stored,
+)
+    ensures { λ _. ⌜ now (words .exit) ≡ state-out (state-with m mask order turn stored) ⌝ }
 {
     copy(&m, 0, words, 0, 24);
     copy(&mask, 0, words, 24, 24);
     words[48] = order;
     words[49] = turn;
+    words[50] = stored.a;
+    words[51] = stored.b;
+    words[52] = stored.deals;
 }
 
 pub(crate) fn masks_in(words: &[u32; 32]) -> Masks

@@ -66,7 +66,7 @@ pub extern "C" fn lamphiek_prepare(
 }
 
 // A worker's answer: its state goes into the lent words, its numbers are given.
-pub(crate) fn put_answer(state: &mut [u32; 50], a: worker::Answer) -> Answer
+pub(crate) fn put_answer(state: &mut [u32; 53], a: worker::Answer) -> Answer
     ensures answer { λ r. ⌜ r ≡ spoken (answer-of a) ⌝ }
     ensures state { λ r. ⌜ now (state .exit) ≡ state-left (answer-of a) (now (state .entry)) ⌝ }
 {
@@ -82,14 +82,15 @@ pub(crate) fn put_answer(state: &mut [u32; 50], a: worker::Answer) -> Answer
     let next = a.state;
     let m = next.m;
     let mask = next.mask;
-    put_state(state, m, mask, next.order, next.turn);
+    let stored = next.stored;
+    put_state(state, m, mask, next.order, next.turn, stored);
     said
 }
 
 // Host 1 or 2 starts: from the registers in its state to its first word. Numbers 1 to 7.
 #[no_mangle]
 pub extern "C" fn lamphiek_start(
-    state: &mut [u32; 50],
+    state: &mut [u32; 53],
     host: u32,
     job: &[u32],
     table: &[u32],
@@ -110,10 +111,10 @@ pub extern "C" fn lamphiek_start(
     put_answer(state, a)
 }
 
-// Host 1 or 2 hears the word that the other spoke at its place: up to its own next word. Numbers 1 to 9.
+// Host 1 or 2 hears the word that the other spoke at its place: up to its own next word. Numbers 1 to 8, 18, 9.
 #[no_mangle]
 pub extern "C" fn lamphiek_hear(
-    state: &mut [u32; 50],
+    state: &mut [u32; 53],
     host: u32,
     job: &[u32],
     table: &[u32],

@@ -11,7 +11,7 @@ use Rattle.gates.specs.Hosts.{Pair}
 use Rattle.jobs.specs.Job.{Fault}
 use Rattle.calls.specs.Scripts.{Script}
 use Rattle.calls.specs.Lent.{Lent, worker-of, lent-fault, dealer-fault}
-use Rattle.calls.specs.Calls.{State, Answer, fresh, report, unless, start-walk, given, start, hear-walk, place-fault, found-of, resume}
+use Rattle.calls.specs.Calls.{State, Answer, fresh, report, unless, start-walk, given, start, hear-walk, hearing-fault, found-of, resume}
 use Rattle.calls.specs.Calls.{hear, prepared, prepare}
 use Rattle.runs.specs.Runs.{Dealer, idle, ready, Side, waiting, going, dealer-holds, with-masks, side-state, with-state, registers}
 use Rattle.runs.specs.Runs.{Turned, at-start, at-hearing}
@@ -51,8 +51,9 @@ hear-state loan s v h =
     let f = found-of loan s in
     let P = worker-of loan in
     unless-state (lent-fault loan .0) (lent-fault loan) s
-    (unless (place-fault f) (place-fault f, 0) s (report P (hear-walk P s v f))) refl h
-    (λ k. unless-state (place-fault f) (place-fault f, 0) s (report P (hear-walk P s v f)) refl k (λ z. absurd (z refl)))
+    (unless (hearing-fault (s .stored) f) (hearing-fault (s .stored) f, 0) s (report P (hear-walk P s v f))) refl h
+    (λ k. unless-state (hearing-fault (s .stored) f) (hearing-fault (s .stored) f, 0) s (report P (hear-walk P s v f)) refl k
+    (λ z. absurd (z refl)))
 
 prepared-back : (n : ℕ) (f : Fault) (σ : Script) (A B buf : List ℕ) (r : Pair) → f .0 ≡ n → prepared n f σ A B buf r .number ≢ 0
     → (prepared n f σ A B buf r .masks ≡ r) × (prepared n f σ A B buf r .buffer ≡ buf)

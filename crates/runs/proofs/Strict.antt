@@ -14,7 +14,8 @@ use Rattle.gates.proofs.Seen.{through, Always}
 use Rattle.calls.specs.Scripts.{orders-in}
 use Rattle.calls.specs.Places.{Found, nowhere, found, seek}
 use Rattle.calls.specs.Lent.{Worker, worker1, worker2, worker-with, lists-fault, lent-fault}
-use Rattle.calls.specs.Calls.{State, Answer, fresh, state-of, unless, given, start, place-fault, found-of, resume, hear}
+use Rattle.calls.specs.Calls.{State, Answer, fresh, state-of, given, start, found-of, resume, hear}
+use Rattle.calls.proofs.Hearing.{resume-is}
 use Rattle.runs.specs.Runs.{Stage, Spoken, placed-word, Among, Dealer, idle, ready, Side, waiting, going, World, world, registers}
 use Rattle.runs.specs.Runs.{Call, lent1, lent2, held, Completes, prepares, starts1, starts2, hears1, hears2, Begins, given-out, Run}
 use Rattle.runs.specs.Runs.{begin, complete, refuse, Finished, buffer-of, Accepted}
@@ -30,13 +31,7 @@ use Rattle.runs.proofs.Standing.{rest-length}
 -- ---- the number of a hearing does not depend on the words lent
 
 pub resume-number : (P Q : Worker) (s : State) (v : ℕ) (f : Found) → resume P s v f .number ≡ resume Q s v f .number
-unfolding resume place-fault unless
-resume-number P Q s v nowhere = refl
-resume-number P Q s v (found [] c) = refl
-resume-number P Q s v (found (local d m l ∷ ss) c) = refl
-resume-number P Q s v (found (deal d f ∷ ss) c) = refl
-resume-number P Q s v (found (exchange d e ∷ ss) c) = refl
-resume-number P Q s v (found (end ∷ ss) c) = refl
+resume-number P Q s v f = resume-is P s v f ∙ sym (resume-is Q s v f)
 
 module _ (S : Stage) where
   abbrev A : List ℕ

@@ -13,7 +13,8 @@ use Rattle.gates.proofs.Seen.{through, quiet, Seen, Always, see-walk}
 use Rattle.gates.proofs.Lanes.{seen1, seen2, says1, says2, hears1, hears2}
 use Rattle.calls.specs.Places.{Found, found, seek}
 use Rattle.calls.specs.Lent.{Worker, worker1, worker2}
-use Rattle.calls.specs.Calls.{State, Answer, fresh2, word-at, spoken-at, state-of, report, unless, hear-walk, place-fault, resume}
+use Rattle.calls.specs.Calls.{State, Answer, fresh2, word-at, spoken-at, state-of, report, hear-walk, place-fault, walked-to, resume}
+use Rattle.calls.proofs.Hearing.{resumed-there, resume-none}
 use Rattle.runs.specs.Runs.{Spoken, placed-word, Among}
 use Rattle.runs.proofs.Places.{Halted, pos, walk-reaches, seek-pos, same-place}
 
@@ -205,11 +206,15 @@ module _ (A B : List ℕ) (all : List Step) (j₀ : Triple) where
         → v ≡ word-at other ss c j
         → Went (suc n) (map h t) (resume P (state-of (through h (conf ss c j t))) v (found ss c))
         (hear-walk P (state-of (through h (conf ss c j t))) v (found ss c) .trail)
-    unfolding resume place-fault unless hear-walk word-at pos
+    unfolding place-fault walked-to hear-walk word-at pos
     hear-at [] c j t n v p x g e = absurd x
     hear-at (local d m l ∷ ss) c j t n v p x g e = absurd x
     hear-at (deal d f ∷ ss) c j t n v p x g e = absurd x
-    hear-at (exchange d y ∷ ss) c j t n v p x g e = rw (sh .hears d y ss c j v g e) (walked-at _ (suc n) (ap (next (act A B)) p))
+    hear-at (exchange d y ∷ ss) c j t n v p x g e =
+        let s : State = state-of (through h (conf (exchange d y ∷ ss) c j t)) in
+        let f : Found = found (exchange d y ∷ ss) c in
+        subst (λ (a : Answer). Went (suc n) (map h t) a (hear-walk P s v f .trail)) (sym (resumed-there P s v f refl refl))
+        (rw (sh .hears d y ss c j v g e) (walked-at _ (suc n) (ap (next (act A B)) p)))
     hear-at (end ∷ ss) c j t n v p x g e = absurd x
 
     -- hearing, at position n, the word that the other speaks there
@@ -262,12 +267,15 @@ module _ (A B : List ℕ) (all : List Step) (j₀ : Triple) where
 
     -- a hearing that completes is at a product or refresh
     live : (ss : List Step) (c : Cursor) (s : State) (v : ℕ) → resume P s v (found ss c) .number ≡ 0 → Exchanging ss
-    unfolding resume place-fault unless
-    live [] c s v e = absurd (omega arith)
-    live (local d m l ∷ ss) c s v e = absurd (omega arith)
-    live (deal d f ∷ ss) c s v e = absurd (omega arith)
-    live (exchange d y ∷ ss) c s v e = tt
-    live (end ∷ ss) c s v e = absurd (omega arith)
+    unfolding place-fault
+    live ss c s v e = go ss (resume-none P s v (found ss c) e .0)
+      where
+        go : (ss : List Step) → place-fault (found ss c) ≡ 0 → Exchanging ss
+        go [] e = absurd (omega arith)
+        go (local d m l ∷ ss) e = absurd (omega arith)
+        go (deal d f ∷ ss) e = absurd (omega arith)
+        go (exchange d y ∷ ss) e = tt
+        go (end ∷ ss) e = absurd (omega arith)
 
     pub live-at : (n v : ℕ) → Halted (joint n .rest) → heard-by (state-of (through h (joint n))) v .number ≡ 0 → Exchanging (joint n .rest)
     live-at n v k e = live (joint n .rest) (joint n .cur) _ v (rw (seek-pos (act A B) all j₀ n k) at e)

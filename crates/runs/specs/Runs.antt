@@ -121,10 +121,17 @@ pub data World : Type 0 where
 abbrev pub registers : (n : ℕ) → State → Pair
 registers n s = (take n (s .m), take n (s .mask))
 
--- "after a refused starting, with the place and kept words it held"
+-- "after a refused starting, with the place and kept words it held"; R-7: "After a refused starting the host keeps
+-- those it held", the stored places
 abbrev pub with-registers : (n : ℕ) → State → Pair → State
 with-registers n s r =
-    record { m = r .0 ++ drop n (s .m); mask = r .1 ++ drop n (s .mask); order = s .order; turn = s .turn }
+    record {
+      m = r .0 ++ drop n (s .m);
+      mask = r .1 ++ drop n (s .mask);
+      order = s .order;
+      turn = s .turn;
+      stored = s .stored;
+    }
 
 -- ---- refused calls, lent anything: what the host holds next is built from the call's answer
 

@@ -13,7 +13,7 @@ use Rattle.gates.proofs.Needs.{far-used}
 use Rattle.gates.proofs.Seen.{through}
 use Rattle.calls.specs.Scripts.{Script, script-cost, ends, orders-in, Closed}
 use Rattle.calls.specs.Places.{seek}
-use Rattle.calls.specs.Calls.{State, Answer, word-at, spoken-at, state-of}
+use Rattle.calls.specs.Calls.{stored-places, State, Answer, word-at, spoken-at, stored-at, state-of}
 use Rattle.runs.specs.Runs.{Stage}
 use Rattle.runs.proofs.Places.{Halted, steps-in, ends-pos, exchange-or-end, seek-pos, shrinks, whole-pos}
 use Rattle.runs.proofs.Counts.{far-at, stands}
@@ -42,7 +42,7 @@ ahead σ s = steps-in (seek (s .order) (s .turn) (σ .steps) origin)
 
 -- an answer with no step left
 last-answer : (h : Triple → Pair) (say : Exchange → Cursor → Triple → ℕ) (ss : List Step) (c : Cursor) (j : Triple) (t : List Triple)
-    (b o : ℕ) → ss ≡ [] → c .b ≡ b → c .order ≡ o
+    (a b n o : ℕ) → ss ≡ [] → c .a ≡ a → c .b ≡ b → c .deals ≡ n → c .order ≡ o
     → c .turn ≡ 0
     → _≡_ {A = Answer} (record {
       number = 0;
@@ -51,10 +51,16 @@ last-answer : (h : Triple → Pair) (say : Exchange → Cursor → Triple → �
       word = word-at say ss c j;
       state = state-of (through h (conf ss c j t));
     })
-    (record { number = 0; index = 0; spoken = b; word = 0; state = record { m = h j .0; mask = h j .1; order = o; turn = 0 } })
-unfolding spoken-at word-at
-last-answer h say [] c j t b o e p q r = rw (p, q, r)
-last-answer h say (x ∷ ss) c j t b o e p q r = cc
+    (record {
+      number = 0;
+      index = 0;
+      spoken = b;
+      word = 0;
+      state = record { m = h j .0; mask = h j .1; order = o; turn = 0; stored = stored-places a b n };
+    })
+unfolding spoken-at word-at stored-at
+last-answer h say [] c j t a b n o e x p y q r = rw (x, p, y, q, r)
+last-answer h say (z ∷ ss) c j t a b n o e x p y q r = cc
 
 whole-rest : (A B : List ℕ) (ss : List Step) (c : Cursor) (j : Triple) (t : List Triple) → ss ≡ [] → whole (act A B) ss c j t .state ≡ j
 unfolding whole
@@ -136,10 +142,13 @@ module _ (S : Stage) (shut : Closed (S .script .steps)) (buf : List ℕ) (done :
         let p : ends (walk-at n .rest) + walk-at n .cur .order ≡ ends (all S) = ends-pos (act (S .A) (S .B)) (all S) (j₀ S) n in
         let q : walk-at n .cur .order ≡ orders-in (S .script) =
         sym (zero-add _) ∙ ap (λ (ss : List Step). ends ss + walk-at n .cur .order) (sym e) ∙ p in
-        let b : walk-at n .cur .b ≡ script-cost (S .script) .b =
-        ap (λ (c : Cursor). c .b) cur-is ∙ far-used (all S) origin .b ∙ zero-add _ in
+        let k = far-used (all S) origin in
+        let a : walk-at n .cur .a ≡ script-cost (S .script) .a = ap (λ (c : Cursor). c .a) cur-is ∙ k .a ∙ zero-add _ in
+        let b : walk-at n .cur .b ≡ script-cost (S .script) .b = ap (λ (c : Cursor). c .b) cur-is ∙ k .b ∙ zero-add _ in
+        let d : walk-at n .cur .deals ≡ script-cost (S .script) .deals =
+        ap (λ (c : Cursor). c .deals) cur-is ∙ k .deals ∙ zero-add _ in
         let t : walk-at n .cur .turn ≡ 0 = ap (λ (c : Cursor). c .turn) cur-is ∙ far-closed (all S) origin shut (λ n. refl) in
-        last-answer h say (walk-at n .rest) (walk-at n .cur) (walk-at n .state) (walk-at n .trail) _ _ e b q t
+        last-answer h say (walk-at n .rest) (walk-at n .cur) (walk-at n .state) (walk-at n .trail) _ _ _ _ e a b d q t
         ∙ ap {B = Answer} (λ (j : Triple). end-answer (S .script) (h j)) state-is
 
     finish-at : standing S buf n ≡ ran S buf

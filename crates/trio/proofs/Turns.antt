@@ -8,7 +8,7 @@ use Rattle.gates.specs.Steps.{Lane}
 use Rattle.gates.specs.Hosts.{Triple, of0, of1, of2}
 use Rattle.jobs.proofs.Indices.{order-count}
 use Rattle.worker.proofs.Jobs.{sized}
-use Rattle.calls.specs.Calls.{State, Answer, Prepared, fresh, unless, given, start, prepare}
+use Rattle.calls.specs.Calls.{stored-places, State, Answer, Prepared, fresh, unless, given, start, prepare}
 use Rattle.calls.specs.Scripts.{Script, job-script, orders-in, Closed}
 use Rattle.calls.specs.Lent.{lent, dealer-fault}
 use Rattle.runs.specs.Runs.{Stage}
@@ -30,7 +30,7 @@ pub first-refused : (n i : ℕ) (m mask fm fl : Lane) (a : Answer) → n ≢ 0 �
       index = i;
       spoken = 0;
       word = 0;
-      state = record { m = fm; mask = fl; order = 0; turn = 0 };
+      state = record { m = fm; mask = fl; order = 0; turn = 0; stored = stored-places 0 0 0 };
     } ≡ unless n (n, i) (given (m, mask)) a
 unfolding unless given
 first-refused zero i m mask fm fl a h p q = absurd (h refl)

@@ -9,7 +9,8 @@ use Rattle.gates.specs.Walk.{whole}
 use Rattle.gates.specs.Hosts.{Pair, Triple, of0, of1, of2, act}
 use Rattle.calls.specs.Scripts.{Script, script-cost, orders-in}
 use Rattle.calls.specs.Lent.{lent}
-use Rattle.calls.specs.Calls.{Answer, Prepared, fresh, given, unless, start, hear, prepare}
+use Rattle.calls.specs.declared.Stored.{Stored}
+use Rattle.calls.specs.Calls.{stored-places, Answer, Prepared, fresh, given, unless, start, hear, prepare}
 use Rattle.worker.specs.Answers.{answer-of}
 use Rattle.trio.specs.declared.Trio.{Trio as Trio′}
 use Rattle.trio.specs.declared.Shared.{Shared}
@@ -61,8 +62,12 @@ after-preparation r p a b =
       buffer = p .buffer;
     }
 
+-- what the script uses of A and of B, and its deals
+abbrev pub all-places : Script → Stored
+all-places σ = stored-places (script-cost σ .a) (script-cost σ .b) (script-cost σ .deals)
+
 -- a host at the end: "the end is the number of orders and 0", "the word given is 0", and each host has spoken a word
--- for each word of B, half the script's words
+-- for each word of B, half the script's words; R-7: the stored places are "at the end over all"
 unfoldable pub end-answer : Script → Pair → Answer
 end-answer σ s =
     record {
@@ -70,7 +75,7 @@ end-answer σ s =
       index = 0;
       spoken = script-cost σ .b;
       word = 0;
-      state = record { m = s .0; mask = s .1; order = orders-in σ; turn = 0 };
+      state = record { m = s .0; mask = s .1; order = orders-in σ; turn = 0; stored = all-places σ };
     }
 
 -- "every call is lent the same job, table and lists": a script and the lists A and B; hosts 1 and 2 both the deals, of

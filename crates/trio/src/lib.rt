@@ -5,6 +5,7 @@ ghost use Rattle.calls.specs.Scripts.{job-script};
 ghost use Rattle.calls.specs.Lent.{lent};
 ghost use Rattle.worker.specs.Answers.{answer-of, lanes-of};
 ghost use Rattle.trio.specs.Together.{trio-of, shared, Full, begun, heard, together};
+use calls::Stored;
 use dealer::Masks;
 use dealer::prepare;
 use word_lists::copy_front;
@@ -67,6 +68,11 @@ fn first(
             mask,
             order: 0,
             turn: 0,
+            stored: Stored {
+                a: 0,
+                b: 0,
+                deals: 0,
+            },
         },
     }
 }

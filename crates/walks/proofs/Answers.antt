@@ -11,14 +11,17 @@ use lib.ListN.{length, drop}
 use Rattle.gates.specs.Gates.{Gate}
 use Rattle.gates.specs.Steps.{Lane, Step, local, deal, exchange, end, Cursor, origin}
 use Rattle.gates.specs.Meaning.{job-steps}
+use Rattle.gates.specs.Costs.{Cost, cost}
 use Rattle.gates.specs.Walk.{Exchanging}
 use Rattle.gates.specs.Hosts.{Pair}
 use Rattle.jobs.specs.Job.{Fault}
 use Rattle.calls.specs.Scripts.{Script}
 use Rattle.calls.specs.Lent.{lent-fault, lent, Worker, worker-with}
 use Rattle.calls.specs.Places.{Found, nowhere, found, seek}
-use Rattle.calls.specs.Calls.{State, Answer, refused, report, fresh, unless, given, start-walk, start, hear-walk, place-fault, found-of}
-use Rattle.calls.specs.Calls.{resume, hear}
+use Rattle.calls.specs.declared.Stored.{Stored}
+use Rattle.calls.specs.Calls.{stored-places, State, Answer, refused, counted-to, stored-at, report, fresh, unless, given, start-walk, start}
+use Rattle.calls.specs.Calls.{hear-walk, place-fault, walked-to, same-places, hearing-fault, found-of, resume, hear}
+use Rattle.calls.proofs.Hearing.{same-tells, judged-equal}
 use Rattle.walks.specs.Workers.{cursor}
 use Rattle.walks.specs.Halts.{reported, steps-from}
 use Rattle.walks.proofs.Gates.{first-gate}
@@ -54,7 +57,8 @@ module _ (h : ℕ) (σ : Script) (M D : List ℕ) (n i : ℕ) (e : (n, i) ≡ le
   -- ---- starting
 
   module _ (r : Pair) (m l : Lane) (em : m ≡ fresh (r .0)) (el : l ≡ fresh (r .1)) where
-    pub start-refused : (n ≡ 0 → ⊥) → refused (n, i) (record { m = m; mask = l; order = 0; turn = 0 }) ≡ start (lent h σ M D) r
+    pub start-refused : (n ≡ 0 → ⊥)
+        → refused (n, i) (record { m = m; mask = l; order = 0; turn = 0; stored = stored-places 0 0 0 }) ≡ start (lent h σ M D) r
     unfolding start given
     start-refused z = rw (em, el) (is-refused n i _ e _ _ z)
 
@@ -79,41 +83,83 @@ module _ (h : ℕ) (σ : Script) (M D : List ℕ) (n i : ℕ) (e : (n, i) ≡ le
       unfolding hear found-of worker-with
       by-place f p = ap (λ (g : Found). resume P s v g) (sym p) ∙ is-answered n i _ e s _ z
 
+      -- by the number that is found there
+      by-number : (f : Found) → Finds f → (r : ℕ) → (r ≡ 0 → ⊥) → r ≡ hearing-fault (s .stored) f
+          → refused (r, 0) s ≡ hear (lent h σ M D) s v
+      unfolding resume
+      by-number f p r ne q =
+          turned-down r 0 s (report P (hear-walk P s v f)) ne
+          ∙ ap {B = Answer} (λ (k : ℕ). unless k (k, 0) s (report P (hear-walk P s v f))) q
+          ∙ by-place f p
+
       pub at-nowhere : Finds nowhere → refused (8, 0) s ≡ hear (lent h σ M D) s v
-      unfolding resume place-fault unless
-      at-nowhere p = by-place nowhere p
+      unfolding hearing-fault place-fault
+      at-nowhere p = by-number nowhere p 8 (λ z. omega arith) refl
 
-      at-the-end : (c : Cursor) → Finds (found [] c) → refused (9, 0) s ≡ hear (lent h σ M D) s v
-      unfolding resume place-fault unless
-      at-the-end c p = by-place (found [] c) p
+      -- at the end, the stored places are compared with the totals first
+      at-the-end : (c : Cursor) → Finds (found [] c)
+          → refused (cond (same-places (s .stored) (counted-to c)) 9 18, 0) s ≡ hear (lent h σ M D) s v
+      unfolding hearing-fault place-fault walked-to stored-at
+      at-the-end c p = by-number (found [] c) p _ (ne (same-places (s .stored) (counted-to c))) refl
+        where
+          ne : (b : Bool) → _≡_ {A = ℕ} (cond b 9 18) 0 → ⊥
+          ne true z = omega arith
+          ne false z = omega arith
 
-      no-fault-at : (y : Step) (ss : List Step) (c : Cursor) → Exchanging (y ∷ [])
-          → report P (hear-walk P s v (found (y ∷ ss) c)) ≡ resume P s v (found (y ∷ ss) c)
-      unfolding resume place-fault unless
-      no-fault-at (local d m l) ss c q = absurd q
-      no-fault-at (deal d f) ss c q = absurd q
-      no-fault-at (exchange d x) ss c q = refl
-      no-fault-at end ss c q = absurd q
+      -- at a product or refresh: what is found there
+      module _ (y : Step) (ss ts : List Step) (c : Cursor) (q : Exchanging (y ∷ [])) (t : ts ≡ y ∷ ss) (p : Finds (found ts c)) where
+        finds : Finds (found (y ∷ ss) c)
+        finds = p ∙ ap (λ (z : List Step). found z c) t
 
-      pub at-exchange : (y : Step) (ss ts : List Step) (c : Cursor) → Exchanging (y ∷ []) → ts ≡ y ∷ ss → Finds (found ts c)
-          → report P (hear-walk P s v (found ts c)) ≡ hear (lent h σ M D) s v
-      at-exchange y ss ts c q t p =
-          ap (λ (z : List Step). report P (hear-walk P s v (found z c))) t
-          ∙ no-fault-at y ss c q
-          ∙ by-place (found (y ∷ ss) c) (p ∙ ap (λ (z : List Step). found z c) t)
+        spoken-there : place-fault (found (y ∷ ss) c) ≡ 0
+        unfolding place-fault
+        spoken-there = go y q
+          where
+            go : (y : Step) → Exchanging (y ∷ []) → place-fault (found (y ∷ ss) c) ≡ 0
+            go (local d m l) q = absurd q
+            go (deal d f) q = absurd q
+            go (exchange d x) q = refl
+            go end q = absurd q
 
-      -- past the last of its programs
+        -- "18, stored places unequal to the walk's"
+        pub at-unequal : (s .stored ≡ stored-at (y ∷ ss) c → ⊥) → refused (18, 0) s ≡ hear (lent h σ M D) s v
+        unfolding hearing-fault walked-to
+        at-unequal ne =
+            by-number (found (y ∷ ss) c) finds 18 (λ z. omega arith)
+            (rw spoken-there (go (same-places (s .stored) (stored-at (y ∷ ss) c)) refl))
+          where
+            go : (b : Bool) → same-places (s .stored) (stored-at (y ∷ ss) c) ≡ b → _≡_ {A = ℕ} 18 (cond b 0 18)
+            go true e = absurd (ne (same-tells (s .stored) (stored-at (y ∷ ss) c) e))
+            go false e = refl
+
+        pub at-exchange : s .stored ≡ stored-at (y ∷ ss) c → report P (hear-walk P s v (found ts c)) ≡ hear (lent h σ M D) s v
+        unfolding resume walked-to
+        at-exchange e =
+            ap (λ (z : List Step). report P (hear-walk P s v (found z c))) t
+            ∙ let-pass 0 0 s (report P (hear-walk P s v (found (y ∷ ss) c))) refl
+            ∙ ap {B = Answer} (λ (k : ℕ). unless k (k, 0) s (report P (hear-walk P s v (found (y ∷ ss) c))))
+            (sym (judged-equal (s .stored) (found (y ∷ ss) c) e ∙ spoken-there))
+            ∙ by-place (found (y ∷ ss) c) finds
+
+      -- past the last of its programs, of which these are the counts
       pub past-programs : (w : ℕ) (programs : List (List Gate)) → σ .steps ≡ job-steps w programs → (c : ℕ) → length programs ≡ c
-          → (r : ℕ) → c ≤ s .order → r ≡ cond (eqb (s .order) c && eqb (s .turn) 0) 9 8 → refused (r, 0) s ≡ hear (lent h σ M D) s v
-      past-programs w programs made c count r l p = rw p (go (eqb (s .order) c) (eqb (s .turn) 0) refl refl)
+          → (k : Cost) → k ≡ cost (job-steps w programs)
+          → (r : ℕ) → c ≤ s .order
+          → r ≡ cond (eqb (s .order) c && eqb (s .turn) 0) (cond (same-places (s .stored) (stored-places (k .a) (k .b) (k .deals))) 9 18) 8
+          → refused (r, 0) s ≡ hear (lent h σ M D) s v
+      past-programs w programs made c count k whole r l p = rw p (go (eqb (s .order) c) (eqb (s .turn) 0) refl refl)
         where
           here : (f : Found) → seek (s .order) (s .turn) (job-steps w programs) origin ≡ f → Finds f
           here f p = ap (λ (ss : List Step). seek (s .order) (s .turn) ss origin) made ∙ p
 
-          go : (a b : Bool) → eqb (s .order) c ≡ a → eqb (s .turn) 0 ≡ b → refused (cond (a && b) 9 8, 0) s ≡ hear (lent h σ M D) s v
+          go : (a b : Bool) → eqb (s .order) c ≡ a → eqb (s .turn) 0 ≡ b
+              → refused (cond (a && b) (cond (same-places (s .stored) (stored-places (k .a) (k .b) (k .deals))) 9 18) 8, 0) s
+              ≡ hear (lent h σ M D) s v
           go true true p q =
               let t = at-end w programs (s .order) (s .turn) (eqb-true (s .order) c p ∙ sym count) (eqb-true (s .turn) 0 q) in
-              at-the-end (t .0) (here _ (t .1))
+              ap {B = Answer} (λ (u : Stored). refused (cond (same-places (s .stored) u) 9 18, 0) s)
+              (ap {B = Stored} (λ (k : Cost). stored-places (k .a) (k .b) (k .deals)) whole ∙ sym (t .1))
+              ∙ at-the-end (t .0) (here _ (t .2))
           go true false p q =
               let o = eqb-true (s .order) c p ∙ sym count in
               at-nowhere (here _ (no-turn w programs (s .order) (s .turn) o (eqb-false (s .turn) 0 q)))

@@ -2,18 +2,21 @@
 -- refresh. Assumes nothing.
 use mathlib.Core.Path.{_≡_, refl, ap, _∙_}
 use mathlib.Core.List.{List, [], _∷_, _++_}
-use Prim.Native.Nat.{ℕ, suc}
+use Prim.Native.Nat.{ℕ, suc, _+_}
+use native.Mathlib.Numerals.{add-one}
 use native.Mathlib.Omega.{arith}
 use Rattle.gates.specs.Steps.{product, refresh, known-product, Step, local, deal, exchange, end, Cursor, past}
-use Rattle.gates.specs.Costs.{step-cost}
+use Rattle.gates.specs.declared.Used.{Used}
+use Rattle.gates.specs.Costs.{step-cost, used-at}
 use Rattle.gates.specs.Walk.{walk, Exchanging}
 use Rattle.gates.specs.Hosts.{Pair}
 use Rattle.calls.specs.Lent.{Worker}
 use Rattle.calls.specs.Places.{found}
-use Rattle.calls.specs.Calls.{State, word-at, spoken-at, report, hear-walk}
+use Rattle.calls.specs.Calls.{State, stored-places, word-at, spoken-at, stored-at, report, hear-walk}
 use Rattle.walks.specs.Workers.{cursor, heard-at}
 use Rattle.walks.specs.Halts.{going-on, reported}
 use Rattle.gates.proofs.GateSteps.{OfGate}
+use Rattle.gates.proofs.Uses.{behind-a, behind-deals}
 
 pub trail-free : (P : Worker) (ss : List Step) (c : Cursor) (s : Pair) (t u : List Pair)
     → report P (walk (P .act) ss c s t) ≡ report P (walk (P .act) ss c s u)
@@ -49,15 +52,16 @@ module _ (P : Worker) (ss : List Step) (o x a b dealt : ℕ) (s : Pair) where
   pub stops : (y : Step) → Exchanging (y ∷ [])
       → reported P (y ∷ ss) (cursor o x a b dealt) s
       ≡ going-on (suc b) (word-at (P .say) (y ∷ []) (cursor o x a b dealt) s) (s .0) (s .1) o x
-  unfolding reported walk word-at spoken-at
+      (stored-places (past y (cursor 0 0 a 0 dealt) .a) (suc b) (past y (cursor 0 0 a 0 dealt) .deals))
+  unfolding reported walk word-at spoken-at stored-at past
   stops (local d m l) h = absurd h
   stops (deal d f) h = absurd h
   stops (exchange d e) h = refl
   stops end h = absurd h
 
   -- and at the end
-  pub ends : reported P [] (cursor o x a b dealt) s ≡ going-on b 0 (s .0) (s .1) o x
-  unfolding reported walk word-at spoken-at
+  pub ends : reported P [] (cursor o x a b dealt) s ≡ going-on b 0 (s .0) (s .1) o x (stored-places a b dealt)
+  unfolding reported walk word-at spoken-at stored-at
   ends = refl
 
 -- ---- the other's word is heard
@@ -80,3 +84,19 @@ walk-on P s v (local d m l) ss c h = absurd h
 walk-on P s v (deal d f) ss c h = absurd h
 walk-on P s v (exchange d e) ss c h = refl
 walk-on P s v end ss c h = absurd h
+
+-- the walk's places at a product or refresh, with what is used there
+pub with-own : (y : Step) (ss : List Step) (u : Used) → u ≡ used-at y → Exchanging (y ∷ []) → (o x a b dealt : ℕ)
+    → stored-at (y ∷ ss) (cursor o x a b dealt) ≡ stored-places (a + u .a) (b + 1) (dealt + u .deals)
+unfolding stored-at past
+with-own y ss u e h o x a b n =
+    here y h
+    ∙ rw (add-one b, behind-a y u e (cursor 0 0 a 0 n), behind-deals y u e (cursor 0 0 a 0 n))
+  where
+    here : (y : Step) → Exchanging (y ∷ [])
+        → stored-at (y ∷ ss) (cursor o x a b n)
+        ≡ stored-places (past y (cursor 0 0 a 0 n) .a) (suc b) (past y (cursor 0 0 a 0 n) .deals)
+    here (local d m l) h = absurd h
+    here (deal d f) h = absurd h
+    here (exchange d e) h = refl
+    here end h = absurd h

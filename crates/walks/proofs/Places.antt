@@ -6,17 +6,20 @@ use Prim.Native.Nat.{ℕ, suc, _+_, _*_, _≤_, _<_}
 use native.Mathlib.Nat.{zero-add}
 use native.Mathlib.Omega.{arith}
 use lib.ListN.{length, getD, take, drop}
-use lib.Seq.{drop-length, drop-cons}
+use lib.Seq.{drop-length, drop-cons, take-all}
 use Rattle.gates.specs.Gates.{Gate}
 use Rattle.gates.specs.Steps.{Step, Cursor, origin}
 use Rattle.gates.specs.Meaning.{meaning, order-steps, job-steps}
-use Rattle.gates.specs.Walk.{Exchanging}
+use Rattle.gates.specs.Costs.{Cost, cost}
+use Rattle.gates.specs.Walk.{Exchanging, far}
 use Rattle.gates.proofs.Needs.{Further, far-used}
 use Rattle.gates.specs.Codes.{At, fetched}
 use Rattle.programs.specs.declared.Sought.the-variants.{Nowhere}
 use Rattle.programs.specs.declared.Sought.the-variants as Sought
 use Rattle.programs.specs.Seek.{sought}
 use Rattle.calls.specs.Places.{nowhere, found, seek}
+use Rattle.calls.specs.Calls.{stored-places, counted-to}
+use Rattle.calls.proofs.Hearing.{places-path}
 use Rattle.walks.specs.Workers.{cursor}
 use Rattle.walks.specs.Halts.{steps-from}
 use Rattle.gates.proofs.Fetched.{inside}
@@ -41,18 +44,32 @@ pub record Stands (w n : ℕ) (programs : List (List Gate)) (o x i a b dealt : �
   pub is : seek o x (job-steps w programs) origin ≡ found (steps-from w i (drop o programs)) (cursor o x a b dealt)
 
 module _ (w : ℕ) (programs : List (List Gate)) (o x : ℕ) where
+  abbrev whole-cost : Cost
+  whole-cost = cost (job-steps w programs)
+
   pub past-end : length programs < o → seek o x (job-steps w programs) origin ≡ nowhere
   unfolding seek job-steps
   past-end h =
       let p = skip-all w o x (length programs) programs origin (omega arith) (omega arith) refl in
       p .0 .same ∙ rw (drop-length programs, not-here o x (p .0 .cur) (λ e. omega (arith, p .0 .in-order)))
 
-  pub at-end : o ≡ length programs → x ≡ 0 → (c : Cursor) × (seek o x (job-steps w programs) origin ≡ found [] c)
+  -- at the end, where all that they use is counted
+  pub at-end : o ≡ length programs → x ≡ 0
+      → (c : Cursor)
+      × (counted-to c ≡ stored-places (whole-cost .a) (whole-cost .b) (whole-cost .deals))
+      × (seek o x (job-steps w programs) origin ≡ found [] c)
   unfolding seek job-steps
   at-end h z =
       let p = skip-all w o x (length programs) programs origin (omega arith) (omega arith) refl in
       let here = just-here o x (p .0 .cur) (omega (arith, p .0 .in-order)) (omega (arith, p .0 .at-turn)) in
-      (p .0 .cur, p .0 .same ∙ rw (drop-length programs, here))
+      let u : Further origin whole-cost (p .0 .cur) =
+      subst (λ (c : Cursor). Further origin whole-cost c)
+      (ap (λ (os : List (List Gate)). far (job-steps w os) origin) (sym (take-all (length programs) programs (omega arith))) ∙ p .1)
+      (far-used (job-steps w programs) origin) in (
+        p .0 .cur,
+        places-path (omega (arith, u .a)) (omega (arith, u .b)) (omega (arith, u .deals)),
+        p .0 .same ∙ rw (drop-length programs, here),
+      )
 
   pub no-turn : o ≡ length programs → (x ≡ 0 → ⊥) → seek o x (job-steps w programs) origin ≡ nowhere
   unfolding seek job-steps

@@ -15,7 +15,7 @@ use Rattle.gates.specs.Hosts.{Pair}
 use Rattle.gates.proofs.Uses.{behind-a, behind-deals}
 use Rattle.calls.specs.Lent.{Worker, worker-with}
 use Rattle.calls.specs.Places.{found}
-use Rattle.calls.specs.Calls.{State, Answer, word-at, report, hear-walk}
+use Rattle.calls.specs.Calls.{State, stored-places, Answer, word-at, report, hear-walk}
 use Rattle.walks.specs.Workers.{cursor, heard-at}
 use Rattle.walks.specs.Halts.{going-on, reported, steps-from, Going}
 use Rattle.walks.proofs.Gates.{first-gate}
@@ -32,7 +32,7 @@ module _ (w h : ℕ) (M D : List ℕ) (programs : List (List Gate)) where
     abbrev from-here : Answer
     from-here = reported P (steps-from w i (drop o programs)) (cursor o x a b dealt) s
 
-    pub finished : drop o programs ≡ [] → from-here ≡ going-on b 0 (s .0) (s .1) o x
+    pub finished : drop o programs ≡ [] → from-here ≡ going-on b 0 (s .0) (s .1) o x (stored-places a b dealt)
     unfolding steps-from
     finished e = rw e (ends P [] o x a b dealt s)
 
@@ -66,12 +66,19 @@ module _ (w h : ℕ) (M D : List ℕ) (programs : List (List Gate)) where
       -- at a product or refresh
       pub halted : (y : Step) (ss : List Step) → Exchanging (y ∷ []) → map (meaning w) (drop j hs) ≡ y ∷ ss
           → (v : ℕ) → v ≡ word-at (P .say) (y ∷ []) (cursor 0 0 a′ b dealt′) (m, l)
-          → from-here ≡ going-on (b + 1) v m l o x
-      halted y ss speaks here v ev =
+          → (u : Used) → u ≡ used-at y
+          → from-here ≡ going-on (b + 1) v m l o x (stored-places (a′ + u .a) (b + 1) (dealt′ + u .deals))
+      halted y ss speaks here v ev u eu =
           within
           ∙ ap (λ (ts : List Step). reported P (ts ++ order-steps w rest behind) (cursor o x a′ b dealt′) (m, l)) here
           ∙ stops P (ss ++ order-steps w rest behind) o x a′ b dealt′ (m, l) y speaks
-          ∙ rw (ev, word-any h M D y o x a′ b dealt′ (m, l), add-one b)
+          ∙ rw (
+            ev,
+            word-any h M D y o x a′ b dealt′ (m, l),
+            add-one b,
+            behind-a y u eu (cursor 0 0 a′ 0 dealt′),
+            behind-deals y u eu (cursor 0 0 a′ 0 dealt′),
+          )
 
       -- past the last gate of hs
       module _ (over : drop j hs ≡ []) where

@@ -9,14 +9,21 @@ use Rattle.gates.specs.Steps.{Lane, Step, Cursor}
 use Rattle.gates.specs.Meaning.{meaning, order-steps, job-steps}
 use Rattle.gates.specs.Walk.{walk}
 use Rattle.gates.specs.Hosts.{Pair}
+use Rattle.calls.specs.declared.Stored.{Stored}
 use Rattle.calls.specs.Lent.{Worker}
 use Rattle.calls.specs.Calls.{Answer, report}
 use Rattle.walks.specs.Workers.{cursor}
 
 -- an answer that is no refusal
-abbrev pub going-on : (spoken word : ℕ) (m mask : Lane) (order turn : ℕ) → Answer
-going-on n v m l o x =
-    record { number = 0; index = 0; spoken = n; word = v; state = record { m = m; mask = l; order = o; turn = x } }
+abbrev pub going-on : (spoken word : ℕ) (m mask : Lane) (order turn : ℕ) (stored : Stored) → Answer
+going-on n v m l o x u =
+    record {
+      number = 0;
+      index = 0;
+      spoken = n;
+      word = v;
+      state = record { m = m; mask = l; order = o; turn = x; stored = u };
+    }
 
 -- the answer of a walk from here to the next product or refresh, or to the end
 unfoldable pub reported : Worker → List Step → Cursor → Pair → Answer

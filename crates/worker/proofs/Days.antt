@@ -10,9 +10,9 @@ use lib.Dec.{ltb}
 use lib.ListN.{length, drop, drop-of-length-le}
 use Rattle.tables.specs.Table.{Row, Rules, rows}
 use Rattle.gates.specs.Gates.{Gate}
-use Rattle.gates.specs.Steps.{Lane, at, Step, end, origin}
+use Rattle.gates.specs.Steps.{Lane, at, Step, end, Cursor, origin}
 use Rattle.gates.specs.Meaning.{meaning, order-steps, job-steps}
-use Rattle.gates.specs.Walk.{Exchanging, far}
+use Rattle.gates.specs.Walk.{far}
 use Rattle.gates.specs.Codes.{At, fetched}
 use Rattle.gates.proofs.Fetched as Fetched
 use Rattle.gates.specs.Hosts.{Pair}
@@ -29,6 +29,7 @@ use Rattle.jobs.specs.Job.{order-at, job-gates}
 use Rattle.jobs.specs.CostTable.{curve-cost, kind-costs, kind-cost}
 use Rattle.jobs.proofs.CostTable.{cost-table}
 use Rattle.calls.specs.Lent.{Worker, worker-with}
+use Rattle.calls.specs.declared.Stored.{Stored}
 use Rattle.calls.specs.Calls.{Answer, report, hear-walk}
 use Rattle.calls.specs.Places.{Found, nowhere, found, seek}
 use Rattle.walks.specs.Workers.{cursor}
@@ -39,9 +40,8 @@ use Rattle.days.specs.Day.{day-factor, day-gates, day-steps}
 use Rattle.days.specs.Orders.{curve-order, mean-order, own-order, is-run, order-words, with-share, entered, left, front, within}
 use Rattle.days.specs.Orders.{first-tail, second-tail}
 use Rattle.days.proofs.Quarters.{day-gates-count, factor-tabled}
-use Rattle.days.proofs.Moved.{moved, same-gate}
-use Rattle.days.proofs.Lanes.{place, takes, any-share, first-word, second-word, first-short, second-short}
-use Rattle.days.proofs.Walked.{steps-are, day-from, inside, Held, Walked, halted, gone-by, begins, walked}
+use Rattle.days.proofs.Lanes.{takes, any-share, first-word, second-word, first-short, second-short}
+use Rattle.days.proofs.Walked.{steps-are, day-from, Held, Walked, halted, gone-by, begins, walked}
 use Rattle.days.proofs.Orders.{steps-whole, steps-within}
 use Rattle.days.proofs.Own.{own-job, own-at, own-length, own-spares}
 use Rattle.days.proofs.Heard as Heard
@@ -49,7 +49,8 @@ use Rattle.days.proofs.Idle.{idle-walk}
 use Rattle.days.proofs.Places.{seek-far, used-before, found-in-day, nowhere-in-day, nowhere-left-out}
 use Rattle.worker.proofs.Places.{found-here}
 use Rattle.worker.specs.Answers.{state-with}
-use Rattle.worker.specs.Jobs.{Sized}
+use Rattle.worker.specs.declared.place.Stand.{Stand}
+use Rattle.worker.specs.Jobs.{Sized, Stands}
 use Rattle.worker.specs.Days.{few-counts, used-until, sought-run, DayLent, DayPlace}
 
 -- one curve's counts
@@ -148,28 +149,10 @@ module _ (T : List ℕ) (f : ℕ → Bool) (o x : ℕ) (in-day : o ≤ 96) (g : 
         is = q .0;
       })
 
--- by the same numbers
-pub place-at : (T : List ℕ) (f : ℕ → Bool) (o x i a b n i′ a′ n′ : ℕ) → DayPlace T f o x i a b n → i′ ≡ i → a′ ≡ a → n′ ≡ n
-    → DayPlace T f o x i′ a′ b n′
-place-at T f o x i a b n i′ a′ n′ p ei ea en = rw (ei, ea, en) p
-
--- ---- the product or refresh where a state stands, in the day's steps
-
-pub there-in-day : (T : List ℕ) (f : ℕ → Bool) (o x i a b n : ℕ) → DayPlace T f o x i a b n
-    → (y : Step) × (ss : List Step)
-    × (steps-from 32 (length (front (day-factor f) o) + i) (drop o (day-gates 32 f (rows T))) ≡ y ∷ ss) × Exchanging (y ∷ [])
-there-in-day T f o x i a b n pl =
-    let own = program 32 (rows T) (own-order o) in
-    let g = pl .standing .held in
-    let there : fetched own i ≡ At g = ap (λ (q : Order). fetched (program 32 (rows T) q) i) (sym (own-at o)) ∙ pl .standing .there in
-    let h : i < length own = Fetched.inside own i g there in
-    let rest = job-steps 32 (drop (suc o) (day-gates 32 f (rows T))) in (
-      meaning 32 (moved (place o) g),
-      day-from 32 o (drop (suc i) own) rest,
-      steps-within 32 f (rows T) o (pl .in-day) (pl .run) i (omega arith)
-          ∙ ap (λ (gs : List Gate). day-from 32 o gs rest) (Fetched.first-left own i g there),
-      Heard.speaks-same (same-gate (place o) 32 g) (pl .standing .speaks),
-    )
+-- by the code's own numbers
+pub place-at : (T : List ℕ) (f : ℕ → Bool) (o x i a b n : ℕ) → DayPlace T f o x i a b n → (ord : Order) (z : Stand)
+    → Stands 32 (rows T) ord i a b n z → DayPlace T f o x (z .at .gate) (z .at .a) (z .b) (z .at .deals)
+place-at T f o x i a b n p ord z S = rw (S .gate, S .a-used, S .b-used, S .deals-used) p
 
 -- ---- an order begun
 
@@ -202,7 +185,8 @@ module _ (h : ℕ) (M D T S : List ℕ) (curve : Cost) (f : ℕ → Bool) (count
 
   -- the answer on the day's lanes, at the order's place
   abbrev at-order : Answer → Answer
-  at-order a = going-on (a .spoken) (a .word) (within k t₁ (a .state .m)) (within l t₂ (a .state .mask)) o (a .state .turn)
+  at-order a =
+      going-on (a .spoken) (a .word) (within k t₁ (a .state .m)) (within l t₂ (a .state .mask)) o (a .state .turn) (a .state .stored)
 
   -- the order's share is put into slot 15
   module _ (m c m₁ c₁ : Lane) (lm : length m ≡ 24) (lc : length c ≡ 24) (em : m₁ ≡ with-share (at S (o * 2)) m)
@@ -247,7 +231,7 @@ module _ (h : ℕ) (M D T S : List ℕ) (curve : Cost) (f : ℕ → Bool) (count
               (reported P (day-from 32 o own rest) (cursor o 0 a b n) (within k t₁ m₂, within l t₂ c₂))
               (reported P (map (meaning 32) own ++ (end ∷ [])) (cursor 0 0 a b n) (m₂, c₂))
               → (at-order x ≡ day) × Long x
-          go (halted v s r p q) = let y = e ∙ code-is ∙ p in (ap at-order y ∙ sym (day-is ∙ q), rw y (r .0 .long, r .1 .long))
+          go (halted v u s r p q) = let y = e ∙ code-is ∙ p in (ap at-order y ∙ sym (day-is ∙ q), rw y (r .0 .long, r .1 .long))
           go (gone-by a′ n′ s p r q y none) = absurd (own-speaks (rows T) o none)
 
     -- as the code has it in hand: the order's words, and what is used before it
@@ -267,14 +251,14 @@ module _ (h : ℕ) (M D T S : List ℕ) (curve : Cost) (f : ℕ → Bool) (count
 
     -- ---- gone on with, from the product or refresh at the place (o, x)
 
-    module _ (x i a b n : ℕ) (pl : DayPlace T f o x i a b n) (v : ℕ) where
+    module _ (x i a b n : ℕ) (pl : DayPlace T f o x i a b n) (stored : Stored) (v : ℕ) where
       abbrev heard-day : Answer
-      heard-day = report P (hear-walk P (state-with (within k t₁ m) (within l t₂ c) o x) v (seek o x (day-steps 32 T f) origin))
+      heard-day = report P (hear-walk P (state-with (within k t₁ m) (within l t₂ c) o x stored) v (seek o x (day-steps 32 T f) origin))
 
       abbrev heard-code : Answer
       heard-code =
           report P
-          (hear-walk P (state-with m₁ c₁ 0 x) v (found (steps-from 32 i (drop 0 (job-gates 32 (order-words o) T))) (cursor 0 x a b n)))
+          (hear-walk P (state-with m₁ c₁ 0 x stored) v (found (steps-from 32 i (drop 0 (job-gates 32 (order-words o) T))) (cursor 0 x a b n)))
 
       abbrev g : Gate
       g = pl .standing .held
@@ -289,50 +273,50 @@ module _ (h : ℕ) (M D T S : List ℕ) (curve : Cost) (f : ℕ → Bool) (count
           pl .is ∙ ap (λ (ss : List Step). found ss (cursor o x a b n)) (steps-within 32 f (rows T) o in-day run i (omega arith))
 
       day-heard : heard-day ≡ Heard.day h M D 32 o k l t₁ t₂ s₁ s₂ own (own-spares 32 (rows T) o) i g there (pl .standing .speaks) rest
-          x a b n m₁ c₁ taken v
+          x a b n m₁ c₁ taken stored v
       day-heard =
-          ap₂ (λ (y z : Lane). report P (hear-walk P (state-with y z o x) v (seek o x (day-steps 32 T f) origin))) same-first same-second
-          ∙ ap (λ (z : Found). report P (hear-walk P (state-with (within k t₁ m₁) (within l t₂ c₁) o x) v z)) found-is
+          ap₂ (λ (y z : Lane). report P (hear-walk P (state-with y z o x stored) v (seek o x (day-steps 32 T f) origin))) same-first same-second
+          ∙ ap (λ (z : Found). report P (hear-walk P (state-with (within k t₁ m₁) (within l t₂ c₁) o x stored) v z)) found-is
 
       code-heard : heard-code ≡ Heard.code h M D 32 o k l t₁ t₂ s₁ s₂ own (own-spares 32 (rows T) o) i g there (pl .standing .speaks) rest
-          x a b n m₁ c₁ taken v
+          x a b n m₁ c₁ taken stored v
       code-heard =
-          ap (λ (ss : List Step). report P (hear-walk P (state-with m₁ c₁ 0 x) v (found ss (cursor 0 x a b n)))) (own-steps 32 T o i)
+          ap (λ (ss : List Step). report P (hear-walk P (state-with m₁ c₁ 0 x stored) v (found ss (cursor 0 x a b n)))) (own-steps 32 T o i)
 
-      -- the code has gone by the order: the day stands before the next one, with so much used
+      -- the code has gone by the order: the day stands before the next one, with as much used as the answer stores
+      abbrev used-by : Answer → Cursor
+      used-by z = cursor (suc o) 0 (z .state .stored .a) (z .state .stored .b) (z .state .stored .deals)
+
       pub record GoneBy (z : Answer) : Type 0 where
-        pub a₁ : ℕ
-        pub n₁ : ℕ
-        pub day-there : heard-day
-            ≡ reported P rest (cursor (suc o) 0 a₁ (z .spoken) n₁) (within k t₁ (left 32 o (z .state .m)), within l t₂ (left 32 o (z .state .mask)))
+        pub day-there : heard-day ≡ reported P rest (used-by z) (within k t₁ (left 32 o (z .state .m)), within l t₂ (left 32 o (z .state .mask)))
         pub long-there : (length (left 32 o (z .state .m)) ≡ 24) × (length (left 32 o (z .state .mask)) ≡ 24)
-        pub all-there : far rest (cursor (suc o) 0 a₁ (z .spoken) n₁) ≡ far (day-steps 32 T f) origin
+        pub all-there : far rest (used-by z) ≡ far (day-steps 32 T f) origin
 
       abbrev Walks : Type 0
       Walks =
           Walked h M D 32 o k l t₁ t₂ s₁ s₂ rest (suc x) (suc b) (program-cost 32 (drop (suc i) own) .b)
           (far (day-from 32 o (drop i own) rest) (cursor o x a b n))
-          (Heard.day h M D 32 o k l t₁ t₂ s₁ s₂ own (own-spares 32 (rows T) o) i g there (pl .standing .speaks) rest x a b n m₁ c₁ taken v)
-          (Heard.code h M D 32 o k l t₁ t₂ s₁ s₂ own (own-spares 32 (rows T) o) i g there (pl .standing .speaks) rest x a b n m₁ c₁ taken v)
+          (Heard.day h M D 32 o k l t₁ t₂ s₁ s₂ own (own-spares 32 (rows T) o) i g there (pl .standing .speaks) rest x a b n m₁ c₁ taken stored v)
+          (Heard.code h M D 32 o k l t₁ t₂ s₁ s₂ own (own-spares 32 (rows T) o) i g there (pl .standing .speaks) rest x a b n m₁ c₁ taken stored v)
 
       both-walk : Walks
       both-walk =
-          Heard.heard-walked h M D 32 o k l t₁ t₂ s₁ s₂ own (own-spares 32 (rows T) o) i g there (pl .standing .speaks) rest x a b n m₁ c₁ taken v
+          Heard.heard-walked h M D 32 o k l t₁ t₂ s₁ s₂ own (own-spares 32 (rows T) o) i g there (pl .standing .speaks) rest x a b n m₁ c₁ taken stored v
 
       module _ (J : List ℕ) (eJ : J ≡ order-words o) (z : Answer)
-          (ez : z ≡ report P (hear-walk P (state-with m₁ c₁ 0 x) v (found (steps-from 32 i (drop 0 (job-gates 32 J T))) (cursor 0 x a b n))))
+          (ez : z ≡ report P (hear-walk P (state-with m₁ c₁ 0 x stored) v (found (steps-from 32 i (drop 0 (job-gates 32 J T))) (cursor 0 x a b n))))
         where
           e : z ≡ heard-code
           e =
               ez
               ∙ ap (λ (j : List ℕ). report P
-              (hear-walk P (state-with m₁ c₁ 0 x) v (found (steps-from 32 i (drop 0 (job-gates 32 j T))) (cursor 0 x a b n)))) eJ
+              (hear-walk P (state-with m₁ c₁ 0 x stored) v (found (steps-from 32 i (drop 0 (job-gates 32 j T))) (cursor 0 x a b n)))) eJ
 
           pub halts-in : z .state .order ≡ 0 → (at-order z ≡ heard-day) × Long z
           halts-in ends = go both-walk
             where
               go : Walks → (at-order z ≡ heard-day) × Long z
-              go (halted u s r p q) = let y = e ∙ code-heard ∙ p in (ap at-order y ∙ sym (day-heard ∙ q), rw y (r .0 .long, r .1 .long))
+              go (halted v u s r p q) = let y = e ∙ code-heard ∙ p in (ap at-order y ∙ sym (day-heard ∙ q), rw y (r .0 .long, r .1 .long))
               go (gone-by a′ n′ s p r q y none) =
                   let w : _≡_ {A = ℕ} 1 0 = sym (ap (λ (x : Answer). x .state .order) (e ∙ code-heard ∙ p)) ∙ ends in absurd (omega arith)
 
@@ -340,19 +324,19 @@ module _ (h : ℕ) (M D T S : List ℕ) (curve : Cost) (f : ℕ → Bool) (count
           goes-by on = go both-walk
             where
               go : Walks → GoneBy z
-              go (halted u s r p q) = absurd (on (ap (λ (x : Answer). x .state .order) (e ∙ code-heard ∙ p)))
+              go (halted v u s r p q) = absurd (on (ap (λ (x : Answer). x .state .order) (e ∙ code-heard ∙ p)))
               go (gone-by a′ n′ s p r q y none) =
                   let w = e ∙ code-heard ∙ p in
                   let all = seek-far o x (day-steps 32 T f) origin _ _ found-is in
                   rw w
-                  (record { a₁ = a′; n₁ = n′; day-there = day-heard ∙ q; long-there = (r .0 .long, r .1 .long); all-there = sym y ∙ all })
+                  (record { day-there = day-heard ∙ q; long-there = (r .0 .long, r .1 .long); all-there = sym y ∙ all })
 
           module _ (on : z .state .order ≡ 0 → ⊥) (m₃ c₃ : Lane) (fm : m₃ ≡ left 32 o (z .state .m)) (fc : c₃ ≡ left 32 o (z .state .mask)) where
             pub long-left : (length m₃ ≡ 24) × (length c₃ ≡ 24)
             long-left = rw (fm, fc) (goes-by on .long-there)
 
             -- the mean is the last order
-            pub ends-day : o ≡ 96 → going-on (z .spoken) 0 (within k t₁ m₃) (within l t₂ c₃) (o + 1) 0 ≡ heard-day
+            pub ends-day : o ≡ 96 → going-on (z .state .stored .b) 0 (within k t₁ m₃) (within l t₂ c₃) (o + 1) 0 (z .state .stored) ≡ heard-day
             unfolding job-steps
             ends-day last =
                 let q = goes-by on in
@@ -360,9 +344,9 @@ module _ (h : ℕ) (M D T S : List ℕ) (curve : Cost) (f : ℕ → Bool) (count
                 drop-of-length-le (day-gates 32 f (rows T)) {i = suc o} (omega (arith, day-gates-count 32 f (rows T))) in
                 rw (fm, fc, add-one o)
                 (sym (q .day-there
-                ∙ ap (λ (os : List (List Gate)). reported P (job-steps 32 os) (cursor (suc o) 0 (q .a₁) (z .spoken) (q .n₁))
+                ∙ ap (λ (os : List (List Gate)). reported P (job-steps 32 os) (used-by z)
                 (within k t₁ (left 32 o (z .state .m)), within l t₂ (left 32 o (z .state .mask)))) none
-                ∙ ends P [] (suc o) 0 (q .a₁) (z .spoken) (q .n₁) _))
+                ∙ ends P [] (suc o) 0 (z .state .stored .a) (z .state .stored .b) (z .state .stored .deals) _))
 
             -- the quarters up to order o₁ are left out
             pub next-order : (o₁ : ℕ) → o < o₁ → o₁ ≤ 96 → ((q : ℕ) → suc o ≤ q → q < o₁ → f q ≡ false)
@@ -372,6 +356,7 @@ module _ (h : ℕ) (M D T S : List ℕ) (curve : Cost) (f : ℕ → Bool) (count
             unfolding used-until
             next-order o₁ later in-day₁ out =
                 let q = goes-by on in
-                let j = idle-walk h M D 32 f (rows T) (suc o) o₁ later in-day₁ out (q .a₁) (z .spoken) (q .n₁) in
-                let u = used-before T f o₁ (q .a₁) (z .spoken) (q .n₁) in-day₁ (sym (j .1) ∙ q .all-there) in
+                let y = z .state .stored in
+                let j = idle-walk h M D 32 f (rows T) (suc o) o₁ later in-day₁ out (y .a) (y .b) (y .deals) in
+                let u = used-before T f o₁ (y .a) (y .b) (y .deals) in-day₁ (sym (j .1) ∙ q .all-there) in
                 rw (fm, fc, L .counts, ← u .0, ← u .1, ← u .2) (sym (q .day-there ∙ j .0 _))

@@ -12,6 +12,8 @@ use Rattle.gates.specs.Gates.{Gate}
 use Rattle.gates.specs.Steps.{Lane}
 use Rattle.gates.specs.Hosts.{Pair}
 use Rattle.gates.specs.Codes.{At, fetched, read, step-of}
+use Rattle.gates.specs.declared.Used.{Used}
+use Rattle.gates.specs.Costs.{used-at}
 use Rattle.tables.specs.Table.{Row}
 use Rattle.programs.specs.declared.Order.{Order}
 use Rattle.programs.specs.Orders.{program}
@@ -20,7 +22,8 @@ use Rattle.program_fetch.specs.Pieces.{piece-gates}
 use Rattle.program_fetch.proofs.Stands.{Stands}
 use Rattle.program_fetch.proofs.PieceSteps.{inside, outside, first-step, piece-cut, gates-behind}
 use Rattle.calls.specs.Lent.{Worker, worker-with}
-use Rattle.calls.specs.Calls.{Answer, word-at}
+use Rattle.calls.specs.declared.Stored.{Stored}
+use Rattle.calls.specs.Calls.{stored-places, Answer, word-at}
 use Rattle.walks.specs.Workers.{cursor}
 use Rattle.walks.specs.Halts.{going-on, reported, steps-from, Going}
 use Rattle.gates.proofs.Fetched.{first-left, never}
@@ -84,10 +87,13 @@ module _ (w : ℕ) (ps : List Row) (ord : Order) (i : ℕ) (p : Piece) (S : Stan
     from-here = reported P (steps-from w i (drop o programs)) (cursor o x a b dealt) s
 
     pub at-exchange : 15 ≤ c .op → c .op < 20 → (v : ℕ)
-        → v ≡ word-at (P .say) (step-of w c ∷ []) (cursor 0 0 a′ b dealt′) (m, l) → from-here ≡ going-on (b + 1) v m l o x
-    at-exchange lo hi v ev =
+        → v ≡ word-at (P .say) (step-of w c ∷ []) (cursor 0 0 a′ b dealt′) (m, l)
+        → (u : Used) → u ≡ used-at (step-of w c) → (z : Stored) → z ≡ stored-places (a′ + u .a) (b + 1) (dealt′ + u .deals)
+        → from-here ≡ going-on (z .b) v m l o x z
+    at-exchange lo hi v ev u eu z ez =
         Programs.halted w h M D programs o x i a b dealt s _ e hs (gates-behind w ps ord i p S) (p .from) (piece-cut w ps ord i p S)
-        j a′ dealt′ m l q (step-of w c) _ (exchanging-code w c lo hi) (first-step w hs j c ec (inside w hs j c ec hi)) v ev
+        j a′ dealt′ m l q (step-of w c) _ (exchanging-code w c lo hi) (first-step w hs j c ec (inside w hs j c ec hi)) v ev u eu
+        ∙ ap (λ (y : Stored). going-on (y .b) v m l o x y) (sym ez)
 
     module _ (past : 20 ≤ c .op) where
       over : drop j hs ≡ []

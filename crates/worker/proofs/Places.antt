@@ -1,39 +1,41 @@
 -- A state's place in its job, as the code finds it: which gate stands there, and what is used before it. Assumes nothing.
-use mathlib.Core.Path.{_≡_, sym, ap, subst, _∙_}
+use mathlib.Core.Path.{_≡_, refl, sym, ap, subst, _∙_}
+use mathlib.Core.Bool.{Bool, true, false, not, cond}
 use mathlib.Core.List.{List, [], _∷_}
 use Prim.Native.Nat.{ℕ, _+_, _*_, _/_, _^_, _≤_, _<_}
 use native.Mathlib.Omega.{arith}
 use lib.ListN.{length, getD, take, drop}
+use lib.Seq.{take-all}
 use Rattle.tables.specs.Table.{rows}
 use Rattle.gates.specs.Gates.{Gate}
-use Rattle.gates.specs.declared.GateCode.{GateCode}
 use Rattle.gates.specs.Steps.{Step, origin}
 use Rattle.gates.specs.Meaning.{meaning, job-steps}
 use Rattle.gates.specs.Walk.{Exchanging}
-use Rattle.gates.specs.Costs.{Cost}
+use Rattle.gates.specs.Costs.{Cost, cost, used-at}
 use Rattle.programs.specs.declared.Order.{Order}
 use Rattle.programs.specs.Orders.{program}
-use Rattle.gates.specs.Codes.{At, fetched, read, step-of}
-use Rattle.gates.proofs.Codes.{read-at}
+use Rattle.gates.specs.Codes.{At, fetched, step-of}
+use Rattle.gates.proofs.Uses.{few-used}
 use Rattle.programs.specs.declared.Sought.{Sought}
 use Rattle.programs.specs.declared.Sought.the-variants.{Nowhere}
 use Rattle.programs.specs.declared.Sought.the-variants as Sought
 use Rattle.programs.specs.Seek.{sought}
-use Rattle.program_fetch.specs.declared.Piece.{Piece}
-use Rattle.program_fetch.specs.Pieces.{piece-gates}
-use Rattle.program_fetch.proofs.Stands.{Stands}
-use Rattle.jobs.specs.Job.{Fault, job-fault, job-gates, job-cost, order-at}
+use Rattle.jobs.specs.Job.{Fault, job-fault, job-gates, job-cost, order-at, steps-of}
 use Rattle.calls.specs.Scripts.{job-script}
 use Rattle.calls.specs.Lent.{lent-fault, lent, passed}
 use Rattle.calls.specs.Places.{nowhere, found, seek}
+use Rattle.calls.specs.declared.Stored.{Stored}
+use Rattle.calls.specs.Calls.{stored-at, same-places}
+use Rattle.calls.proofs.Hearing.{same-told, same-tells}
 use Rattle.calls.proofs.Faults.{no-fault}
 use Rattle.walks.specs.Workers.{cursor}
 use Rattle.walks.specs.Halts.{steps-from}
 use Rattle.walks.proofs.Gates.{steps-at}
+use Rattle.walks.proofs.Halts.{with-own}
 use Rattle.walks.proofs.Before.{before}
 use Rattle.walks.proofs.Places.{no-place, found-at}
-use Rattle.worker.specs.Jobs.{Sized, Standing}
-use Rattle.worker.proofs.Pieces.{gate-there}
+use Rattle.worker.specs.declared.place.Stand.{Stand}
+use Rattle.worker.specs.Jobs.{Sized, Standing, Stands}
 use Rattle.jobs.proofs.Indices.{gates-count, gates-drop, gates-at, cost-before}
 
 -- a state stands there, all its numbers are small, and it is what `seek` finds: the gate i, with a words of A, b of B and so many
@@ -48,10 +50,38 @@ pub record There (w : ℕ) (job table : List ℕ) (o x i a b dealt : ℕ) : Type
   pub is : seek o x (job-steps w (job-gates w job table)) origin
       ≡ found (steps-from w i (drop o (job-gates w job table))) (cursor o x a b dealt)
 
--- by the same numbers
-pub there-at : (w : ℕ) (job table : List ℕ) (o x i a b dealt i′ a′ dealt′ : ℕ) → There w job table o x i a b dealt
-    → i′ ≡ i → a′ ≡ a → dealt′ ≡ dealt → There w job table o x i′ a′ b dealt′
-there-at w job table o x i a b n i′ a′ n′ h ei ea en = rw (ei, ea, en) h
+-- ---- stored places, as the code compares them with the walk's
+
+apart : false ≡ true → ⊥
+apart e = subst (λ (b : Bool). cond b ⊥ Unit) e tt
+
+module _ (u v w : Stored) (e : v ≡ w) where
+  pub are-equal : (r : Bool) → r ≡ same-places u v → not r ≡ false → u ≡ w
+  are-equal true is t = same-tells u v (sym is) ∙ e
+  are-equal false is t = absurd (apart (sym t))
+
+  pub are-unequal : (r : Bool) → r ≡ same-places u v → not r ≡ true → u ≡ w → ⊥
+  are-unequal true is t p = absurd (apart t)
+  are-unequal false is t p = apart (is ∙ same-told u v (p ∙ sym e))
+
+-- ---- where a hearing stands
+
+-- by the code's own numbers
+pub stands-own : (w : ℕ) (table : List ℕ) (ord : Order) (i a b dealt : ℕ) (z : Stand) → Stands w (rows table) ord i a b dealt z
+    → Stands w (rows table) ord (z .at .gate) (z .at .a) (z .b) (z .at .deals) z
+stands-own w table ord i a b n z S =
+    record {
+      gate = refl;
+      a-used = refl;
+      b-used = refl;
+      deals-used = refl;
+      fetches = λ g e. S .fetches g (ap (λ (k : ℕ). fetched (program w (rows table) ord) k) (sym (S .gate)) ∙ e);
+      places = rw (S .a-used, S .b-used, S .deals-used) (S .places);
+    }
+
+pub there-at : (w : ℕ) (job table : List ℕ) (o x i a b dealt : ℕ) → There w job table o x i a b dealt → (ord : Order) (z : Stand)
+    → Stands w (rows table) ord i a b dealt z → There w job table o x (z .at .gate) (z .at .a) (z .b) (z .at .deals)
+there-at w job table o x i a b n h ord z S = rw (S .gate, S .a-used, S .b-used, S .deals-used) h
 
 module _ (w : ℕ) (job table : List ℕ) where
   -- the program of the order at o
@@ -111,21 +141,46 @@ module _ (w : ℕ) (job table : List ℕ) where
           eu ∙ ap (λ (m : ℕ). passed m (job-cost w (take (o * 4) job) table)) z ∙ cost-before w job table o (omega arith) in
           subst (λ (r : Cost). There w job table o x g (r .a + a) (r .b + x) (r .deals + dealt)) (sym b) H
 
-  -- ---- the code's gate is the one where the state stands: by the piece of its order that holds it
+    -- past the last order all of the job is counted
+    pub whole-job : Sized w job table → (o : ℕ) → length job / 4 ≤ o → (u : Cost) → u ≡ passed n (job-cost w (take (o * 4) job) table)
+        → u ≡ cost (job-steps w (job-gates w job table))
+    unfolding passed job-cost steps-of
+    whole-job Z o l u eu =
+        eu
+        ∙ ap (λ (m : ℕ). passed m (job-cost w (take (o * 4) job) table)) z
+        ∙ ap (λ (J : List ℕ). job-cost w J table) (take-all (o * 4) job (omega (arith, Z .whole-orders)))
 
-  module _ (o i : ℕ) (S : Standing w job table o i) (ord : Order) (eo : ord ≡ order-at job o) (p : Piece)
-      (sp : Stands w (rows table) ord i p) (c : GateCode) (ec : read c ≡ fetched (piece-gates w (rows table) p) (p .from)) where
-    own-step : step-of w c ≡ meaning w (S .held)
-    own-step =
-        let e : fetched (program w (rows table) ord) i ≡ At (S .held) =
-        ap (λ (z : Order). fetched (program w (rows table) z) i) eo ∙ S .there in
-        read-at w c (S .held) (ec ∙ gate-there w (rows table) ord i p sp (S .held) e)
+  -- ---- the code's gate is the one where the state stands
+
+  module _ (o i a b dealt : ℕ) (S : Standing w job table o i) (z : Stand)
+      (Z : Stands w (rows table) (order-at job o) i a b dealt z) where
+    own-step : step-of w (z .gate) ≡ meaning w (S .held)
+    own-step = Z .fetches (S .held) (S .there)
 
     pub steps-here : steps-from w i (drop o (job-gates w job table))
-        ≡ step-of w c ∷ steps-from w (i + 1) (drop o (job-gates w job table))
+        ≡ step-of w (z .gate) ∷ steps-from w (i + 1) (drop o (job-gates w job table))
     steps-here =
         steps-at w (job-gates w job table) o i _ (gates-drop w job table o (S .in-job)) (S .held) (S .there)
         ∙ ap (λ (y : Step). y ∷ steps-from w (i + 1) (drop o (job-gates w job table))) (sym own-step)
 
-    pub speaks-here : Exchanging (step-of w c ∷ [])
+    pub speaks-here : Exchanging (step-of w (z .gate) ∷ [])
     speaks-here = subst (λ (y : Step). Exchanging (y ∷ [])) (sym own-step) (S .speaks)
+
+    -- the walk's places there
+    pub walked-here : (x : ℕ)
+        → z .stored ≡ stored-at (step-of w (z .gate) ∷ steps-from w (i + 1) (drop o (job-gates w job table))) (cursor o x a b dealt)
+    walked-here x =
+        Z .places
+        ∙ sym (with-own (step-of w (z .gate)) _ (used-at (step-of w (z .gate))) refl speaks-here o x a b dealt)
+
+    -- what is used behind it
+    pub behind-a : z .stored .a ≡ a + used-at (step-of w (z .gate)) .a
+    behind-a = ap (λ (u : Stored). u .a) (Z .places)
+
+    pub behind-deals : z .stored .deals ≡ dealt + used-at (step-of w (z .gate)) .deals
+    behind-deals = ap (λ (u : Stored). u .deals) (Z .places)
+
+    pub few-behind : (z .stored .a ≤ a + 2) × (z .stored .deals ≤ dealt + 1)
+    few-behind =
+        let f = few-used (step-of w (z .gate)) (used-at (step-of w (z .gate))) refl in
+        (omega (arith, f, behind-a), omega (arith, f, behind-deals))

@@ -19,7 +19,8 @@ use Rattle.programs.specs.declared.Sought.the-variants.{Nowhere}
 use Rattle.programs.specs.Orders.{program}
 use Rattle.programs.specs.Seek.{sought}
 use Rattle.days.specs.Orders.{own-order, is-run, order-words, front}
-use Rattle.worker.specs.Jobs.{Standing}
+use Rattle.worker.specs.declared.place.Stand.{Stand}
+use Rattle.worker.specs.Jobs.{Standing, Stands}
 
 -- few enough that a day of them fits
 abbrev pub few-counts : Cost → Type 0
@@ -58,3 +59,8 @@ pub record DayPlace (table : List ℕ) (f : ℕ → Bool) (o x i a b dealt : ℕ
   pub is : seek o x (day-steps 32 table f) origin
       ≡ found (steps-from 32 (length (front (day-factor f) o) + i) (drop o (day-gates 32 f (rows table))))
       (cursor o x a b dealt)
+
+-- the code's gate there, of its own order, and the walk's places
+abbrev pub DayStands : (table : List ℕ) (o : ℕ) → Stand → Type 0
+DayStands table o s =
+    Stands 32 (rows table) (own-order o) (s .at .gate) (s .at .a) (s .b) (s .at .deals) s

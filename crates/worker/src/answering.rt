@@ -1,10 +1,28 @@
 // The answers of starting and hearing.
 ghost use mathlib.Core.Path.{_≡_};
 ghost use Rattle.calls.specs.Calls as Calls;
-ghost use Rattle.walks.specs.Halts.{going-on};
-ghost use Rattle.worker.specs.Answers.{answer-of, state-of};
+ghost use Rattle.worker.specs.Answers.{answer-of, state-of, state-with, halt-on};
 use crate::Answer;
 use crate::State;
+use crate::walk::Halt;
+use calls::Stored;
+
+// Before the first order, with nothing used.
+pub(crate) fn first_state(m: [u32; 24], mask: [u32; 24]) -> State
+    ensures { λ r. ⌜ state-of r ≡ state-with m mask 0 0 (Calls.stored-places 0 0 0) ⌝ }
+{
+    State {
+        m,
+        mask,
+        order: 0,
+        turn: 0,
+        stored: Stored {
+            a: 0,
+            b: 0,
+            deals: 0,
+        },
+    }
+}
 
 // Every other number in a refused answer is 0.
 pub(crate) fn refused(number: u32, index: u32, s: State) -> Answer
@@ -19,26 +37,22 @@ pub(crate) fn refused(number: u32, index: u32, s: State) -> Answer
     }
 }
 
-pub(crate) fn answered(
-    spoken: u32,
-    word: u32,
-    m: [u32; 24],
-    mask: [u32; 24],
-    order: u32,
-    turn: u32,
-) -> Answer
-    ensures { λ r. ⌜ answer-of r ≡ going-on spoken word m mask order turn ⌝ }
+// Where a walk halted, on these lanes: the words spoken so far are as many as words of B used.
+pub(crate) fn answered(h: Halt, m: [u32; 24], mask: [u32; 24]) -> Answer
+    ensures { λ r. ⌜ answer-of r ≡ halt-on h m mask ⌝ }
 {
+    let stored = h.stored;
     Answer {
         number: 0,
         index: 0,
-        spoken,
-        word,
+        spoken: stored.b,
+        word: h.word,
         state: State {
             m,
             mask,
-            order,
-            turn,
+            order: h.order,
+            turn: h.turn,
+            stored,
         },
     }
 }

@@ -8,38 +8,44 @@ ghost use Rattle.tables.specs.Table.{rows};
 ghost use Rattle.gates.specs.Meaning.{job-steps};
 ghost use Rattle.gates.specs.Steps.{origin};
 ghost use Rattle.jobs.specs.Counts.{counted};
+ghost use Rattle.calls.specs.declared.Stored.{Stored};
 ghost use Rattle.calls.specs.Calls as Calls;
 ghost use Rattle.calls.specs.Lent.{lent, lent-fault, worker-with};
 ghost use Rattle.calls.specs.Places.{seek};
 ghost use Rattle.walks.specs.Workers.{cursor};
-ghost use Rattle.walks.specs.Halts.{going-on, reported};
+ghost use Rattle.walks.specs.Halts.{reported};
 ghost use Rattle.calendars.specs.Quarters.{held};
 ghost use Rattle.days.specs.Day.{hours, day-gates, day-steps, day-script};
 ghost use Rattle.days.specs.DayCalls.{day-start, day-hear};
 ghost use Rattle.days.specs.Orders.{is-run, within, first-tail, second-tail};
-ghost use Rattle.worker.specs.Answers.{answer-of, state-of, state-with};
-ghost use Rattle.worker.specs.Days.{DayLent, DayPlace, SameDay, used-until};
+ghost use Rattle.worker.specs.Answers.{answer-of, state-of, state-with, halt-on};
+ghost use Rattle.worker.specs.Days.{DayLent, DayPlace, DayStands, SameDay, used-until};
 use crate::Answer;
 use crate::State;
 use crate::answering::answered;
+use crate::answering::first_state;
 use crate::answering::refused;
 use crate::day_place::place_in;
 use crate::day_place::used_before;
-use crate::hearing::end_fault;
-use crate::hearing::reach_of;
 use crate::hearing::resume;
+use crate::place::Stand;
+use crate::place::are_same;
+use crate::place::end_fault;
+use crate::place::stand_at;
 use crate::walk::Halt;
 use crate::walk::advance;
 use crate::walk::halted;
 use calendars::next_counted;
 use call_check::Day;
 use call_check::check_day_lent;
+use calls::Stored;
 use day_order::QUARTERS;
 use day_order::SHARE_SLOT;
 use day_order::enter;
 use day_order::leave;
 use day_order::order_words;
 use day_order::take_share;
+use job_order::order_at;
 use programs::Sought;
 use word_lists::at;
 use word_lists::put;
@@ -63,8 +69,8 @@ fn begin(
     ensures long { λ r. ⌜ (length (now (m .exit)) ≡ 24) × (length (now (mask .exit)) ≡ 24) ⌝ }
     ensures halt { λ r.
         ⌜ ((k l : ℕ)
-        → going-on (r .spoken) (r .word) (within k (first-tail (now (shares .entry))) (now (m .exit)))
-        (within l (second-tail (now (shares .entry))) (now (mask .exit))) (r .order) (r .turn)
+        → halt-on r (within k (first-tail (now (shares .entry))) (now (m .exit)))
+        (within l (second-tail (now (shares .entry))) (now (mask .exit)))
         ≡ reported (worker-with host (now (masks .entry)) (now (deals .entry)))
         (job-steps 32 (drop order (day-gates 32 (held (day .quarters)) (rows (now (table .entry))))))
         (cursor order 0 (used-until (held (day .quarters)) (counted (day .curve)) order .a)
@@ -96,7 +102,8 @@ fn begin(
         from,
         used.b as usize,
     );
-    halted(h.spoken, h.word, order, h.turn)
+    let stored = h.stored;
+    halted(h.word, order, h.turn, stored)
 }
 
 // The other's word is heard at a product of an order. Where the order ends behind it, the next one that is run begins.
@@ -111,22 +118,23 @@ fn go_on(
     order: u32,
     turn: u32,
     heard: u32,
-    at: Reach,
-    b: usize,
+    stand: Stand,
     day: Day,
 ) -> Halt
     requires { ⌜ DayLent (now table) (now shares) (counted (day .curve)) (held (day .quarters)) (day .n)
-        × DayPlace (now table) (held (day .quarters)) order turn (at .gate) (at .a) b (at .deals)
+        × DayPlace (now table) (held (day .quarters)) order turn (stand .at .gate) (stand .at .a) (stand .b)
+        (stand .at .deals)
+        × DayStands (now table) order stand
         × (length (now m) ≡ 24) × (length (now mask) ≡ 24) ⌝ }
     ensures long { λ r. ⌜ (length (now (m .exit)) ≡ 24) × (length (now (mask .exit)) ≡ 24) ⌝ }
     ensures halt { λ r.
-        ⌜ ((k l : ℕ)
-        → going-on (r .spoken) (r .word) (within k (first-tail (now (shares .entry))) (now (m .exit)))
-        (within l (second-tail (now (shares .entry))) (now (mask .exit))) (r .order) (r .turn)
+        ⌜ ((k l : ℕ) (u : Stored)
+        → halt-on r (within k (first-tail (now (shares .entry))) (now (m .exit)))
+        (within l (second-tail (now (shares .entry))) (now (mask .exit)))
         ≡ Calls.report (worker-with host (now (masks .entry)) (now (deals .entry)))
         (Calls.hear-walk (worker-with host (now (masks .entry)) (now (deals .entry)))
         (state-with (within k (first-tail (now (shares .entry))) (now (m .entry)))
-        (within l (second-tail (now (shares .entry))) (now (mask .entry))) order turn) heard
+        (within l (second-tail (now (shares .entry))) (now (mask .entry))) order turn u) heard
         (seek order turn (day-steps 32 (now (table .entry)) (held (day .quarters))) origin))) ⌝ }
 {
     take_share(shares, order, m, mask);
@@ -142,15 +150,15 @@ fn go_on(
         0,
         turn,
         heard,
-        at,
-        b,
+        stand,
     );
+    let stored = h.stored;
     if h.order == 0 {
-        return halted(h.spoken, h.word, order, h.turn);
+        return halted(h.word, order, h.turn, stored);
     }
     leave(order, m, mask);
     if order == QUARTERS {
-        return halted(h.spoken, 0, order + 1, 0);
+        return halted(0, order + 1, 0, stored);
     }
     let quarters = day.quarters;
     let next = next_counted(quarters, order + 1);
@@ -176,13 +184,7 @@ pub fn start_day(
     let mut mask = [0u32; 24];
     let lent = check_day_lent(host, table, shares, calendar, weekday, masks, deals);
     if lent.number != 0 {
-        let nothing = State {
-            m,
-            mask,
-            order: 0,
-            turn: 0,
-        };
-        return refused(lent.number, 0, nothing);
+        return refused(lent.number, 0, first_state(m, mask));
     }
     let day = lent.day;
     let quarters = day.quarters;
@@ -200,17 +202,18 @@ pub fn start_day(
     );
     put(&mut m, SHARE_SLOT, 0);
     put(&mut mask, SHARE_SLOT, 0);
-    answered(h.spoken, h.word, m, mask, h.order, h.turn)
+    answered(h, m, mask)
 }
 
-fn state(m: [u32; 24], mask: [u32; 24], order: u32, turn: u32) -> State
-    ensures { λ r. ⌜ state-of r ≡ state-with m mask order turn ⌝ }
+fn state(m: [u32; 24], mask: [u32; 24], order: u32, turn: u32, stored: Stored) -> State
+    ensures { λ r. ⌜ state-of r ≡ state-with m mask order turn stored ⌝ }
 {
     State {
         m,
         mask,
         order,
         turn,
+        stored,
     }
 }
 
@@ -228,12 +231,13 @@ fn hear_there(
     order: u32,
     turn: u32,
     heard: u32,
-    place: Reach,
-    b: usize,
+    stand: Stand,
     day: Day,
 ) -> Answer
     requires { ⌜ DayLent (now table) (now shares) (counted (day .curve)) (held (day .quarters)) (day .n)
-        × DayPlace (now table) (held (day .quarters)) order turn (place .gate) (place .a) b (place .deals)
+        × DayPlace (now table) (held (day .quarters)) order turn (stand .at .gate) (stand .at .a) (stand .b)
+        (stand .at .deals)
+        × DayStands (now table) order stand
         × SameDay (held (day .quarters)) (hours (now calendar) weekday)
         × ((0, 0)
         ≡ lent-fault
@@ -242,7 +246,7 @@ fn hear_there(
     ensures { λ r.
         ⌜ answer-of r
         ≡ day-hear 32 host (now (table .entry)) (now (shares .entry)) (hours (now (calendar .entry)) weekday)
-        (now (masks .entry)) (now (deals .entry)) (state-with m mask order turn) heard ⌝ }
+        (now (masks .entry)) (now (deals .entry)) (state-with m mask order turn (stand .stored)) heard ⌝ }
 {
     let mut m = m;
     let mut mask = mask;
@@ -259,13 +263,12 @@ fn hear_there(
         order,
         turn,
         heard,
-        place,
-        b,
+        stand,
         day,
     );
     put(&mut m, SHARE_SLOT, first);
     put(&mut mask, SHARE_SLOT, second);
-    answered(h.spoken, h.word, m, mask, h.order, h.turn)
+    answered(h, m, mask)
 }
 
 // Hearing, by the parts of a state.
@@ -281,33 +284,37 @@ fn hear_parts(
     mask: [u32; 24],
     order: u32,
     turn: u32,
+    stored: Stored,
     heard: u32,
 ) -> Answer
     ensures { λ r.
         ⌜ answer-of r
         ≡ day-hear 32 host (now (table .entry)) (now (shares .entry)) (hours (now (calendar .entry)) weekday)
-        (now (masks .entry)) (now (deals .entry)) (state-with m mask order turn) heard ⌝ }
+        (now (masks .entry)) (now (deals .entry)) (state-with m mask order turn stored) heard ⌝ }
 {
     let lent = check_day_lent(host, table, shares, calendar, weekday, masks, deals);
     if lent.number != 0 {
-        return refused(lent.number, 0, state(m, mask, order, turn));
+        return refused(lent.number, 0, state(m, mask, order, turn, stored));
     }
     if QUARTERS < order {
-        let number = end_fault(order as usize, QUARTERS as usize + 1, turn);
-        return refused(number, 0, state(m, mask, order, turn));
+        let end = QUARTERS as usize + 1;
+        let number = end_fault(order as usize, end, turn, lent.whole, stored);
+        return refused(number, 0, state(m, mask, order, turn, stored));
     }
-    let day = lent.day;
     let Sought::Found {
         gate,
         a,
         deals: dealt,
-    } = place_in(day, table, order, turn)
+    } = place_in(lent.day, table, order, turn)
     else {
-        return refused(8, 0, state(m, mask, order, turn));
+        return refused(8, 0, state(m, mask, order, turn, stored));
     };
-    let used = used_before(day, order);
-    let place = reach_of(used, gate, a, dealt);
-    let b = used.b as usize + turn as usize;
+    let job = order_words(order);
+    let used = used_before(lent.day, order);
+    let stand = stand_at(order_at(&job, 0), table, used, turn, gate, a, dealt);
+    if !are_same(stored, stand.stored) {
+        return refused(18, 0, state(m, mask, order, turn, stored));
+    }
     hear_there(
         host,
         table,
@@ -321,14 +328,13 @@ fn hear_parts(
         order,
         turn,
         heard,
-        place,
-        b,
-        day,
+        stand,
+        lent.day,
     )
 }
 
 impl State {
-    // Checks 1, 12, 16, 17, 5, 6 and 7 come first, then 8 and 9; a refusal gives the state back.
+    // Checks 1, 12, 16, 17, 5, 6 and 7 come first, then 8, 18 and 9; a refusal gives the state back.
     pub fn hear_day(
         self,
         host: u32,
@@ -347,6 +353,7 @@ impl State {
     {
         let m = self.m;
         let mask = self.mask;
+        let stored = self.stored;
         hear_parts(
             host,
             table,
@@ -359,6 +366,7 @@ impl State {
             mask,
             self.order,
             self.turn,
+            stored,
             heard,
         )
     }

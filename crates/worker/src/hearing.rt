@@ -1,62 +1,36 @@
 // Hearing: the place of a state is found, its own word worked out again, and the walk goes on with both.
 ghost use mathlib.Core.Path.{_≡_};
-ghost use mathlib.Core.Bool.{_&&_, cond};
-ghost use Prim.Native.Nat.{_+_, _^_, _<_};
-ghost use lib.Dec.{eqb};
+ghost use Prim.Native.Nat.{_^_, _<_};
 ghost use lib.ListN.{drop};
-ghost use Rattle.jobs.specs.Job.{job-gates};
+ghost use Rattle.tables.specs.Table.{rows};
+ghost use Rattle.jobs.specs.Job.{job-gates, order-at};
+ghost use Rattle.calls.specs.declared.Stored.{Stored};
 ghost use Rattle.calls.specs.Places.{found};
 ghost use Rattle.calls.specs.Calls as Calls;
 ghost use Rattle.calls.specs.Scripts.{job-script};
 ghost use Rattle.calls.specs.Lent.{lent, worker-with};
-ghost use Rattle.worker.specs.Answers.{answer-of, state-of, state-with};
+ghost use Rattle.worker.specs.Answers.{answer-of, state-of, state-with, halt-on};
 ghost use Rattle.walks.specs.Workers.{cursor};
-ghost use Rattle.walks.specs.Halts.{going-on, steps-from};
-ghost use Rattle.worker.specs.Jobs.{Sized, Standing};
+ghost use Rattle.walks.specs.Halts.{steps-from};
+ghost use Rattle.worker.specs.Jobs.{Sized, Standing, Stands};
 use crate::Answer;
 use crate::State;
 use crate::answering::answered;
 use crate::answering::refused;
+use crate::place::Stand;
+use crate::place::are_same;
+use crate::place::end_fault;
+use crate::place::stand_at;
 use crate::walk::Halt;
 use crate::walk::advance;
-use crate::walk::behind;
 use call_check::check_lent;
-use gate_shape::used_by;
 use job_order::order_at;
-use jobs::Counts;
-use program_fetch::gate_at;
-use program_fetch::piece_at;
 use program_seek::seek;
 use programs::Sought;
 use worker_gate::Reach;
 use worker_gate::meet;
 
-// Conditions 8 and 9 past the last order: the end is the number of orders and 0.
-pub(crate) fn end_fault(order: usize, n: usize, turn: u32) -> u32
-    ensures { λ r. ⌜ r ≡ cond (eqb order n && eqb turn 0) 9 8 ⌝ }
-{
-    if order == n {
-        if turn == 0 {
-            return 9;
-        }
-        return 8;
-    }
-    8
-}
-
-// The place in an order, with what the orders before use.
-pub(crate) fn reach_of(used: Counts, gate: usize, a: usize, dealt: usize) -> Reach
-    requires { ⌜ (used .a + a < 2 ^ 30) × (used .deals + dealt < 2 ^ 30) ⌝ }
-    ensures { λ r. ⌜ (r .gate ≡ gate) × (r .a ≡ used .a + a) × (r .deals ≡ used .deals + dealt) ⌝ }
-{
-    Reach {
-        gate,
-        a: used.a as usize + a,
-        deals: used.deals as usize + dealt,
-    }
-}
-
-// The other's word is heard at the product or refresh where the state stands, with b words spoken before it.
+// The other's word is heard at the product or refresh where the state stands; the walk goes on from its stored places.
 pub(crate) fn resume(
     host: u32,
     job: &[u32],
@@ -68,24 +42,29 @@ pub(crate) fn resume(
     order: u32,
     turn: u32,
     heard: u32,
-    at: Reach,
-    b: usize,
+    stand: Stand,
 ) -> Halt
-    requires { ⌜ Sized 32 (now job) (now table) × Standing 32 (now job) (now table) order (at .gate)
-        × (at .gate < 1000) × (turn < 1000)
-        × (at .a < 2 ^ 30) × (at .deals < 2 ^ 30) × (b < 2 ^ 30) ⌝ }
+    requires { ⌜ Sized 32 (now job) (now table) × Standing 32 (now job) (now table) order (stand .at .gate)
+        × Stands 32 (rows (now table)) (order-at (now job) order) (stand .at .gate) (stand .at .a) (stand .b)
+        (stand .at .deals) stand
+        × (stand .at .gate < 1000) × (turn < 1000)
+        × (stand .at .a < 2 ^ 30) × (stand .at .deals < 2 ^ 30) × (stand .b < 2 ^ 30) ⌝ }
     ensures { λ r.
-        ⌜ going-on (r .spoken) (r .word) (now (m .exit)) (now (mask .exit)) (r .order) (r .turn)
+        ⌜ ((u : Stored) → halt-on r (now (m .exit)) (now (mask .exit))
         ≡ Calls.report (worker-with host (now (masks .entry)) (now (deals .entry)))
         (Calls.hear-walk (worker-with host (now (masks .entry)) (now (deals .entry)))
-        (state-with (now (m .entry)) (now (mask .entry)) order turn) heard
-        (found (steps-from 32 (at .gate) (drop order (job-gates 32 (now (job .entry)) (now (table .entry)))))
-        (cursor order turn (at .a) b (at .deals)))) ⌝ }
+        (state-with (now (m .entry)) (now (mask .entry)) order turn u) heard
+        (found (steps-from 32 (stand .at .gate) (drop order (job-gates 32 (now (job .entry)) (now (table .entry)))))
+        (cursor order turn (stand .at .a) (stand .b) (stand .at .deals))))) ⌝ }
 {
-    let p = piece_at(order_at(job, order as usize), table, at.gate);
-    let g = gate_at(p, table, p.from);
-    meet(host, g, masks, deals, at, b, heard, m, mask);
-    let next = behind(used_by(g), at);
+    let at = stand.at;
+    let stored = stand.stored;
+    meet(host, stand.gate, masks, deals, at, stand.b, heard, m, mask);
+    let next = Reach {
+        gate: at.gate + 1,
+        a: stored.a as usize,
+        deals: stored.deals as usize,
+    };
     advance(
         host,
         job,
@@ -97,12 +76,12 @@ pub(crate) fn resume(
         order,
         turn + 1,
         next,
-        b + 1,
+        stand.b + 1,
     )
 }
 
 impl State {
-    // Checks 1 to 7 come first, then 8 and 9; a refusal gives the state back.
+    // Checks 1 to 7 come first, then 8, 18 and 9; a refusal gives the state back.
     pub fn hear(
         self,
         host: u32,
@@ -126,19 +105,22 @@ impl State {
         }
         let n = job.len() / 4;
         if n <= order {
-            return refused(end_fault(order, n, self.turn), 0, self);
+            let number = end_fault(order, n, self.turn, lent.counts, self.stored);
+            return refused(number, 0, self);
         }
+        let o = order_at(job, order);
         let Sought::Found {
             gate,
             a,
             deals: dealt,
-        } = seek(order_at(job, order), table, self.turn)
+        } = seek(o, table, self.turn)
         else {
             return refused(8, 0, self);
         };
-        let used = lent.counts;
-        let at = reach_of(used, gate, a, dealt);
-        let b = used.b as usize + self.turn as usize;
+        let stand = stand_at(o, table, lent.counts, self.turn, gate, a, dealt);
+        if !are_same(self.stored, stand.stored) {
+            return refused(18, 0, self);
+        }
         let mut m = self.m;
         let mut mask = self.mask;
         let h = resume(
@@ -152,9 +134,8 @@ impl State {
             self.order,
             self.turn,
             heard,
-            at,
-            b,
+            stand,
         );
-        answered(h.spoken, h.word, m, mask, h.order, h.turn)
+        answered(h, m, mask)
     }
 }

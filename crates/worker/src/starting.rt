@@ -6,8 +6,8 @@ ghost use Rattle.calls.specs.Lent.{lent};
 ghost use Rattle.worker.specs.Answers.{answer-of, lanes-of};
 use crate::Answer;
 use crate::Registers;
-use crate::State;
 use crate::answering::answered;
+use crate::answering::first_state;
 use crate::answering::refused;
 use crate::walk::advance;
 use call_check::check_lent;
@@ -37,13 +37,7 @@ pub fn start(
     copy_front(&first_mask, &mut mask, 16);
     let lent = check_lent(host, job, table, masks, deals, 0);
     if lent.number != 0 {
-        let given = State {
-            m,
-            mask,
-            order: 0,
-            turn: 0,
-        };
-        return refused(lent.number, lent.index, given);
+        return refused(lent.number, lent.index, first_state(m, mask));
     }
     let from = Reach {
         gate: 0,
@@ -63,5 +57,5 @@ pub fn start(
         from,
         0,
     );
-    answered(h.spoken, h.word, m, mask, h.order, h.turn)
+    answered(h, m, mask)
 }

@@ -8,10 +8,13 @@ ghost use Rattle.gates.specs.Steps.{Lane};
 ghost use Rattle.tables.specs.Table.{rows};
 ghost use Rattle.program_fetch.specs.Pieces.{piece-gates};
 ghost use Rattle.jobs.specs.Job.{job-gates};
+ghost use Rattle.calls.specs.Calls.{stored-places};
 ghost use Rattle.calls.specs.Lent.{worker-with};
 ghost use Rattle.walks.specs.Workers.{cursor};
 ghost use Rattle.walks.specs.Halts.{going-on, reported, steps-from, Going};
+ghost use Rattle.worker.specs.Answers.{halt-on};
 ghost use Rattle.worker.specs.Jobs.{Sized};
+use calls::Stored;
 use gate_shape::used_by;
 use gates::FIRST_EXCHANGE;
 use gates::GateCode;
@@ -33,23 +36,48 @@ struct Stop {
     gate: GateCode,
 }
 
-// Where a walk through a job halted: the words spoken so far, the word given, and the place.
+// Where a walk through a job halted: the word given, the place, and the walk's places there.
 pub(crate) struct Halt {
-    pub spoken: u32,
     pub word: u32,
     pub order: u32,
     pub turn: u32,
+    pub stored: Stored,
 }
 
-pub(crate) fn halted(spoken: u32, word: u32, order: u32, turn: u32) -> Halt
-    ensures { λ r. ⌜ ((m mask : Lane) →
-        going-on (r .spoken) (r .word) m mask (r .order) (r .turn) ≡ going-on spoken word m mask order turn) ⌝ }
+pub(crate) fn halted(word: u32, order: u32, turn: u32, stored: Stored) -> Halt
+    ensures { λ r. ⌜ ((m mask : Lane) → halt-on r m mask ≡ going-on (stored .b) word m mask order turn stored) ⌝ }
 {
     Halt {
-        spoken,
         word,
         order,
         turn,
+        stored,
+    }
+}
+
+// The walk's places at a product or refresh at which so much is used: with its own words (R-7), where b of B are used
+// before it.
+pub(crate) fn places_with(used: Used, at: Reach, b: usize) -> Stored
+    requires { ⌜ (used .a ≤ 2) × (used .deals ≤ 1)
+        × (at .a + 4 < 2 ^ 32) × (at .deals + 4 < 2 ^ 32) × (b + 4 < 2 ^ 32) ⌝ }
+    ensures { λ r. ⌜ r ≡ stored-places (at .a + used .a) (b + 1) (at .deals + used .deals) ⌝ }
+{
+    Stored {
+        a: (at.a + used.a) as u32,
+        b: b as u32 + 1,
+        deals: (at.deals + used.deals) as u32,
+    }
+}
+
+// The walk's places behind the last gate, where b words of B are used.
+fn places_at(at: Reach, b: usize) -> Stored
+    requires { ⌜ (at .a < 2 ^ 32) × (at .deals < 2 ^ 32) × (b < 2 ^ 32) ⌝ }
+    ensures { λ r. ⌜ r ≡ stored-places (at .a) b (at .deals) ⌝ }
+{
+    Stored {
+        a: at.a as u32,
+        b: b as u32,
+        deals: at.deals as u32,
     }
 }
 
@@ -67,7 +95,8 @@ pub(crate) fn behind(used: Used, at: Reach) -> Reach
     }
 }
 
-// Up to the piece's next product or refresh, or past its last gate. Each gate writes its one slot in place.
+// From where the piece stands up to its next product or refresh, or past its last gate, with so much used before. Each
+// gate writes its one slot in place.
 fn walk_piece(
     host: u32,
     p: Piece,
@@ -83,12 +112,16 @@ fn walk_piece(
     ensures { λ r.
         ⌜ Going 32 (worker-with host (now (masks .entry)) (now (deals .entry)))
         (piece-gates 32 (rows (now (table .entry))) p)
-        (from .gate) (from .a) (from .deals) (now (m .entry), now (mask .entry))
+        (p .from) (from .a) (from .deals) (now (m .entry), now (mask .entry))
         (r .at .gate) (r .at .a) (r .at .deals) (now (m .exit), now (mask .exit))
         × (read (r .gate) ≡ fetched (piece-gates 32 (rows (now (table .entry))) p) (r .at .gate))
         × (15 ≤ r .gate .op) ⌝ }
 {
-    let mut at = from;
+    let mut at = Reach {
+        gate: p.from,
+        a: from.a,
+        deals: from.deals,
+    };
     while at.gate < p.end {
         let gate = gate_at(p, table, at.gate);
         if FIRST_EXCHANGE <= gate.op {
@@ -108,7 +141,7 @@ fn walk_piece(
 }
 
 // From a place of an accepted job to the next product or refresh, or to the end, on the lanes in place: the halt there,
-// with b words spoken before.
+// with b words of B used before.
 pub(crate) fn advance(
     host: u32,
     job: &[u32],
@@ -123,9 +156,9 @@ pub(crate) fn advance(
     b: usize,
 ) -> Halt
     requires { ⌜ Sized 32 (now job) (now table) × (from .gate ≤ 1000)
-        × (from .a < 2 ^ 40) × (from .deals < 2 ^ 40) × (b < 2 ^ 31) ⌝ }
+        × (from .a < 2 ^ 31) × (from .deals < 2 ^ 31) × (b < 2 ^ 31) ⌝ }
     ensures { λ r.
-        ⌜ going-on (r .spoken) (r .word) (now (m .exit)) (now (mask .exit)) (r .order) (r .turn)
+        ⌜ halt-on r (now (m .exit)) (now (mask .exit))
         ≡ reported (worker-with host (now (masks .entry)) (now (deals .entry)))
         (steps-from 32 (from .gate) (drop order (job-gates 32 (now (job .entry)) (now (table .entry)))))
         (cursor order turn (from .a) b (from .deals)) (now (m .entry), now (mask .entry)) ⌝ }
@@ -143,17 +176,13 @@ pub(crate) fn advance(
             continue;
         }
         let p = piece_at(o, table, at.gate);
-        let inner = Reach {
-            gate: p.from,
-            a: at.a,
-            deals: at.deals,
-        };
-        let stop = walk_piece(host, p, table, masks, deals, inner, m, mask);
+        let stop = walk_piece(host, p, table, masks, deals, at, m, mask);
         let reached = stop.at;
         let g = stop.gate;
         if g.op < PAST {
             let word = say(host, g, masks, deals, reached, b, m, mask);
-            return halted(b as u32 + 1, word, order as u32, turn);
+            let stored = places_with(used_by(g), reached, b);
+            return halted(word, order as u32, turn, stored);
         }
         let mut gate = 0;
         if p.last {
@@ -168,5 +197,5 @@ pub(crate) fn advance(
             deals: reached.deals,
         };
     }
-    halted(b as u32, 0, order as u32, turn)
+    halted(0, order as u32, turn, places_at(at, b))
 }

@@ -1,6 +1,7 @@
 // Digit 9, a day (R-3) on the house table: all of it, with all quarters counted or 48 of them (R-6), or one hearing;
 // and, beside that, the same of a job of one curve.
 use crate::add;
+use calls::Stored;
 use dealer::prepare_day;
 use tables::HOUSE;
 use words::wrapping_mul;
@@ -121,7 +122,8 @@ fn running(
     add(add(results, s.two.spoken), add(left.l1[0], p.deals))
 }
 
-// Host 1 in the middle of a curve.
+// Host 1 at turn 60 of a house curve behind so many of them. A house curve uses 241 words of A, 120 of B and 121 deals,
+// each turn of its rows 2, 1 and 1.
 fn in_curve(order: u32, x: u32) -> State {
     let m = [x; 24];
     let mask = [7; 24];
@@ -130,6 +132,11 @@ fn in_curve(order: u32, x: u32) -> State {
         mask,
         order,
         turn: 60,
+        stored: Stored {
+            a: add(wrapping_mul(order, 241), 122),
+            b: add(wrapping_mul(order, 120), 61),
+            deals: add(wrapping_mul(order, 121), 61),
+        },
     }
 }
 

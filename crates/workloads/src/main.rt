@@ -3,6 +3,7 @@
 // but that they end and stay within their bounds.
 mod day;
 
+use calls::Stored;
 use day::summed_day;
 use dealer::Masks;
 use dealer::prepare;
@@ -96,22 +97,49 @@ const PROBED: [u32; 32] = [
     4,
 ];
 
+// At the first turn of each order of that job: words of B used, and deals.
+const PROBED_B: [u32; 10] = [1, 111, 112, 112, 124, 125, 126, 138, 137, 137];
+
+const PROBED_DEALS: [u32; 10] = [1, 111, 111, 113, 124, 126, 127, 138, 139, 139];
+
+// The stored places at a place of that job; wrong ones at the refresh of its curve, and elsewhere now and then one of
+// the three.
+fn probed(order: u32, turn: u32, x: u32) -> Stored {
+    let b = add(PROBED_B[(order % 10) as usize], turn);
+    let deals = add(PROBED_DEALS[(order % 10) as usize], turn);
+    let off = x / 7 % 16;
+    Stored {
+        a: add(add(b, deals), (off == 0) as u32),
+        b: add(b, (off == 1) as u32),
+        deals: add(deals, (off == 2) as u32),
+    }
+}
+
 // Hearing at places and with lists that a number names, refused or not.
 fn probing(a: &[u32], deals: &[u32], x: u32) -> u32 {
     let m = [x; 24];
     let mask = [7; 24];
+    let order = x / 4 % 10;
+    let turn = x / 40 % 260;
     let s = State {
         m,
         mask,
-        order: x / 4 % 10,
-        turn: x / 40 % 260,
+        order,
+        turn,
+        stored: probed(order, turn, x),
     };
     let short = front(a, (x / 1000 % 330) as usize);
     let fewer = front(deals, (x / 1300 % 200) as usize);
     let r = s.hear(x % 4, &PROBED, &HOUSE, short, fewer, 5);
     let fault = wrapping_mul(add(r.number, wrapping_mul(r.index, 1000)), 65537);
     let place = add(wrapping_mul(r.state.order, 31), r.state.turn);
-    add(fault, add(wrapping_mul(r.spoken, 257), place))
+    let left = r.state.stored;
+    let used = add(
+        left.a,
+        add(wrapping_mul(left.b, 3), wrapping_mul(left.deals, 5)),
+    );
+    let said = add(wrapping_mul(r.spoken, 257), wrapping_mul(used, 8191));
+    add(fault, add(said, place))
 }
 
 // One turn of a workload, by its digit, which goes by the sum so far: of curves 1 preparation, 2 and 3 starting hosts 1

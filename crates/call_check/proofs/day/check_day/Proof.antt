@@ -125,7 +125,8 @@ returns-5 c =
     let g = e .before .before in
     let k = g .before .before in (
       ap {B = Fault} (λ (n : ℕ). (n, 0)) (sym (n .if4 .left)) ∙ lists-are l,
-      day-found _ _ _ (k .before .if1 .left) _ (k .counted .ensures) (g .if2 .left) (kept e) _ (v .curve-counts .ensures) _ refl refl refl,
+      day-found _ _ _ (k .before .if1 .left) _ (k .counted .ensures) (g .if2 .left) (kept e) _ (v .curve-counts .ensures) _ _ refl refl refl
+          (l .before .before .day-counts .ensures),
     )
 
 pub check-day-spec : {M : Type 1} → statement M

@@ -37,11 +37,13 @@ faultless c = sym (ap (λ (f : Fault). f .0) (c .before .before .check-day-deale
 found-day : (c : tie.Else1)
     → let d = c .before .before in
     let s = d .before .before .before .before .before .before .before .before .args in
-    DayIs 0 (now (s .table)) (hours (now (s .calendar)) (s .weekday)) (d .check-day-dealer .result .day)
+    DayIs 0 (now (s .table)) (hours (now (s .calendar)) (s .weekday)) (d .check-day-dealer .result .day) (d .check-day-dealer .result .whole)
 found-day c =
     let d = c .before .before in
     let s = d .before .before .before .before .before .before .before .before .args in
-    subst (λ (n : ℕ). DayIs n (now (s .table)) (hours (now (s .calendar)) (s .weekday)) (d .check-day-dealer .result .day)) (c .if1 .left)
+    subst
+    (λ (n : ℕ). DayIs n (now (s .table)) (hours (now (s .calendar)) (s .weekday)) (d .check-day-dealer .result .day)
+    (d .check-day-dealer .result .whole)) (c .if1 .left)
     (d .check-day-dealer .ensures .1)
 
 deal-day-requires : tie.Need-deal-day-requires

@@ -14,9 +14,18 @@ element-copy-out-t10 c = search needs
 element-copy-out-t13 : tie.Need-element-copy-out-t13
 element-copy-out-t13 c = search needs
 
+element-copy-out-t16 : tie.Need-element-copy-out-t16
+element-copy-out-t16 c = search needs
+
+element-copy-out-t19 : tie.Need-element-copy-out-t19
+element-copy-out-t19 c = search needs
+
+element-copy-out-t22 : tie.Need-element-copy-out-t22
+element-copy-out-t22 c = search needs
+
 returns : tie.Need-returns
 returns c =
-    let second = c .before .before in
+    let second = c .before .before .before .before .before in
     rw (second .before .before .lane-at .ensures, second .lane-at2 .ensures)
 
 pub state-in-spec : {M : Type 1} → statement M
@@ -27,4 +36,7 @@ state-in-spec =
     lane-at-requires-2
     element-copy-out-t10
     element-copy-out-t13
+    element-copy-out-t16
+    element-copy-out-t19
+    element-copy-out-t22
     returns)

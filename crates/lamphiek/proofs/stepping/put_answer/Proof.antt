@@ -11,7 +11,7 @@ put-state-requires : tie.Need-put-state-requires
 put-state-requires c κs = search needs
 
 returns-2 : tie.Need-returns-2
-returns-2 c = (refl, c .put-state .ensures ∙ is-written _ _ _ (c .before .before .before .before .before .if1 .left))
+returns-2 c = (refl, c .put-state .ensures ∙ is-written _ _ _ (c .before .before .before .before .before .before .if1 .left))
 
 pub put-answer-spec : {M : Type 1} → statement M
 put-answer-spec = tie.close (tie.spec returns put-state-requires returns-2)

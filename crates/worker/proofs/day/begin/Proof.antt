@@ -47,8 +47,8 @@ few-used c =
 cast-advance : tie.Need-cast-advance
 cast-advance c = search needs
 
-cast-t20 : tie.Need-cast-t20
-cast-t20 c = search needs
+cast-t21 : tie.Need-cast-t21
+cast-t21 c = search needs
 
 order-words-requires : tie.Need-order-words-requires
 order-words-requires c κs = search needs
@@ -78,7 +78,7 @@ halted-requires c κs = search needs
 
 returns : tie.Need-returns
 returns c =
-    let ad = c .before in
+    let ad = c .before .before in
     let ow = ad .before .before .before .before .before in
     let ub = ow .before .before .before in
     let en = ub .before in
@@ -100,7 +100,7 @@ begin-spec =
     enter-requires
     used-before-requires
     cast-advance
-    cast-t20
+    cast-t21
     order-words-requires
     slice-aggregate-advance
     cast-advance-2

@@ -36,15 +36,12 @@ returns c =
     let a1 = a2 .before .before in
     let s = a1 .before .before .before .before .before .before .before in
     let a = s .args in
-    let h = g .go-on .result in
     c .answered .ensures
     ∙ rw (p1 .put .ensures, p2 .put2 .ensures)
     (hear-done (a .host) (now (a .table)) (now (a .shares)) (hours (now (a .calendar)) (a .weekday)) (now (a .masks)) (now (a .deals)) _
-    (s .pre .3)
-    (state-with (a .m) (a .mask) (a .order) (a .turn)) (omega (arith, s .good)) (omega (arith, s .good)) (a .heard) refl
-    (held (a .day .quarters)) (s .pre .2) _ _ _ _
-    (s .pre .1) (h .spoken) (h .word) (h .order) (h .turn) _ _ _ _ (g .go-on .ensures .0 .0) (g .go-on .ensures .0 .1) (a1 .at .ensures)
-    (a2 .at2 .ensures) (g .go-on .ensures .1 _ _))
+    (s .pre .4) (state-with (a .m) (a .mask) (a .order) (a .turn) (a .stand .stored)) (omega (arith, s .good)) (omega (arith, s .good)) (a .heard)
+    refl (held (a .day .quarters)) (s .pre .3) (a .stand) (s .pre .1) (s .pre .2) refl (g .go-on .result) _ _ _ _ (g .go-on .ensures .0 .0)
+    (g .go-on .ensures .0 .1) (a1 .at .ensures) (a2 .at2 .ensures) (g .go-on .ensures .1 _ _ (a .stand .stored)))
 
 pub hear-there-spec : {M : Type 1} → statement M
 hear-there-spec =

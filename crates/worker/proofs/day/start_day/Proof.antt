@@ -1,8 +1,8 @@
-use mathlib.Core.Path.{refl, _∙_}
-use Prim.Native.Nat.{_≤_, _-_}
+use mathlib.Core.Path.{refl, ap, _∙_}
 use native.Mathlib.Omega.{arith}
 use denote.Ref.{now}
 use Rattle.jobs.specs.Counts.{counted}
+use Rattle.calls.specs.Calls.{refused}
 use Rattle.calendars.specs.Quarters.{held}
 use Rattle.days.specs.Day.{hours}
 use Rattle.days.proofs.Idle.{next-run}
@@ -14,16 +14,20 @@ use Rattle.worker.proofs.day.start_day.Tie as tie
 check-day-lent-requires : tie.Need-check-day-lent-requires
 check-day-lent-requires c κs = search needs
 
+first-state-requires : tie.Need-first-state-requires
+first-state-requires c κs = search needs
+
 refused-requires : tie.Need-refused-requires
 refused-requires c κs = search needs
 
 returns : tie.Need-returns
 returns c =
-    let cd = c .before .before .before in
+    let cd = c .before .before .before .before in
     let a = cd .before .before .before .before .before .before .args in
     c .refused .ensures
+    ∙ ap (refused _) (c .before .first-state .ensures)
     ∙ start-turned (a .host) (now (a .table)) (now (a .shares)) (hours (now (a .calendar)) (a .weekday)) (now (a .masks)) (now (a .deals)) _
-    (cd .check-day-lent .ensures .0) (c .before .if1 .taken)
+    (cd .check-day-lent .ensures .0) (c .before .before .if1 .taken)
 
 next-counted-requires : tie.Need-next-counted-requires
 next-counted-requires c κs = search needs
@@ -36,7 +40,7 @@ begin-requires c κs =
     let a = cd .before .before .before .before .before .before .args in
     let n = next-run (held (cd .check-day-lent .result .day .quarters)) 0 _ (omega arith) (nc .next-counted .ensures) in (
       day-lent (a .host) (now (a .table)) (now (a .shares)) (hours (now (a .calendar)) (a .weekday)) (now (a .masks)) (now (a .deals)) _
-          (cd .check-day-lent .ensures .0) (el .if1 .left) _ (cd .check-day-lent .ensures .1),
+          (cd .check-day-lent .ensures .0) (el .if1 .left) _ _ (cd .check-day-lent .ensures .1),
       n .1,
       n .2,
       refl,
@@ -69,9 +73,9 @@ returns-2 c =
     ∙ rw (p1 .put .ensures, p2 .put2 .ensures)
     (start-done (a .host) (now (a .table)) (now (a .shares)) H (now (a .masks)) (now (a .deals)) _ (cd .check-day-lent .ensures .0)
     (held (d .quarters))
-    (same-day (a .host) (now (a .table)) (now (a .shares)) H (now (a .masks)) (now (a .deals)) _ (cd .check-day-lent .ensures .0) (el .if1 .left) d
+    (same-day (a .host) (now (a .table)) (now (a .shares)) H (now (a .masks)) (now (a .deals)) _ (cd .check-day-lent .ensures .0) (el .if1 .left) d _
     (cd .check-day-lent .ensures .1))
-    (el .if1 .left) (counted (d .curve)) (nc .next-counted .result) (n .1) (n .3) (h .spoken) (h .word) (h .order) (h .turn) _ _
+    (el .if1 .left) (counted (d .curve)) (nc .next-counted .result) (n .1) (n .3) h _ _
     (bg .begin .ensures .0 .0) (bg .begin .ensures .0 .1) (bg .begin .ensures .1 0 0))
 
 pub start-day-spec : {M : Type 1} → statement M
@@ -79,6 +83,7 @@ start-day-spec =
     tie.close
     (tie.spec
     check-day-lent-requires
+    first-state-requires
     refused-requires
     returns
     next-counted-requires

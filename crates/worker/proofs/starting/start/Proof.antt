@@ -2,6 +2,7 @@ use mathlib.Core.Path.{sym, ap, _∙_}
 use denote.Ref.{now}
 use native.Mathlib.Omega.{arith}
 use Rattle.jobs.specs.Job.{Fault, job-gates}
+use Rattle.calls.specs.Calls.{refused}
 use Rattle.calls.specs.Scripts.{job-script}
 use Rattle.calls.proofs.Scripts.{job-made}
 use Rattle.worker.specs.Answers.{lanes-of}
@@ -34,20 +35,24 @@ copy-front-requires-2 c κs = search needs
 check-lent-requires : tie.Need-check-lent-requires
 check-lent-requires c κs = search needs
 
+first-state-requires : tie.Need-first-state-requires
+first-state-requires c κs = search needs
+
 refused-requires : tie.Need-refused-requires
 refused-requires c κs = search needs
 
 returns : tie.Need-returns
 returns c =
-    let k = c .before .before .before in
+    let k = c .before .before .before .before in
     let x = k .before .before .before .before .before .before in
     let e₀ = x .before .before .before .before .before .before .before .before .before in
     let a = e₀ .args in
     c .refused .ensures
+    ∙ ap (refused _) (c .before .first-state .ensures)
     ∙ start-refused (a .host) (job-script 32 (now (a .job)) (now (a .table))) (now (a .masks)) (now (a .deals)) _ _
     (k .check-lent .ensures .0)
     (lanes-of (a .registers)) _ _ (x .copy-front .ensures ∙ given-registers (a .registers .m) (sym (slice-aggregate-copy-front (x .before .before))))
-    (k .before .before .copy-front2 .ensures ∙ given-registers (a .registers .mask) (sym (slice-aggregate-copy-front-3 (k .before .before .before .before)))) (c .before .if1 .taken)
+    (k .before .before .copy-front2 .ensures ∙ given-registers (a .registers .mask) (sym (slice-aggregate-copy-front-3 (k .before .before .before .before)))) (c .before .before .if1 .taken)
 
 advance-requires : tie.Need-advance-requires
 advance-requires c κs =
@@ -93,6 +98,7 @@ start-spec =
     slice-aggregate-copy-front-4
     copy-front-requires-2
     check-lent-requires
+    first-state-requires
     refused-requires
     returns
     advance-requires

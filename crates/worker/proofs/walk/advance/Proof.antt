@@ -1,13 +1,16 @@
-use mathlib.Core.Path.{_≡_, refl, sym, _∙_}
+use mathlib.Core.Path.{_≡_, refl, sym, ap, _∙_}
 use denote.Ref.{now}
 use borrow.Author.Needs.{needs}
 use native.Mathlib.Omega.{arith}
 use Prim.Native.Nat.{_*_, _/_, _+_, _-_, _^_, _<_, _≤_}
 use lib.ListN.{length, drop}
+use Rattle.gates.specs.Codes.{step-of}
+use Rattle.gates.proofs.Uses as Uses
 use Rattle.tables.specs.Table.{rows}
 use Rattle.jobs.specs.Job.{job-gates}
+use Rattle.calls.specs.declared.Stored.{Stored}
 use Rattle.walks.specs.Workers.{cursor}
-use Rattle.walks.specs.Halts.{steps-from, reported}
+use Rattle.walks.specs.Halts.{going-on, steps-from, reported}
 use Rattle.walks.proofs.Programs.{finished, at-once}
 use Rattle.job_add.proofs.Here.{here}
 use Rattle.program_fetch.proofs.Stands.{piece-stands}
@@ -23,7 +26,8 @@ use Rattle.calls.specs.Lent.{worker-with}
 abbrev Inv-loop : tie.InvT-loop
 Inv-loop host job table masks deals m₀ mask₀ order turn b n order₀ turn₀ at₀ m mask order' turn' at =
     (n ≡ length job / 4) × (at .gate ≤ 1000) × (order' < 2 ^ 32)
-    × (at .a ≤ 2 ^ 40 + 2000 * order' + at .gate) × (at .deals ≤ 2 ^ 40 + 2000 * order' + at .gate)
+    × (at .a + 2000 * order₀ ≤ 2 ^ 31 + 2000 * order' + at .gate) × (at .deals + 2000 * order₀ ≤ 2 ^ 31 + 2000 * order' + at .gate)
+    × (order' ≤ order₀ + 64)
     × (reported (worker-with host masks deals) (steps-from 32 (at .gate) (drop order' (job-gates 32 job table)))
     (cursor order' turn' (at .a) b (at .deals)) (m, mask)
     ≡ reported (worker-with host masks deals) (steps-from 32 (at₀ .gate) (drop order₀ (job-gates 32 job table)))
@@ -38,7 +42,7 @@ loop-holds : tie.Need-loop-holds Inv-loop μ-loop
 loop-holds c =
     let s = c .before .before .before .before in
     let p = s .pre in
-    (refl, p .1, omega (arith, s .fits .order), omega (arith, p), omega (arith, p), refl)
+    (refl, p .1, omega (arith, s .fits .order), omega (arith, p), omega (arith, p), omega arith, refl)
 
 order-at-requires : tie.Need-order-at-requires Inv-loop μ-loop
 order-at-requires c κs = search needs
@@ -85,7 +89,8 @@ loop-again c =
       omega (arith, h, s .pre .0 .few-words),
       omega (arith, l .inv .3),
       omega (arith, l .inv .4),
-      sym next ∙ l .inv .5,
+      omega (arith, h, s .pre .0 .few-words),
+      sym next ∙ l .inv .6,
     )
 
 -- ---- a piece of any other
@@ -106,19 +111,31 @@ walk-piece-requires c κs =
 say-requires : tie.Need-say-requires Inv-loop μ-loop
 say-requires c κs = search needs
 
+used-by-requires : tie.Need-used-by-requires Inv-loop μ-loop
+used-by-requires c κs = search needs
+
+places-with-requires : tie.Need-places-with-requires Inv-loop μ-loop
+places-with-requires c κs =
+    let q = c .before .before .before .before .before .before .before .before in
+    let d = q .before .before .before in
+    let k = d .before .before .before .before in
+    let l = k .before .loop in
+    let s = k .before .before .before .before .before .before in
+    let S = piece-stands (d .piece-at .ensures) in
+    let h = in-job k in
+    let f = few-used 32 (rows (now (s .args .table))) _ (l .at .gate) _ S _ _ _ _ _ _ _ _ (q .walk-piece .ensures .0) in
+    let g = Uses.few-used (step-of 32 (q .walk-piece .result .gate)) _ (c .used-by .ensures) in (
+      omega (arith, g),
+      omega (arith, g),
+      omega (arith, f, S .few, l .inv .1, l .inv .3, h, s .pre .0 .few-words),
+      omega (arith, f, S .few, l .inv .1, l .inv .4, h, s .pre .0 .few-words),
+      omega (arith, s .pre .4),
+    )
+
 cast-halted : tie.Need-cast-halted Inv-loop μ-loop
 cast-halted c =
-    let l = c .before .before .before .before .before .before .before .before .before .before .before .before .before .before .before in
-    omega (arith, l .before .before .before .before .before .pre .4)
-
-add-halted : tie.Need-add-halted Inv-loop μ-loop
-add-halted c =
-    let l = c .before .before .before .before .before .before .before .before .before .before .before .before .before .before .before in
-    omega (arith, l .before .before .before .before .before .pre .4)
-
-cast-halted-2 : tie.Need-cast-halted-2 Inv-loop μ-loop
-cast-halted-2 c =
-    let l = c .before .before .before .before .before .before .before .before .before .before .before .before .before .before .before in
+    let t = c .before .before .before .before .before in
+    let l = t .before .before .before .before .before .before .before .before .before .before .before .before in
     omega (arith, l .loop .inv .2)
 
 halted-requires : tie.Need-halted-requires Inv-loop μ-loop
@@ -126,7 +143,8 @@ halted-requires c κs = search needs
 
 returns : tie.Need-returns Inv-loop μ-loop
 returns c =
-    let y = c .before in
+    let w = c .before in
+    let y = w .before .before in
     let t = y .before .before .before in
     let q = t .before .before .before .before in
     let d = q .before .before .before in
@@ -140,8 +158,8 @@ returns c =
     c .halted .ensures _ _
     ∙ sym (at-exchange 32 (rows T) _ (l .at .gate) _ (piece-stands (d .piece-at .ensures)) (a .host) (now (a .masks)) (now (a .deals))
     (job-gates 32 J T) (l .order) (l .turn) (l .at .a) (a .b) (l .at .deals) (l .m, l .mask) there _ _ _ _ _ (r .0) _ (r .1) (r .2)
-    (t .if2 .taken) _ (y .say .ensures))
-    ∙ l .inv .5
+    (t .if2 .taken) _ (y .say .ensures) _ (w .before .used-by .ensures) _ (w .places-with .ensures))
+    ∙ l .inv .6
 
 add-order-2 : tie.Need-add-order-2 Inv-loop μ-loop
 add-order-2 c = omega arith
@@ -198,7 +216,8 @@ loop-again-2 c =
       omega (arith, h, s .pre .0 .few-words),
       omega (arith, f, S .few, l .inv .1, l .inv .3),
       omega (arith, f, S .few, l .inv .1, l .inv .4),
-      sym next ∙ l .inv .5,
+      omega (arith, h, s .pre .0 .few-words),
+      sym next ∙ l .inv .6,
     )
 
 loop-less-3 : tie.Need-loop-less-3 Inv-loop μ-loop
@@ -229,30 +248,35 @@ loop-again-3 c =
       l .inv .2,
       omega (arith, f, l .inv .3),
       omega (arith, f, l .inv .4),
-      sym next ∙ l .inv .5,
+      l .inv .5,
+      sym next ∙ l .inv .6,
     )
 
-cast-halted-3 : tie.Need-cast-halted-3 Inv-loop μ-loop
-cast-halted-3 c = omega (arith, c .before .before .before .before .before .before .pre .4)
+cast-halted-2 : tie.Need-cast-halted-2 Inv-loop μ-loop
+cast-halted-2 c = omega (arith, c .before .loop .inv .2)
 
-cast-halted-4 : tie.Need-cast-halted-4 Inv-loop μ-loop
-cast-halted-4 c = omega (arith, c .before .loop .inv .2)
+places-at-requires : tie.Need-places-at-requires Inv-loop μ-loop
+places-at-requires c κs =
+    let v = c .before .loop .inv in
+    let s = c .before .before .before .before .before .before in
+    (omega (arith, v .1, v .3, v .5), omega (arith, v .1, v .4, v .5), omega (arith, s .pre .4))
 
 halted-requires-2 : tie.Need-halted-requires-2 Inv-loop μ-loop
 halted-requires-2 c κs = search needs
 
 returns-2 : tie.Need-returns-2 Inv-loop μ-loop
 returns-2 c =
-    let y = c .before in
+    let y = c .before .before in
     let l = y .before .loop in
     let a = y .before .before .before .before .before .before .args in
     let J = now (a .job) in
     let T = now (a .table) in
     let over = gates-over 32 J T (l .order) (omega (arith, y .loop-test .left, l .inv .0)) in
     c .halted2 .ensures _ _
+    ∙ ap (λ (u : Stored). going-on (u .b) 0 (l .m) (l .mask) (l .order) (l .turn) u) (c .before .places-at .ensures)
     ∙ sym (finished 32 (a .host) (now (a .masks)) (now (a .deals)) (job-gates 32 J T) (l .order) (l .turn) (l .at .gate) (l .at .a) (a .b)
     (l .at .deals) (l .m, l .mask) over)
-    ∙ l .inv .5
+    ∙ l .inv .6
 
 pub advance-spec : {M : Type 1} → statement M
 advance-spec =
@@ -270,9 +294,9 @@ advance-spec =
     piece-at-requires
     walk-piece-requires
     say-requires
+    used-by-requires
+    places-with-requires
     cast-halted
-    add-halted
-    cast-halted-2
     halted-requires
     returns
     add-order-2
@@ -282,7 +306,7 @@ advance-spec =
     loop-again-2
     loop-less-3
     loop-again-3
-    cast-halted-3
-    cast-halted-4
+    cast-halted-2
+    places-at-requires
     halted-requires-2
     returns-2)

@@ -75,7 +75,7 @@ loop-again c =
     let hs = piece-gates 32 (rows (now (a .table))) (a .p) in
     let b = c .behind .ensures in
     let s = u .before .step .ensures in
-    passed 32 (a .host) (now (a .masks)) (now (a .deals)) hs (a .from .gate) (a .from .a) (a .from .deals) (now (a .m), now (a .mask))
+    passed 32 (a .host) (now (a .masks)) (now (a .deals)) hs (a .p .from) (a .from .a) (a .from .deals) (now (a .m), now (a .mask))
     (l .loop .at .gate) (l .loop .at .a) (l .loop .at .deals) (l .loop .m) (l .loop .mask) (l .loop .inv) (f .gate-at .result)
     (e .if2 .left) (within t) (first-step 32 hs (l .loop .at .gate) _ (f .gate-at .ensures) (within t)) _ (u .used-by .ensures) _ _
     (s .0) (s .1) _ _ _ (b .0) (b .1) (b .2)
