@@ -43,8 +43,8 @@ static lamphiek_answer take_deals(struct worker *w)
     return answer;
 }
 
-/* How much of the lists the job has used, which the state tells at any moment (R-7), and how much it needs in all; also
- * where a peer was lost. */
+/* How much of the lists the job has used, which the state tells at any moment (R-7), of what it needs in all. Where a
+ * peer was lost, all that it needs is used up all the same. */
 static void print_used(const struct worker *w)
 {
     lamphiek_counts need = {0};

@@ -78,7 +78,8 @@ enum {
                                   cleaning windows, or one whose end is not after its start or is above 1440; or the
                                   calendar is not of 182 words */
     LAMPHIEK_CLOSED = 17,      /* no quarter of the day's weekday counts */
-    LAMPHIEK_STORED = 18       /* the state's stored places are not what is used up to its place; before 9 */
+    LAMPHIEK_STORED = 18       /* the state's stored places are not what is used up to and with its place, at the end in
+                                  all; directly after 8, before 9 */
 };
 
 /* ---- a job: 1 to 64 orders of four words, kind, target, first source and fourth word; registers are 0 to 15 */
@@ -172,10 +173,11 @@ typedef struct {
  * a day the order is the quarter from 0, one that counts, then 96 for the mean, and the end is 97 and 0.
  *
  * Behind the place its stored places (R-7): how many words of list A, words of list B and deals the job or day has
- * used, up to and with the word spoken at the place, or by the end; either host counts all three. What it still
- * needs is its need (the counts of lamphiek_check, of a day those told below) less these, so that lists can be refilled
- * in time. Every call is lent the lists from their start all the same; and where a job or day breaks off, all that it
- * needs is used up, since host 0 has dealt from it. */
+ * used, up to and with the word spoken at this place, at the end in all. Either host counts all three, by its own
+ * place; the other may be a word ahead or behind. Only a completed start or hearing sets them. The counts of
+ * lamphiek_check (of a day those told below) less these are what the job or day still takes, so that the words of the
+ * next one can be drawn in time. Every call is lent the whole lists all the same, also the words counted as used; and
+ * where a job or day breaks off, all that it needs is used up, since host 0 has dealt from it. */
 typedef struct {
     uint32_t m[LAMPHIEK_LANE], mask[LAMPHIEK_LANE];
     uint32_t order, turn;

@@ -244,7 +244,7 @@ static void used_by_counting(void)
     const lamphiek_state *s = &now.library.of.state;
     struct used u = (is_day() ? plain_day_used : plain_used)(now.lent, s->order, s->turn);
     same(holds(s, u), "the stored places are otherwise than by plain counting");
-    same(now.answers[0].count == u.b, "as many words spoken are not stored");
+    same(now.answers[0].count == u.b, "the words spoken are not as many as the words of B stored");
 }
 
 /* but: registers that are not compared. */

@@ -4,7 +4,7 @@ use mathlib.Core.Path.{_≡_, refl, sym, ap, subst, _∙_}
 use mathlib.Core.Bool.{Bool, true, false, _&&_, cond}
 use Prim.Native.Nat.{ℕ, zero, suc}
 use native.Mathlib.Omega.{arith}
-use borrow.Author.Tests.{eq-eqb, ne-eqb, eqb-true, eqb-false}
+use borrow.Author.Tests.{eq-eqb, eqb-true, eqb-false}
 use lib.Dec.{eqb}
 use Rattle.calls.specs.declared.Stored.{Stored}
 use Rattle.calls.specs.Places.{Found}
@@ -22,7 +22,7 @@ same-told u v e =
       eq-eqb (u .deals) (v .deals) (ap (λ (x : Stored). x .deals) e),
     )
 
-apart : false ≡ true → ⊥
+pub apart : false ≡ true → ⊥
 apart e = subst (λ (b : Bool). cond b ⊥ Unit) e tt
 
 pub same-tells : (u v : Stored) → same-places u v ≡ true → u ≡ v

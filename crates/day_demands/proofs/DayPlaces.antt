@@ -125,12 +125,10 @@ day-places w =
           ap {B = Answer} own-answer (remembered-places .starting1 (script T L H) A A′ D D′ (day-given L) e e′ n);
       starting2 = λ T L H B B′ D D′ e e′ b n.
           ap {B = Answer} own-answer (remembered-places .starting2 (script T L H) B B′ D D′ (day-given L) e e′ b n);
-      hearing1 = λ T L H A A′ D D′ s v e e′ before behind d x is o t n.
-          ap {B = Answer} own-answer
-          (remembered-places .hearing1 (script T L H) A A′ D D′ (with-shares s L) v e e′ before behind d x is o t n);
-      hearing2 = λ T L H B B′ D D′ s v e e′ before behind d x is o t b n.
-          ap {B = Answer} own-answer
-          (remembered-places .hearing2 (script T L H) B B′ D D′ (with-shares s L) v e e′ before behind d x is o t b n);
+      hearing1 = λ T L H A A′ D D′ s v e e′ l n.
+          ap {B = Answer} own-answer (remembered-places .hearing1 (script T L H) A A′ D D′ (with-shares s L) v e e′ l n);
+      hearing2 = λ T L H B B′ D D′ s v e e′ l b n.
+          ap {B = Answer} own-answer (remembered-places .hearing2 (script T L H) B B′ D D′ (with-shares s L) v e e′ l b n);
       spoken-start = λ h T L H M D e. remembered-places .spoken-start (day-lent w h T L H M D) (day-given L) e;
       spoken-hear = λ h T L H M D s v e. remembered-places .spoken-hear (day-lent w h T L H M D) (with-shares s L) v e;
     }

@@ -117,6 +117,8 @@ day-numbers =
       one-hearing = λ h T S H M D o x u.
           numbers .one-hearing (day-script 32 T (length S) H) (day-terms T (length S) H) (told T (length S) H) (day-orderly 32 T (length S) H)
           (single T (length S) H) h M D o x u;
+      told = told;
+      told-places = told-places;
       preparing-unchanged = λ T S H A B D h.
           let p = demand1 .preparing-unchanged (day-script 32 T (length S) H) A B D (day-given S) h in
           (ap {B = Pair} (λ (r : Pair). (take 16 (r .0), take 16 (r .1))) (p .0), p .1, p .2);

@@ -1,15 +1,15 @@
--- R-7 in a day: in every run of a day's calls, at every moment, a host's stored places are what the walk gives; and what
--- they tell of the words still to be used. Assumes nothing.
+-- R-7 in a day: in every run of a day's calls, at every moment, a host's stored places are what the walk gives; and
+-- what they tell of the words still to be used. Assumes nothing.
 use mathlib.Core.Path.{_≡_}
 use mathlib.Core.Logic.{_≢_}
-use mathlib.Core.List.{List, _∷_, _++_}
+use mathlib.Core.List.{List}
 use Prim.Native.Nat.{ℕ}
 use lib.ListN.{length}
-use Rattle.gates.specs.Steps.{Exchange, Step, exchange, origin}
-use Rattle.gates.specs.Walk.{far}
+use Rattle.gates.specs.Steps.{origin}
 use Rattle.calls.specs.Calls.{State}
 use Rattle.runs.specs.Runs.{Spoken, Call}
 use Rattle.demands.specs.Conditions.{used-in}
+use Rattle.demands.specs.Completed.{Located}
 use Rattle.demands.specs.RememberedPlaces.{Remembers, Ran, SameFrom}
 use Rattle.days.specs.Day.{Hours, counting, day-steps, day-script}
 use Rattle.days.specs.DayCalls.{day-start, day-hear}
@@ -17,7 +17,7 @@ use Rattle.day_demands.specs.Settings.{DaySetting}
 use Rattle.day_demands.specs.Runs.{DayDealer, DayHost, running, day-world, DayRun}
 
 pub record DayPlaces (w : ℕ) : Type 0 where
-  -- the state that the host's last call returned, completed or refused; a quarter left out has no steps and counts
+  -- at every moment from a host's starting on: the state that it holds; a quarter left out has no steps and counts
   -- nothing
   pub host1 : (S : DaySetting) (cs : List Call) (z : DayDealer) (buf : List ℕ) (s : State) (said : List Spoken)
       (two : DayHost) → DayRun w S cs (day-world z buf (running s said) two)
@@ -41,7 +41,8 @@ pub record DayPlaces (w : ℕ) : Type 0 where
   pub heard : (h : ℕ) (T L : List ℕ) (H : Hours) (M D : List ℕ) (s : State) (v : ℕ)
       → day-hear w h T L H M D s v .number ≡ 0
       → Ran (day-script w T (length L) H) s (day-hear w h T L H M D s v .state)
-  -- and no others, a hearing but those of its own product or refresh
+  -- and no others, a hearing but those of its own product or refresh; of all later calls: `later` of
+  -- `remembered-places` at the day's script, of which a run of a day's calls is a run (`is-run` of `day-returned`)
   pub starting1 : (T L : List ℕ) (H : Hours) (A A′ D D′ : List ℕ) → day-start w 1 T L H A D .number ≡ 0
       → day-start w 1 T L H A′ D′ .number ≡ 0
       → SameFrom 0 (day-start w 1 T L H A D .state .stored .a) A A′
@@ -53,18 +54,14 @@ pub record DayPlaces (w : ℕ) : Type 0 where
       → day-start w 2 T L H B′ D′ ≡ day-start w 2 T L H B D
   pub hearing1 : (T L : List ℕ) (H : Hours) (A A′ D D′ : List ℕ) (s : State) (v : ℕ)
       → day-hear w 1 T L H A D s v .number ≡ 0 → day-hear w 1 T L H A′ D′ s v .number ≡ 0
-      → (before behind : List Step) (d : ℕ) (e : Exchange)
-      → day-steps w T (counting H) ≡ before ++ (exchange d e ∷ behind)
-      → far before origin .order ≡ s .order → far before origin .turn ≡ s .turn
-      → SameFrom (used-in before .a) (day-hear w 1 T L H A D s v .state .stored .a) A A′
+      → (l : Located (day-steps w T (counting H)) origin (s .order) (s .turn))
+      → SameFrom (used-in (l .before) .a) (day-hear w 1 T L H A D s v .state .stored .a) A A′
       → day-hear w 1 T L H A′ D′ s v ≡ day-hear w 1 T L H A D s v
   pub hearing2 : (T L : List ℕ) (H : Hours) (B B′ D D′ : List ℕ) (s : State) (v : ℕ)
       → day-hear w 2 T L H B D s v .number ≡ 0 → day-hear w 2 T L H B′ D′ s v .number ≡ 0
-      → (before behind : List Step) (d : ℕ) (e : Exchange)
-      → day-steps w T (counting H) ≡ before ++ (exchange d e ∷ behind)
-      → far before origin .order ≡ s .order → far before origin .turn ≡ s .turn
-      → SameFrom (used-in before .b) (day-hear w 2 T L H B D s v .state .stored .b) B B′
-      → SameFrom (used-in before .deals) (day-hear w 2 T L H B D s v .state .stored .deals) D D′
+      → (l : Located (day-steps w T (counting H)) origin (s .order) (s .turn))
+      → SameFrom (used-in (l .before) .b) (day-hear w 2 T L H B D s v .state .stored .b) B B′
+      → SameFrom (used-in (l .before) .deals) (day-hear w 2 T L H B D s v .state .stored .deals) D D′
       → day-hear w 2 T L H B′ D′ s v ≡ day-hear w 2 T L H B D s v
   -- the words spoken so far are as many as words of B used
   pub spoken-start : (h : ℕ) (T L : List ℕ) (H : Hours) (M D : List ℕ) → day-start w h T L H M D .number ≡ 0

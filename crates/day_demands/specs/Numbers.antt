@@ -11,7 +11,8 @@ use Rattle.calendars.specs.Hours.{HoursNumbered}
 use Rattle.calls.specs.declared.Stored.{Stored}
 use Rattle.calls.specs.Calls.{stored-places, State}
 use Rattle.demands.specs.Conditions.{gate-places, walks-places, Terms, Single, PreparationIs, StartIs, HearingIs}
-use Rattle.days.specs.Day.{Hours, counting, day-gates, day-cost}
+use Rattle.demands.specs.Numbers.{Told, ToldPlaces}
+use Rattle.days.specs.Day.{Hours, counting, day-gates, day-cost, day-script}
 use Rattle.days.specs.DayCalls.{day-start, day-hear, day-prepare}
 
 -- the conditions that come before 6, of a table, a day list of n words and hours: 12; 16 and 17, which `HoursNumbered`
@@ -56,6 +57,9 @@ pub record DayNumbers : Type 0 where
       → Single (StartIs (day-terms T (length S) H) h M D)
   pub one-hearing : (h : ℕ) (T S : List ℕ) (H : Hours) (M D : List ℕ) (o x : ℕ) (u : Stored)
       → Single (HearingIs (day-terms T (length S) H) h M D (o, x) u)
+  -- a day's script is what these terms say, so that its calls are those of `Numbers` (demands)
+  pub told : (T : List ℕ) (n : ℕ) (H : Hours) → Told (day-script 32 T n H) (day-terms T n H)
+  pub told-places : (T : List ℕ) (n : ℕ) (H : Hours) → ToldPlaces (day-script 32 T n H) (day-terms T n H)
   -- refused: a preparation gives masks of zeros and leaves its buffer, a starting gives a state of zeros, a hearing the
   -- state that it was given; every other number is 0
   pub preparing-unchanged : (T S : List ℕ) (H : Hours) (A B D : List ℕ) → day-prepare 32 T S H A B D .number ≢ 0

@@ -3,36 +3,36 @@ use mathlib.Core.Path.{_≡_, refl, sym, ap, ap₂, subst, _∙_}
 use mathlib.Core.Bool.{Bool, true, false, cond}
 use mathlib.Core.Logic.{_⊎_, inl, inr}
 use mathlib.Core.List.{List, [], _∷_, _++_, append-nil}
-use Prim.Native.Nat.{ℕ, zero, suc, _+_, _≤_, _<_}
+use Prim.Native.Nat.{ℕ, zero, suc, _+_, _≤_}
 use native.Mathlib.Omega.{arith}
 use native.Mathlib.Decide.{decLe}
 use borrow.Author.Tests.{le-ltb, eq-eqb}
-use lib.Dec.{eqb, ltb}
+use lib.Dec.{ltb}
 use lib.ListN.{length}
-use Rattle.gates.specs.Steps.{Exchange, Step, local, deal, exchange, end, Cursor, origin, past}
-use Rattle.gates.specs.Walk.{Conf, conf, Exchanging, next, walk, far}
+use Rattle.gates.specs.Steps.{Exchange, Step, local, deal, exchange, end, Cursor, origin}
+use Rattle.gates.specs.Walk.{Conf, conf, Exchanging, next, far}
 use Rattle.gates.specs.Hosts.{Pair, Triple, of1, of2, act}
-use Rattle.gates.proofs.Seen.{through}
-use Rattle.jobs.specs.Job.{Fault, short-a, short-b, short-deals}
+use Rattle.jobs.specs.Job.{short-a, short-b, short-deals}
 use Rattle.calls.specs.declared.Stored.{Stored}
 use Rattle.calls.specs.Places.{Found, nowhere, found, seek}
 use Rattle.calls.specs.Scripts.{Script, script-cost, ends, orders-in, Closed, Orderly}
-use Rattle.calls.specs.Lent.{Lent, lent, worker1, worker2, worker-with, worker-of, or-else, lists-fault, lent-fault}
-use Rattle.calls.specs.Calls.{State, Answer, counted-to, stored-at, state-of, report, unless, hear-walk, found-of, resume, hear}
+use Rattle.calls.specs.Lent.{lent, worker-with, or-else, lists-fault, lent-fault}
+use Rattle.calls.specs.Calls.{State, Answer, counted-to, stored-at, hear-walk, found-of, hear}
 use Rattle.calls.proofs.Faults.{no-fault}
-use Rattle.calls.proofs.Hearing.{resume-is}
-use Rattle.runs.specs.Runs.{Stage, Spoken, placed-word, Among, Dealer, idle, ready, Side, going, World, world, Call, hearing1, hearing2}
+use Rattle.runs.specs.Runs.{Stage, Spoken, placed-word, Dealer, idle, ready, Side, going, World, world, Call, hearing1, hearing2}
 use Rattle.runs.specs.Runs.{lent1, lent2, stepped}
-use Rattle.runs.specs.Runs.{Completes, hears1, hears2, Run, complete}
+use Rattle.runs.specs.Runs.{Completes, hears1, hears2, Run}
 use Rattle.runs.specs.Strict.{Narrow, heard-by-1, heard-by-2, Calls, none, completes, refuses}
-use Rattle.runs.proofs.Places.{Halted, pos, seek-pos, exchange-or-end, ends-pos}
+use Rattle.runs.proofs.Places.{pos, seek-pos, exchange-or-end, ends-pos}
 use Rattle.runs.proofs.Refusals.{hear-none}
 use Rattle.runs.proofs.Progress.{hear-zero}
-use Rattle.runs.proofs.Kept.{all, j₀, position, dealt-all, go1, go2, Ok, ok, kept, refuses-nothing, HasDeals, supplied}
-use Rattle.runs.proofs.Strict.{Stands, Moved, moved1, moved2, wide-on}
+use Rattle.runs.proofs.Kept.{all, j₀, position, dealt-all, go1, go2, Ok, ok, kept, refuses-nothing, supplied}
+use Rattle.runs.proofs.Strict.{resume-number, Stands, moved1, moved2, wide-on}
 use Rattle.demands.specs.Conditions.{used-in}
+use Rattle.demands.specs.Completed.{Located}
 use Rattle.demands.specs.RememberedPlaces.{SameFrom, Looks, from-exchange, from-end, relisted}
 use Rattle.demands.proofs.Completed.{counted-far, seek-to}
+use Rattle.demands.proofs.More.{closed-behind}
 use Rattle.demands.proofs.Standing.{remembers, front}
 use Rattle.demands.proofs.OwnWords.{Below, grows, below-trans, Alike, alike1, alike2, hearings-alike, trails-alike}
 
@@ -65,10 +65,6 @@ some-end : (ss : List Step) → Closed ss → Exchanging ss → 1 ≤ ends ss
 some-end [] c x = absurd x
 some-end (y ∷ ss) c x = c .0
 
-closed-behind : (before rest : List Step) → Closed (before ++ rest) → Closed rest
-closed-behind [] rest c = c
-closed-behind (x ∷ before) rest c = closed-behind before rest (c .1)
-
 module _ (S : Stage) (fine : Orderly (S .script)) (h : Triple → Pair) (s : State) (n : ℕ) (Z : Stands S h s n) where
   abbrev p : Conf Triple
   p = position S n
@@ -99,13 +95,14 @@ module _ (S : Stage) (fine : Orderly (S .script)) (h : Triple → Pair) (s : Sta
       go (inr q) = q
 
   pub looks-at : {u : Stored} → Looks (S .script) s u → u ≡ counted-to (p .cur)
-  looks-at (from-exchange pre left d e is o t) =
-      let q : found (exchange d e ∷ left) (far pre origin) ≡ found (p .rest) (p .cur) =
-      sym (seek-to pre left d e origin)
-      ∙ ap (λ (ss : List Step). seek (far pre origin .order) (far pre origin .turn) ss origin) (sym is)
-      ∙ ap₂ (λ (i j : ℕ). seek i j (all S) origin) (o ∙ order-is) (t ∙ turn-is)
+  looks-at (from-exchange l) =
+      let c : Cursor = far (l .before) origin in
+      let q : found (exchange (l .target) (l .gate) ∷ l .behind) c ≡ found (p .rest) (p .cur) =
+      sym (seek-to (l .before) (l .behind) (l .target) (l .gate) origin)
+      ∙ ap (λ (ss : List Step). seek (c .order) (c .turn) ss origin) (sym (l .is))
+      ∙ ap₂ (λ (i j : ℕ). seek i j (all S) origin) (l .order ∙ order-is) (l .turn ∙ turn-is)
       ∙ seek-pos (act (S .A) (S .B)) (all S) (j₀ S) n (Z .halts) in
-      sym (counted-far pre) ∙ ap (λ (f : Found). counted-to (cursor-in f)) q
+      sym (counted-far (l .before)) ∙ ap (λ (f : Found). counted-to (cursor-in f)) q
   looks-at (from-end o t) =
       let q : all S ≡ before = steps-are ∙ ap (λ (ss : List Step). before ++ ss) (none-left o) ∙ append-nil before in
       ap used-in q ∙ sym (counted-far before) ∙ ap counted-to (sym cur-is)
@@ -136,7 +133,7 @@ hears-as-well h σ M M′ D s v z e =
     let q = hear-none (lent h σ M D) s v z .1 in
     let f : Found = found-of (lent h σ M D) s in
     hear-zero (lent h σ M′ D) s v e
-    (resume-is (worker-with h M′ D) s v f ∙ sym (resume-is (worker-with h M D) s v f) ∙ sym (ap (λ (a : Answer). a .number) q) ∙ z)
+    (resume-number (worker-with h M′ D) (worker-with h M D) s v f ∙ sym (ap (λ (a : Answer). a .number) q) ∙ z)
 
 -- ---- one hearing
 
@@ -172,42 +169,43 @@ module _ (S : Stage) (fine : Orderly (S .script)) where
       (k : Alike (worker-with i M D) (worker-with i M′ D) Near) (s : State) (n : ℕ) (Z : Stands S h s n)
       (x : Exchanging (position S n .rest)) (v : ℕ) (z : hear (lent i σ M D) s v .number ≡ 0) (z′ : hear (lent i σ M′ D) s v .number ≡ 0)
       (near : Near (counted-to (position S n .cur)) (hear (lent i σ M D) s v .state .stored)) where
-    abbrev pre : List Step
-    pre = before S fine h s n Z
+    -- its product or refresh
+    place : Located (σ .steps) origin (s .order) (s .turn)
+    place =
+        let form = exchange-form (position S n .rest) x in
+        record {
+          before = before S fine h s n Z;
+          target = form .0;
+          gate = form .1;
+          behind = form .2;
+          is = steps-are S fine h s n Z ∙ ap (λ (ss : List Step). before S fine h s n Z ++ ss) (form .3);
+          order = sym (order-is S fine h s n Z ∙ ap (λ (c : Cursor). c .order) (cur-is S fine h s n Z));
+          turn = sym (turn-is S fine h s n Z ∙ ap (λ (c : Cursor). c .turn) (cur-is S fine h s n Z));
+        }
 
-    abbrev form : (d : ℕ) × (e : Exchange) × (rest : List Step) × (position S n .rest ≡ exchange d e ∷ rest)
-    form = exchange-form (position S n .rest) x
-
-    is : σ .steps ≡ pre ++ (exchange (form .0) (form .1) ∷ form .2)
-    is = steps-are S fine h s n Z ∙ ap (λ (ss : List Step). pre ++ ss) (form .3)
-
-    o : far pre origin .order ≡ s .order
-    o = sym (order-is S fine h s n Z ∙ ap (λ (c : Cursor). c .order) (cur-is S fine h s n Z))
-
-    t : far pre origin .turn ≡ s .turn
-    t = sym (turn-is S fine h s n Z ∙ ap (λ (c : Cursor). c .turn) (cur-is S fine h s n Z))
-
-    near-pre : Near (used-in pre) (hear (lent i σ M D) s v .state .stored)
-    near-pre =
-        subst (λ (u : Stored). Near u (hear (lent i σ M D) s v .state .stored)) (ap counted-to (cur-is S fine h s n Z) ∙ counted-far pre) near
+    near-place : Near (used-in (place .before)) (hear (lent i σ M D) s v .state .stored)
+    unfolding place
+    near-place =
+        subst (λ (u : Stored). Near u (hear (lent i σ M D) s v .state .stored))
+        (ap counted-to (cur-is S fine h s n Z) ∙ counted-far (before S fine h s n Z)) near
 
     same-answer : hear (lent i σ M′ D) s v ≡ hear (lent i σ M D) s v
-    same-answer = hearings-alike i σ M M′ D D Near k s v z z′ pre (form .2) (form .0) (form .1) is o t near-pre
+    same-answer = hearings-alike i σ M M′ D D Near k s v z place near-place z′
 
-    there : (M : List ℕ) → found-of (lent i σ M D) s ≡ found (exchange (form .0) (form .1) ∷ form .2) (far pre origin)
+    there : (M : List ℕ) → found-of (lent i σ M D) s
+        ≡ found (exchange (place .target) (place .gate) ∷ place .behind) (far (place .before) origin)
     unfolding found-of
     there M =
-        ap₂ (λ (i j : ℕ). seek i j (σ .steps) origin) (sym o) (sym t)
-        ∙ ap (λ (ss : List Step). seek (far pre origin .order) (far pre origin .turn) ss origin) is
-        ∙ seek-to pre (form .2) (form .0) (form .1) origin
+        ap₂ (λ (i j : ℕ). seek i j (σ .steps) origin) (sym (place .order)) (sym (place .turn))
+        ∙ ap (λ (ss : List Step). seek (far (place .before) origin .order) (far (place .before) origin .turn) ss origin) (place .is)
+        ∙ seek-to (place .before) (place .behind) (place .target) (place .gate) origin
 
     same-trail : hear-walk (worker-with i M′ D) s v (found-of (lent i σ M′ D) s) .trail
         ≡ hear-walk (worker-with i M D) s v (found-of (lent i σ M D) s) .trail
     unfolding hear-walk
     same-trail =
         ap (λ (f : Found). hear-walk (worker-with i M′ D) s v f .trail) (there M′)
-        ∙ ap (λ (p : Conf Pair). p .trail)
-        (trails-alike i σ M M′ D D Near k s v z pre (form .2) (form .0) (form .1) is o t near-pre)
+        ∙ ap (λ (p : Conf Pair). p .trail) (trails-alike i σ M M′ D D Near k s v z place near-place)
         ∙ sym (ap (λ (f : Found). hear-walk (worker-with i M D) s v f .trail) (there M))
 
     pub same-side : (tr : List Pair) (said : List Spoken) (S′ : Stage)

@@ -29,7 +29,7 @@ use Rattle.demands.proofs.Completed.{prepare-none, heard, standing-at}
 use Rattle.demands.proofs.Passed.{dealer-keeps, walk-keeps, last, free}
 
 -- the steps behind others: each stands in an order, and those that end there are the rest
-closed-behind : (pre ss : List Step) → Closed (pre ++ ss) → Closed ss
+pub closed-behind : (pre ss : List Step) → Closed (pre ++ ss) → Closed ss
 closed-behind [] ss c = c
 closed-behind (x ∷ pre) ss c = closed-behind pre ss (c .1)
 

@@ -1,13 +1,13 @@
 -- R-7: which words of its lists a call looks at: those between the stored places. Assumes nothing.
 use mathlib.Core.Path.{_≡_, refl, sym, ap, ap₂, subst, _∙_}
 use mathlib.Core.List.{List, [], _∷_, _++_}
-use Prim.Native.Nat.{ℕ, suc, _+_, _≤_, _<_}
+use Prim.Native.Nat.{ℕ, suc, _+_, _≤_}
 use native.Mathlib.Omega.{arith}
 use lib.ListN.{set}
-use Rattle.gates.specs.Steps.{Lane, at, Exchange, product, refresh, known-product, Step, local, deal, exchange, end, say1, say2, meet, new-at}
+use Rattle.gates.specs.Steps.{at, Exchange, product, refresh, known-product, Step, local, deal, exchange, end, say1, say2, meet, new-at}
 use Rattle.gates.specs.Steps.{past-deal, Cursor, origin, past}
 use Rattle.gates.specs.Walk.{Conf, walk, far}
-use Rattle.gates.specs.Hosts.{Pair, on-m, on-mask, act1, word-of1, hear1, act2, word-of2, hear2}
+use Rattle.gates.specs.Hosts.{Pair, on-mask, act1, word-of1, hear1, act2, word-of2, hear2}
 use Rattle.gates.proofs.Needs.{past-used}
 use Rattle.calls.specs.declared.Stored.{Stored}
 use Rattle.calls.specs.Scripts.{Script}
@@ -15,6 +15,7 @@ use Rattle.calls.specs.Lent.{Worker, worker1, worker2, worker-with, lent}
 use Rattle.calls.specs.Calls.{State, Answer, fresh2, word-at, spoken-at, counted-to, stored-at, state-of, report, start-walk, start, hear}
 use Rattle.runs.proofs.Refusals.{start-none}
 use Rattle.demands.specs.Conditions.{used-in}
+use Rattle.demands.specs.Completed.{Located}
 use Rattle.demands.specs.RememberedPlaces.{SameFrom}
 use Rattle.demands.proofs.Completed.{counted-far, heard}
 
@@ -205,33 +206,30 @@ module _ (h : ℕ) (σ : Script) (M M′ D D′ : List ℕ) (Near : Stored → S
       (subst (λ (a : Answer). Near (counted-to origin) (a .state .stored)) e n)
       ∙ sym e
 
-  pub hearings-alike : (s : State) (v : ℕ) → hear (lent h σ M D) s v .number ≡ 0 → hear (lent h σ M′ D′) s v .number ≡ 0
-      → (before behind : List Step) (d : ℕ) (e : Exchange) → σ .steps ≡ before ++ (exchange d e ∷ behind)
-      → far before origin .order ≡ s .order → far before origin .turn ≡ s .turn
-      → Near (used-in before) (hear (lent h σ M D) s v .state .stored)
-      → hear (lent h σ M′ D′) s v ≡ hear (lent h σ M D) s v
-  hearings-alike s v z z′ before behind d e is o t n =
-      let c : Cursor = far before origin in
-      let q = heard (lent h σ M D) s v before behind d e is (sym o) (sym t) z in
-      heard (lent h σ M′ D′) s v before behind d e is (sym o) (sym t) z′
-      ∙ hears-alike (worker-with h M D) (worker-with h M′ D′) Near k d e behind c (s .m, s .mask) v
-      (subst (λ (u : Stored). Near u (reached (walk (worker-with h M D .act) behind (past (exchange d e) c)
-      (worker-with h M D .hear d e c (s .m, s .mask) v) []))) (sym (counted-far before))
-      (subst (λ (a : Answer). Near (used-in before) (a .state .stored)) q n))
-      ∙ sym q
+  module _ (s : State) (v : ℕ) (z : hear (lent h σ M D) s v .number ≡ 0) (l : Located (σ .steps) origin (s .order) (s .turn))
+      (n : Near (used-in (l .before)) (hear (lent h σ M D) s v .state .stored)) where
+    abbrev c : Cursor
+    c = far (l .before) origin
 
-  -- and where the walk halts, with the trail
-  pub trails-alike : (s : State) (v : ℕ) → hear (lent h σ M D) s v .number ≡ 0
-      → (before behind : List Step) (d : ℕ) (e : Exchange) → σ .steps ≡ before ++ (exchange d e ∷ behind)
-      → far before origin .order ≡ s .order → far before origin .turn ≡ s .turn
-      → Near (used-in before) (hear (lent h σ M D) s v .state .stored)
-      → let c = far before origin in
-      walk (worker-with h M′ D′ .act) behind (past (exchange d e) c) (worker-with h M′ D′ .hear d e c (s .m, s .mask) v) []
-      ≡ walk (worker-with h M D .act) behind (past (exchange d e) c) (worker-with h M D .hear d e c (s .m, s .mask) v) []
-  trails-alike s v z before behind d e is o t n =
-      let c : Cursor = far before origin in
-      let q = heard (lent h σ M D) s v before behind d e is (sym o) (sym t) z in
-      heard-alike (worker-with h M D) (worker-with h M′ D′) Near k d e behind c (s .m, s .mask) v
-      (subst (λ (u : Stored). Near u (reached (walk (worker-with h M D .act) behind (past (exchange d e) c)
-      (worker-with h M D .hear d e c (s .m, s .mask) v) []))) (sym (counted-far before))
-      (subst (λ (a : Answer). Near (used-in before) (a .state .stored)) q n))
+    -- the walk behind the word heard
+    abbrev on : Worker → Conf Pair
+    on W = walk (W .act) (l .behind) (past (exchange (l .target) (l .gate)) c) (W .hear (l .target) (l .gate) c (s .m, s .mask) v) []
+
+    answered : hear (lent h σ M D) s v ≡ report (worker-with h M D) (on (worker-with h M D))
+    answered = heard (lent h σ M D) s v (l .before) (l .behind) (l .target) (l .gate) (l .is) (sym (l .order)) (sym (l .turn)) z
+
+    near : Near (counted-to c) (reached (on (worker-with h M D)))
+    near =
+        subst (λ (u : Stored). Near u (reached (on (worker-with h M D)))) (sym (counted-far (l .before)))
+        (subst (λ (a : Answer). Near (used-in (l .before)) (a .state .stored)) answered n)
+
+    pub hearings-alike : hear (lent h σ M′ D′) s v .number ≡ 0 → hear (lent h σ M′ D′) s v ≡ hear (lent h σ M D) s v
+    hearings-alike z′ =
+        heard (lent h σ M′ D′) s v (l .before) (l .behind) (l .target) (l .gate) (l .is) (sym (l .order)) (sym (l .turn)) z′
+        ∙ hears-alike (worker-with h M D) (worker-with h M′ D′) Near k (l .target) (l .gate) (l .behind) c (s .m, s .mask) v near
+        ∙ sym answered
+
+    -- and where the walk halts, with the trail
+    pub trails-alike : on (worker-with h M′ D′) ≡ on (worker-with h M D)
+    trails-alike =
+        heard-alike (worker-with h M D) (worker-with h M′ D′) Near k (l .target) (l .gate) (l .behind) c (s .m, s .mask) v near

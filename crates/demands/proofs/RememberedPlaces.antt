@@ -2,12 +2,12 @@
 use mathlib.Core.Path.{_≡_, refl, sym, ap, _∙_}
 use mathlib.Core.Logic.{_≢_}
 use mathlib.Core.Bool.{Bool, true, false, _||_, cond}
-use mathlib.Core.List.{List, [], _∷_, _++_, append-nil, append-assoc}
+use mathlib.Core.List.{List, [], _∷_}
 use Prim.Native.Nat.{ℕ, zero, suc}
 use native.Mathlib.Omega.{arith}
 use lib.Dec.{eqb, eqb·suc-zero}
 use Rattle.gates.specs.Steps.{Step, local, deal, exchange, end, Cursor, origin, past}
-use Rattle.gates.specs.Walk.{Conf, conf, next, far}
+use Rattle.gates.specs.Walk.{Conf}
 use Rattle.gates.specs.Costs.{Cost}
 use Rattle.gates.specs.Hosts.{Pair, Triple, of1, of2, joint1, joint2, act}
 use Rattle.gates.proofs.Seen.{through}
@@ -16,20 +16,19 @@ use Rattle.jobs.specs.FirstFault.{Meets, kind-above, target-above, source-above
 use Rattle.jobs.specs.FirstFault.{one-bit-shift, exact-shift, curve-mode, curve-table, Numbered, faultless, sizeless, faulty}
 use Rattle.jobs.proofs.FirstFault.{job-number}
 use Rattle.programs.specs.declared.Order.{Order}
-use Rattle.calls.specs.declared.Stored.{Stored}
 use Rattle.calls.specs.Places.{Found, nowhere, found, seek}
-use Rattle.calls.specs.Scripts.{Script, script-cost, Orderly}
+use Rattle.calls.specs.Scripts.{script-cost, Orderly}
 use Rattle.calls.specs.Lent.{Lent, lent, worker-with, worker-of, or-else, lists-fault, lent-fault}
-use Rattle.calls.specs.Calls.{State, Answer, spoken-at, counted-to, stored-at, state-of, report, unless, start-walk, start, hear-walk, place-fault}
+use Rattle.calls.specs.Calls.{State, Answer, spoken-at, stored-at, state-of, report, unless, start-walk, hear-walk, place-fault}
 use Rattle.calls.specs.Calls.{walked-to, found-of, resume, hear}
 use Rattle.calls.proofs.Hearing.{judged-equal, resume-is}
 use Rattle.runs.specs.Runs.{Stage, Setting, staged, Spoken, Dealer, Side, going, world, Call, Run}
-use Rattle.runs.proofs.Places.{Halted, pos, seek-pos}
+use Rattle.runs.proofs.Places.{Halted, seek-pos}
 use Rattle.runs.proofs.Ties.{Tied}
 use Rattle.runs.proofs.Kept.{all, j₀, position, go1, go2, Ok, ok, kept}
 use Rattle.runs.proofs.Refusals.{start-none}
 use Rattle.demands.specs.RememberedPlaces.{Remembers, RememberedPlaces}
-use Rattle.demands.proofs.Completed.{far-append, resumed}
+use Rattle.demands.proofs.Completed.{resumed}
 use Rattle.demands.proofs.Standing.{remembers, front, start-remembers, hear-ran}
 use Rattle.demands.proofs.LaterCalls.{later}
 use Rattle.demands.proofs.OwnWords.{alike1, alike2, starts-alike, hearings-alike}
@@ -187,10 +186,8 @@ remembered-places =
       heard = λ loan o s v z. hear-ran loan o s v z;
       starting1 = λ σ A A′ D D′ r z z′ n. starts-alike 1 σ A A′ D D′ _ (alike1 A A′) r z z′ n;
       starting2 = λ σ B B′ D D′ r z z′ b n. starts-alike 2 σ B B′ D D′ _ (alike2 B B′ D D′) r z z′ (b, n);
-      hearing1 = λ σ A A′ D D′ s v z z′ before behind d e is o t n.
-          hearings-alike 1 σ A A′ D D′ _ (alike1 A A′) s v z z′ before behind d e is o t n;
-      hearing2 = λ σ B B′ D D′ s v z z′ before behind d e is o t b n.
-          hearings-alike 2 σ B B′ D D′ _ (alike2 B B′ D D′) s v z z′ before behind d e is o t (b, n);
+      hearing1 = λ σ A A′ D D′ s v z z′ l n. hearings-alike 1 σ A A′ D D′ _ (alike1 A A′) s v z l n z′;
+      hearing2 = λ σ B B′ D D′ s v z z′ l b n. hearings-alike 2 σ B B′ D D′ _ (alike2 B B′ D D′) s v z l (b, n) z′;
       later = λ S fine A′ B′ la lb cs z buf s s2 t t2 said said2 r u u2 f f2 one two E h1 h2 g1 g2 more v C.
           later S fine A′ B′ la lb buf s s2 t t2 said said2 u u2 f f2 one two E h1 h2 g1 g2 cs more v z r C;
       spoken-start = λ loan r z. rw (start-none loan r z .1) (reported-spoken loan (start-walk loan r));

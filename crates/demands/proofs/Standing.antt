@@ -1,18 +1,17 @@
 -- R-7: a host's stored places are the walk's, after every call and in every run. Assumes nothing.
-use mathlib.Core.Path.{_≡_, refl, sym, ap, ap₂, _∙_, subst}
+use mathlib.Core.Path.{_≡_, refl, sym, ap, _∙_, subst}
 use mathlib.Core.List.{List, [], _∷_, _++_, append-nil, append-assoc}
 use Prim.Native.Nat.{ℕ, zero, suc, _+_}
-use native.Mathlib.Nat.{zero-add, add-zero}
 use native.Mathlib.Omega.{arith}
-use Rattle.gates.specs.Steps.{Exchange, Step, local, deal, exchange, end, Cursor, origin, past}
+use Rattle.gates.specs.Steps.{Step, local, deal, exchange, end, Cursor, origin, past}
 use Rattle.gates.specs.Walk.{Conf, conf, next, walk, far}
 use Rattle.gates.specs.Costs.{Cost, plus, cost}
 use Rattle.gates.specs.Hosts.{Pair}
 use Rattle.gates.proofs.Needs.{cost-append}
 use Rattle.calls.specs.declared.Stored.{Stored}
-use Rattle.calls.specs.Scripts.{Script, script-cost, ends, orders-in, Closed, Orderly}
+use Rattle.calls.specs.Scripts.{Script, script-cost, ends, Orderly}
 use Rattle.calls.specs.Lent.{Lent, worker-of}
-use Rattle.calls.specs.Calls.{State, Answer, fresh2, counted-to, stored-at, state-of, report, start-walk, start, hear}
+use Rattle.calls.specs.Calls.{State, Answer, fresh2, counted-to, stored-at, state-of, start-walk, start, hear}
 use Rattle.runs.proofs.Places.{Halted, pos}
 use Rattle.runs.proofs.Refusals.{start-none}
 use Rattle.demands.specs.Conditions.{used-in}
@@ -72,7 +71,8 @@ module _ (σ : Script) (ok : Orderly σ) where
       (at-end (omega (arith, far-order before origin, ap ends q)) (sym t))
   stands before (local d m l ∷ ss) p h = absurd h
   stands before (deal d f ∷ ss) p h = absurd h
-  stands before (exchange d e ∷ ss) p h = at-exchange before ss d e p refl refl
+  stands before (exchange d e ∷ ss) p h =
+      at-exchange (record { before = before; target = d; gate = e; behind = ss; is = p; order = refl; turn = refl })
   stands before (end ∷ ss) p h = absurd h
 
   -- with the steps that its own product or refresh and those behind make up
@@ -184,7 +184,7 @@ module _ (loan : Lent) (ok : Orderly (loan .script)) where
             subst (λ (ss : List Step). Standing (loan .script) (s .order) (s .turn) done ss)
             (k .is ∙ ap (λ (ss : List Step). k .ran ++ ss) (sym (split (p .rest)))
             ∙ sym (append-assoc (k .ran) (own (p .rest)) (behind (p .rest))))
-            (at-exchange (l .before) (l .behind) (l .target) (l .gate) (l .is) (l .order) (l .turn));
+            (at-exchange l);
         to =
             rw (e, cur)
             (subst (λ (ss : List Step). Standing (loan .script) (far before origin .order) (far before origin .turn) ss (behind (p .rest)))

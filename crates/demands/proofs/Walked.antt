@@ -4,7 +4,7 @@ use mathlib.Core.Bool.{Bool, true, false, cond}
 use mathlib.Core.List.{List, [], _∷_, _++_}
 use Prim.Native.Nat.{ℕ, zero, suc, _+_, _≤_}
 use native.Mathlib.Omega.{arith}
-use lib.ListN.{length, getD, take, length-append, List·getD-eq-default}
+use lib.ListN.{length, length-append, List·getD-eq-default}
 use lib.Seq.{take-all}
 use Rattle.gates.specs.Gates.{Gate}
 use Rattle.gates.specs.Steps.{Exchange, Step, local, deal, exchange, end, Cursor, origin, past}
@@ -12,7 +12,7 @@ use Rattle.gates.specs.Meaning.{meaning, order-steps, job-steps}
 use Rattle.gates.specs.Walk.{Exchanging, far}
 use Rattle.gates.specs.Costs.{Cost, plus, step-cost, cost}
 use Rattle.gates.proofs.GateSteps.{OfGate, of-gate}
-use Rattle.gates.proofs.Needs.{cost-append, cost-path}
+use Rattle.gates.proofs.Needs.{cost-path}
 use Rattle.calls.specs.declared.Stored.{Stored}
 use Rattle.calls.specs.Calls.{stored-places}
 use Rattle.demands.specs.Conditions.{Place, places-from, speaks, used-in, up-to, gates-to, walks-places}

@@ -58,8 +58,8 @@ unfoldable pub gate-places : (o : ℕ) → List (List Gate) → List Place
 gate-places o [] = []
 gate-places o (gs ∷ os) = order-places o 0 gs ++ gate-places (suc o) os
 
--- ---- R-7, the walk's places: "On either host the walk counts all three, over the gates up to and with the place's own,
--- at the end over all."
+-- ---- R-7, the walk's places: "On either host the walk counts all three, over the gates up to and with the place's
+-- own, at the end over all."
 
 -- the words of A and of B that steps use, and the deals, by document 01's counts
 abbrev pub used-in : List Step → Stored
@@ -71,7 +71,8 @@ up-to x [] = []
 up-to zero (g ∷ gs) = g ∷ cond (speaks g) [] (up-to zero gs)
 up-to (suc x) (g ∷ gs) = g ∷ up-to (cond (speaks g) x (suc x)) gs
 
--- all gates up to and with the place's own: of the orders before, and of its order; behind the last order none is left
+-- all gates up to and with the place's own: those of the orders before, and of its own order; at the end, behind the
+-- last order, those of all orders
 abbrev pub gates-to : List (List Gate) → Place → List (List Gate)
 gates-to os p = take (p .0) os ++ (up-to (p .1) (getD os (p .0) []) ∷ [])
 

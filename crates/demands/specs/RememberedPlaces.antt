@@ -5,8 +5,7 @@ use mathlib.Core.Logic.{_≢_}
 use mathlib.Core.List.{List, [], _∷_, _++_}
 use Prim.Native.Nat.{ℕ, _+_, _≤_, _<_}
 use lib.ListN.{length}
-use Rattle.gates.specs.Steps.{at, Exchange, Step, exchange, origin}
-use Rattle.gates.specs.Walk.{far}
+use Rattle.gates.specs.Steps.{at, Step, exchange, origin}
 use Rattle.gates.specs.Costs.{cost}
 use Rattle.gates.specs.Hosts.{Pair}
 use Rattle.calls.specs.Scripts.{Script, script-cost, orders-in, Orderly}
@@ -16,13 +15,13 @@ use Rattle.calls.specs.Calls.{State, start, hear}
 use Rattle.runs.specs.Runs.{Stage, Setting, staged, Spoken, Dealer, Side, going, World, world, Call, Run}
 use Rattle.runs.specs.Strict.{Calls}
 use Rattle.demands.specs.Conditions.{used-in}
+use Rattle.demands.specs.Completed.{Located}
 
 -- the place (o, x) in a script: the steps up to and with its product or refresh, and those behind it; at the end all of
 -- them, and none
 pub data Standing (σ : Script) (o x : ℕ) : (done left : List Step) → Type 0 where
-  at-exchange : (before left : List Step) (d : ℕ) (e : Exchange) → σ .steps ≡ before ++ (exchange d e ∷ left)
-      → far before origin .order ≡ o → far before origin .turn ≡ x
-      → Standing σ o x (before ++ (exchange d e ∷ [])) left
+  at-exchange : (l : Located (σ .steps) origin o x)
+      → Standing σ o x (l .before ++ (exchange (l .target) (l .gate) ∷ [])) (l .behind)
   at-end : orders-in σ ≡ o → 0 ≡ x → Standing σ o x (σ .steps) []
 
 -- "each operation keeps them equal to what the walk would give"
@@ -36,8 +35,8 @@ pub record Remembers (σ : Script) (s : State) : Type 0 where
   pub left-b : s .stored .b + cost left .b ≡ script-cost σ .b
   pub left-deals : s .stored .deals + cost left .deals ≡ script-cost σ .deals
 
--- a call took a host from one state to another: the steps that it ran, the next product or refresh with them, whose word
--- it speaks there
+-- a call took a host from one state to another: the steps that it ran, with the next product or refresh, whose word it
+-- speaks there
 pub record Ran (σ : Script) (s s′ : State) : Type 0 where
   pub done : List Step
   pub ran : List Step
@@ -54,8 +53,7 @@ SameFrom i n X Y = (k : ℕ) → i ≤ k → k < n → at X k ≡ at Y k
 -- the first words of its lists that a started host can still look at: those of the product or refresh where it stands,
 -- right before its stored places; at the end there are none
 pub data Looks (σ : Script) (s : State) : Stored → Type 0 where
-  from-exchange : (before left : List Step) (d : ℕ) (e : Exchange) → σ .steps ≡ before ++ (exchange d e ∷ left)
-      → far before origin .order ≡ s .order → far before origin .turn ≡ s .turn → Looks σ s (used-in before)
+  from-exchange : (l : Located (σ .steps) origin (s .order) (s .turn)) → Looks σ s (used-in (l .before))
   from-end : orders-in σ ≡ s .order → 0 ≡ s .turn → Looks σ s (used-in (σ .steps))
 
 -- a stage with other lists A and B
@@ -74,7 +72,7 @@ relisted S A B =
     }
 
 pub record RememberedPlaces : Type 0 where
-  -- ---- in every run, at every moment: the state that the host's last call returned, completed or refused
+  -- ---- in every run, at every moment from a host's starting on: the state that it holds
 
   pub host1 : (S : Stage) → Orderly (S .script) → (cs : List Call) (z : Dealer) (buf : List ℕ) (s : State)
       (t : List Pair) (said : List Spoken) (two : Side)
@@ -115,20 +113,18 @@ pub record RememberedPlaces : Type 0 where
       → start (lent 2 σ B′ D′) r ≡ start (lent 2 σ B D) r
   pub hearing1 : (σ : Script) (A A′ D D′ : List ℕ) (s : State) (v : ℕ) → hear (lent 1 σ A D) s v .number ≡ 0
       → hear (lent 1 σ A′ D′) s v .number ≡ 0
-      → (before behind : List Step) (d : ℕ) (e : Exchange) → σ .steps ≡ before ++ (exchange d e ∷ behind)
-      → far before origin .order ≡ s .order → far before origin .turn ≡ s .turn
-      → SameFrom (used-in before .a) (hear (lent 1 σ A D) s v .state .stored .a) A A′
+      → (l : Located (σ .steps) origin (s .order) (s .turn))
+      → SameFrom (used-in (l .before) .a) (hear (lent 1 σ A D) s v .state .stored .a) A A′
       → hear (lent 1 σ A′ D′) s v ≡ hear (lent 1 σ A D) s v
   pub hearing2 : (σ : Script) (B B′ D D′ : List ℕ) (s : State) (v : ℕ) → hear (lent 2 σ B D) s v .number ≡ 0
       → hear (lent 2 σ B′ D′) s v .number ≡ 0
-      → (before behind : List Step) (d : ℕ) (e : Exchange) → σ .steps ≡ before ++ (exchange d e ∷ behind)
-      → far before origin .order ≡ s .order → far before origin .turn ≡ s .turn
-      → SameFrom (used-in before .b) (hear (lent 2 σ B D) s v .state .stored .b) B B′
-      → SameFrom (used-in before .deals) (hear (lent 2 σ B D) s v .state .stored .deals) D D′
+      → (l : Located (σ .steps) origin (s .order) (s .turn))
+      → SameFrom (used-in (l .before) .b) (hear (lent 2 σ B D) s v .state .stored .b) B B′
+      → SameFrom (used-in (l .before) .deals) (hear (lent 2 σ B D) s v .state .stored .deals) D D′
       → hear (lent 2 σ B′ D′) s v ≡ hear (lent 2 σ B D) s v
-  -- so too of all later calls of a run, from where both hosts are started: they are the same calls, with the same words,
-  -- states and deals, on other lists that have the same words from there on up to the need. What stood before was
-  -- used up, and what stands behind is not used.
+  -- so too of all later calls of a run, from where both hosts are started: whatever calls follow, they are calls on
+  -- every other two lists A and B that have the same words from there on up to the need, with the same words spoken and
+  -- the same states, on the same deals. What stood before was used up, and what stands behind is not used.
   pub later : (S : Stage) → Orderly (S .script) → (A′ B′ : List ℕ)
       → script-cost (S .script) .a ≤ length A′ → script-cost (S .script) .b ≤ length B′
       → (cs : List Call) (z : Dealer) (buf : List ℕ) (s s2 : State) (t t2 : List Pair) (said said2 : List Spoken)

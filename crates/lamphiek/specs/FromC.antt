@@ -73,7 +73,7 @@ pub record FromC : Type 0 where
       → length (state-left (starting s h J T M D) s) ≡ state-words
   pub hear-long : (s : List ℕ) (h : ℕ) (J T M D : List ℕ) (v : ℕ) → length s ≡ state-words
       → length (state-left (hearing s h J T M D v) s) ≡ state-words
-  -- before the first call: words that hold the registers given, with whatever place and kept words
+  -- before the first call: words that hold the registers given, with whatever places and kept words
   pub begins : (S : Setting) (M D one two : List ℕ) → masks-in M ≡ (S .r1, S .r2)
       → registers-in one ≡ (S .rm, S .r1)
       → registers-in two ≡ (S .rm, S .r2)

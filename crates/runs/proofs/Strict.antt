@@ -7,12 +7,12 @@ use Prim.Native.Nat.{ℕ, zero, suc, _+_, _<_}
 use native.Mathlib.Omega.{arith}
 use lib.ListN.{length, take, replicate}
 use lib.Seq.{take-append-le, take-all}
-use Rattle.gates.specs.Steps.{Lane, Exchange, Step, local, deal, exchange, end, Cursor, origin}
+use Rattle.gates.specs.Steps.{Lane, Exchange, Step, Cursor, origin}
 use Rattle.gates.specs.Walk.{Conf, Exchanging}
 use Rattle.gates.specs.Hosts.{Pair, Triple, of1, of2, joint1, joint2, act, Supplied}
 use Rattle.gates.proofs.Seen.{through, Always}
 use Rattle.calls.specs.Scripts.{orders-in}
-use Rattle.calls.specs.Places.{Found, nowhere, found, seek}
+use Rattle.calls.specs.Places.{Found, seek}
 use Rattle.calls.specs.Lent.{Worker, worker1, worker2, worker-with, lists-fault, lent-fault}
 use Rattle.calls.specs.Calls.{State, Answer, fresh, state-of, given, start, found-of, resume, hear}
 use Rattle.calls.proofs.Hearing.{resume-is}

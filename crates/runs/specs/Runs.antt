@@ -88,8 +88,8 @@ pub data Dealer : Type 0 where
   idle : Pair → Dealer
   ready : Pair → List Pair → Dealer
 
--- host 1 or 2: what it holds (before its starting, registers with whatever place and kept words); once started, its
--- trail and the words that it has spoken, the last in front
+-- host 1 or 2: what it holds (before its starting, registers with whatever place, stored places and kept words); once
+-- started, its trail and the words that it has spoken, the last in front
 pub data Side : Type 0 where
   waiting : State → Side
   going : State → List Pair → List Spoken → Side
@@ -221,8 +221,8 @@ module _ (S : Stage) where
         → Completes (hearing2 v) (world z buf (going s1 t1 said1) (going s t said))
         (world z buf (going s1 t1 said1) (stepped (lent2 D) s v t said))
 
-  -- before the first call: host 0 has its masks, hosts 1 and 2 hold the registers given, with whatever place and kept
-  -- words
+  -- before the first call: host 0 has its masks, hosts 1 and 2 hold the registers given, with whatever place, stored
+  -- places and kept words
   pub data Begins : World → Type 0 where
     given-out : {buf : List ℕ} {one two : State} → held one ≡ (S .rm, S .r1) → held two ≡ (S .rm, S .r2)
         → Begins (world (idle (S .r1, S .r2)) buf (waiting one) (waiting two))

@@ -56,7 +56,7 @@ use Rattle.worker.specs.declared.place.Stand.{Stand}
 use Rattle.worker.specs.Answers.{state-with, halt-on}
 use Rattle.call_check.specs.declared.day.Day.{Day}
 use Rattle.call_check.specs.Days.{passed-quarters, passed-n, DayIs}
-use Rattle.worker.specs.Days.{used-until, DayLent, DayPlace, DayStands, SameDay}
+use Rattle.worker.specs.Days.{used-until, DayLent, DayPlace, DayStandIs, SameDay}
 
 -- ---- the product or refresh where a state stands, in the day's steps
 
@@ -89,9 +89,9 @@ there-in-day T f o x i a b n pl =
 
 -- the walk's places there
 walked-there : (T : List ℕ) (f : ℕ → Bool) (o x : ℕ) (y : Stand)
-    → (pl : DayPlace T f o x (y .at .gate) (y .at .a) (y .b) (y .at .deals)) → DayStands T o y
+    → (pl : DayPlace T f o x (y .at .gate) (y .at .a) (y .b) (y .at .deals)) → DayStandIs T o y
     → let w = there-in-day T f o x (y .at .gate) (y .at .a) (y .b) (y .at .deals) pl in
-    y .stored ≡ stored-at (w .0 ∷ w .1) (cursor o x (y .at .a) (y .b) (y .at .deals))
+    y .walked ≡ stored-at (w .0 ∷ w .1) (cursor o x (y .at .a) (y .b) (y .at .deals))
 walked-there T f o x y pl is =
     let w = there-in-day T f o x (y .at .gate) (y .at .a) (y .b) (y .at .deals) pl in
     let g = pl .standing .held in
@@ -221,22 +221,22 @@ module _ (h : ℕ) (T S : List ℕ) (H : Hours) (M D : List ℕ) (n : ℕ) (e : 
 
         -- at a product or refresh, where the code stands
         module _ (y : Stand) (pl : DayPlace T f (s .order) (s .turn) (y .at .gate) (y .at .a) (y .b) (y .at .deals))
-            (is : DayStands T (s .order) y) where
+            (is : DayStandIs T (s .order) y) where
           found-there : seek (s .order) (s .turn) (day-steps 32 T (counting H)) origin
               ≡ found (steps-from 32 (length (front (day-factor f) (s .order)) + y .at .gate) (drop (s .order) (day-gates 32 f (rows T))))
               (cursor (s .order) (s .turn) (y .at .a) (y .b) (y .at .deals))
           found-there = ap (λ (ss : List Step). seek (s .order) (s .turn) ss origin) (sym steps-are) ∙ pl .is
 
-          pub hear-unequal : (r : Bool) → r ≡ same-places (s .stored) (y .stored) → not r ≡ true
+          pub hear-unequal : (r : Bool) → r ≡ same-places (s .stored) (y .walked) → not r ≡ true
               → refused (18, 0) s ≡ day-hear 32 h T S H M D s v
           unfolding with-shares
           hear-unequal r er t =
               let w = there-in-day T f (s .order) (s .turn) _ _ _ _ pl in
               turned 18 0 (at-unequal h σ M D n 0 e larger v z (w .0) (w .1) _ _ (w .3) (w .2) found-there
-              (are-unequal (s .stored) (y .stored) _ (walked-there T f (s .order) (s .turn) y pl is) r er t))
+              (are-unequal (s .stored) (y .walked) _ (walked-there T f (s .order) (s .turn) y pl is) r er t))
 
           -- the walk goes on
-          pub hear-done : s .stored ≡ y .stored → (h₁ : Halt) (k l : ℕ) (m c : Lane)
+          pub hear-done : s .stored ≡ y .walked → (h₁ : Halt) (k l : ℕ) (m c : Lane)
               → length m ≡ 24 → length c ≡ 24 → k ≡ at (s .m) 15 → l ≡ at (s .mask) 15
               → halt-on h₁ (within k (first-tail S) m) (within l (second-tail S) c)
               ≡ report P

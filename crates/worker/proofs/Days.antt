@@ -50,7 +50,7 @@ use Rattle.days.proofs.Places.{seek-far, used-before, found-in-day, nowhere-in-
 use Rattle.worker.proofs.Places.{found-here}
 use Rattle.worker.specs.Answers.{state-with}
 use Rattle.worker.specs.declared.place.Stand.{Stand}
-use Rattle.worker.specs.Jobs.{Sized, Stands}
+use Rattle.worker.specs.Jobs.{Sized, StandIs}
 use Rattle.worker.specs.Days.{few-counts, used-until, sought-run, DayLent, DayPlace}
 
 -- one curve's counts
@@ -151,7 +151,7 @@ module _ (T : List ℕ) (f : ℕ → Bool) (o x : ℕ) (in-day : o ≤ 96) (g : 
 
 -- by the code's own numbers
 pub place-at : (T : List ℕ) (f : ℕ → Bool) (o x i a b n : ℕ) → DayPlace T f o x i a b n → (ord : Order) (z : Stand)
-    → Stands 32 (rows T) ord i a b n z → DayPlace T f o x (z .at .gate) (z .at .a) (z .b) (z .at .deals)
+    → StandIs 32 (rows T) ord i a b n z → DayPlace T f o x (z .at .gate) (z .at .a) (z .b) (z .at .deals)
 place-at T f o x i a b n p ord z S = rw (S .gate, S .a-used, S .b-used, S .deals-used) p
 
 -- ---- an order begun

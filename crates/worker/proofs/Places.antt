@@ -26,7 +26,7 @@ use Rattle.calls.specs.Lent.{lent-fault, lent, passed}
 use Rattle.calls.specs.Places.{nowhere, found, seek}
 use Rattle.calls.specs.declared.Stored.{Stored}
 use Rattle.calls.specs.Calls.{stored-at, same-places}
-use Rattle.calls.proofs.Hearing.{same-told, same-tells}
+use Rattle.calls.proofs.Hearing.{apart, same-told, same-tells}
 use Rattle.calls.proofs.Faults.{no-fault}
 use Rattle.walks.specs.Workers.{cursor}
 use Rattle.walks.specs.Halts.{steps-from}
@@ -35,7 +35,7 @@ use Rattle.walks.proofs.Halts.{with-own}
 use Rattle.walks.proofs.Before.{before}
 use Rattle.walks.proofs.Places.{no-place, found-at}
 use Rattle.worker.specs.declared.place.Stand.{Stand}
-use Rattle.worker.specs.Jobs.{Sized, Standing, Stands}
+use Rattle.worker.specs.Jobs.{Sized, Standing, StandIs}
 use Rattle.jobs.proofs.Indices.{gates-count, gates-drop, gates-at, cost-before}
 
 -- a state stands there, all its numbers are small, and it is what `seek` finds: the gate i, with a words of A, b of B and so many
@@ -52,9 +52,6 @@ pub record There (w : ℕ) (job table : List ℕ) (o x i a b dealt : ℕ) : Type
 
 -- ---- stored places, as the code compares them with the walk's
 
-apart : false ≡ true → ⊥
-apart e = subst (λ (b : Bool). cond b ⊥ Unit) e tt
-
 module _ (u v w : Stored) (e : v ≡ w) where
   pub are-equal : (r : Bool) → r ≡ same-places u v → not r ≡ false → u ≡ w
   are-equal true is t = same-tells u v (sym is) ∙ e
@@ -67,8 +64,8 @@ module _ (u v w : Stored) (e : v ≡ w) where
 -- ---- where a hearing stands
 
 -- by the code's own numbers
-pub stands-own : (w : ℕ) (table : List ℕ) (ord : Order) (i a b dealt : ℕ) (z : Stand) → Stands w (rows table) ord i a b dealt z
-    → Stands w (rows table) ord (z .at .gate) (z .at .a) (z .b) (z .at .deals) z
+pub stands-own : (w : ℕ) (table : List ℕ) (ord : Order) (i a b dealt : ℕ) (z : Stand) → StandIs w (rows table) ord i a b dealt z
+    → StandIs w (rows table) ord (z .at .gate) (z .at .a) (z .b) (z .at .deals) z
 stands-own w table ord i a b n z S =
     record {
       gate = refl;
@@ -80,7 +77,7 @@ stands-own w table ord i a b n z S =
     }
 
 pub there-at : (w : ℕ) (job table : List ℕ) (o x i a b dealt : ℕ) → There w job table o x i a b dealt → (ord : Order) (z : Stand)
-    → Stands w (rows table) ord i a b dealt z → There w job table o x (z .at .gate) (z .at .a) (z .b) (z .at .deals)
+    → StandIs w (rows table) ord i a b dealt z → There w job table o x (z .at .gate) (z .at .a) (z .b) (z .at .deals)
 there-at w job table o x i a b n h ord z S = rw (S .gate, S .a-used, S .b-used, S .deals-used) h
 
 module _ (w : ℕ) (job table : List ℕ) where
@@ -153,7 +150,7 @@ module _ (w : ℕ) (job table : List ℕ) where
   -- ---- the code's gate is the one where the state stands
 
   module _ (o i a b dealt : ℕ) (S : Standing w job table o i) (z : Stand)
-      (Z : Stands w (rows table) (order-at job o) i a b dealt z) where
+      (Z : StandIs w (rows table) (order-at job o) i a b dealt z) where
     own-step : step-of w (z .gate) ≡ meaning w (S .held)
     own-step = Z .fetches (S .held) (S .there)
 
@@ -168,19 +165,19 @@ module _ (w : ℕ) (job table : List ℕ) where
 
     -- the walk's places there
     pub walked-here : (x : ℕ)
-        → z .stored ≡ stored-at (step-of w (z .gate) ∷ steps-from w (i + 1) (drop o (job-gates w job table))) (cursor o x a b dealt)
+        → z .walked ≡ stored-at (step-of w (z .gate) ∷ steps-from w (i + 1) (drop o (job-gates w job table))) (cursor o x a b dealt)
     walked-here x =
         Z .places
         ∙ sym (with-own (step-of w (z .gate)) _ (used-at (step-of w (z .gate))) refl speaks-here o x a b dealt)
 
     -- what is used behind it
-    pub behind-a : z .stored .a ≡ a + used-at (step-of w (z .gate)) .a
+    pub behind-a : z .walked .a ≡ a + used-at (step-of w (z .gate)) .a
     behind-a = ap (λ (u : Stored). u .a) (Z .places)
 
-    pub behind-deals : z .stored .deals ≡ dealt + used-at (step-of w (z .gate)) .deals
+    pub behind-deals : z .walked .deals ≡ dealt + used-at (step-of w (z .gate)) .deals
     behind-deals = ap (λ (u : Stored). u .deals) (Z .places)
 
-    pub few-behind : (z .stored .a ≤ a + 2) × (z .stored .deals ≤ dealt + 1)
+    pub few-behind : (z .walked .a ≤ a + 2) × (z .walked .deals ≤ dealt + 1)
     few-behind =
         let f = few-used (step-of w (z .gate)) (used-at (step-of w (z .gate))) refl in
         (omega (arith, f, behind-a), omega (arith, f, behind-deals))

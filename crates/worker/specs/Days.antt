@@ -20,7 +20,7 @@ use Rattle.programs.specs.Orders.{program}
 use Rattle.programs.specs.Seek.{sought}
 use Rattle.days.specs.Orders.{own-order, is-run, order-words, front}
 use Rattle.worker.specs.declared.place.Stand.{Stand}
-use Rattle.worker.specs.Jobs.{Standing, Stands}
+use Rattle.worker.specs.Jobs.{Standing, StandIs}
 
 -- few enough that a day of them fits
 abbrev pub few-counts : Cost → Type 0
@@ -61,6 +61,6 @@ pub record DayPlace (table : List ℕ) (f : ℕ → Bool) (o x i a b dealt : ℕ
       (cursor o x a b dealt)
 
 -- the code's gate there, of its own order, and the walk's places
-abbrev pub DayStands : (table : List ℕ) (o : ℕ) → Stand → Type 0
-DayStands table o s =
-    Stands 32 (rows table) (own-order o) (s .at .gate) (s .at .a) (s .b) (s .at .deals) s
+abbrev pub DayStandIs : (table : List ℕ) (o : ℕ) → Stand → Type 0
+DayStandIs table o s =
+    StandIs 32 (rows table) (own-order o) (s .at .gate) (s .at .a) (s .b) (s .at .deals) s

@@ -31,11 +31,11 @@ pub record Standing (w : ℕ) (job table : List ℕ) (order gate : ℕ) : Type 0
 
 -- where a hearing stands, by the code: at gate i of an order's program, with a words of A, b of B and so many deals
 -- used before it; the gate is the code's, and the walk's places count what it uses too
-pub record Stands (w : ℕ) (ps : List Row) (order : Order) (i a b dealt : ℕ) (s : Stand) : Type 0 where
+pub record StandIs (w : ℕ) (ps : List Row) (order : Order) (i a b dealt : ℕ) (s : Stand) : Type 0 where
   pub gate : s .at .gate ≡ i
   pub a-used : s .at .a ≡ a
   pub b-used : s .b ≡ b
   pub deals-used : s .at .deals ≡ dealt
   pub fetches : (g : Gate) → fetched (program w ps order) i ≡ At g → step-of w (s .gate) ≡ meaning w g
-  pub places : s .stored
+  pub places : s .walked
       ≡ stored-places (a + used-at (step-of w (s .gate)) .a) (b + 1) (dealt + used-at (step-of w (s .gate)) .deals)

@@ -19,7 +19,7 @@ ghost use Rattle.days.specs.Day.{hours, day-gates, day-steps, day-script};
 ghost use Rattle.days.specs.DayCalls.{day-start, day-hear};
 ghost use Rattle.days.specs.Orders.{is-run, within, first-tail, second-tail};
 ghost use Rattle.worker.specs.Answers.{answer-of, state-of, state-with, halt-on};
-ghost use Rattle.worker.specs.Days.{DayLent, DayPlace, DayStands, SameDay, used-until};
+ghost use Rattle.worker.specs.Days.{DayLent, DayPlace, DayStandIs, SameDay, used-until};
 use crate::Answer;
 use crate::State;
 use crate::answering::answered;
@@ -124,7 +124,7 @@ fn go_on(
     requires { ⌜ DayLent (now table) (now shares) (counted (day .curve)) (held (day .quarters)) (day .n)
         × DayPlace (now table) (held (day .quarters)) order turn (stand .at .gate) (stand .at .a) (stand .b)
         (stand .at .deals)
-        × DayStands (now table) order stand
+        × DayStandIs (now table) order stand
         × (length (now m) ≡ 24) × (length (now mask) ≡ 24) ⌝ }
     ensures long { λ r. ⌜ (length (now (m .exit)) ≡ 24) × (length (now (mask .exit)) ≡ 24) ⌝ }
     ensures halt { λ r.
@@ -237,7 +237,7 @@ fn hear_there(
     requires { ⌜ DayLent (now table) (now shares) (counted (day .curve)) (held (day .quarters)) (day .n)
         × DayPlace (now table) (held (day .quarters)) order turn (stand .at .gate) (stand .at .a) (stand .b)
         (stand .at .deals)
-        × DayStands (now table) order stand
+        × DayStandIs (now table) order stand
         × SameDay (held (day .quarters)) (hours (now calendar) weekday)
         × ((0, 0)
         ≡ lent-fault
@@ -246,7 +246,7 @@ fn hear_there(
     ensures { λ r.
         ⌜ answer-of r
         ≡ day-hear 32 host (now (table .entry)) (now (shares .entry)) (hours (now (calendar .entry)) weekday)
-        (now (masks .entry)) (now (deals .entry)) (state-with m mask order turn (stand .stored)) heard ⌝ }
+        (now (masks .entry)) (now (deals .entry)) (state-with m mask order turn (stand .walked)) heard ⌝ }
 {
     let mut m = m;
     let mut mask = mask;
@@ -312,7 +312,7 @@ fn hear_parts(
     let job = order_words(order);
     let used = used_before(lent.day, order);
     let stand = stand_at(order_at(&job, 0), table, used, turn, gate, a, dealt);
-    if !are_same(stored, stand.stored) {
+    if !are_same(stored, stand.walked) {
         return refused(18, 0, state(m, mask, order, turn, stored));
     }
     hear_there(

@@ -12,7 +12,7 @@ ghost use Rattle.calls.specs.Lent.{lent, worker-with};
 ghost use Rattle.worker.specs.Answers.{answer-of, state-of, state-with, halt-on};
 ghost use Rattle.walks.specs.Workers.{cursor};
 ghost use Rattle.walks.specs.Halts.{steps-from};
-ghost use Rattle.worker.specs.Jobs.{Sized, Standing, Stands};
+ghost use Rattle.worker.specs.Jobs.{Sized, Standing, StandIs};
 use crate::Answer;
 use crate::State;
 use crate::answering::answered;
@@ -30,7 +30,8 @@ use programs::Sought;
 use worker_gate::Reach;
 use worker_gate::meet;
 
-// The other's word is heard at the product or refresh where the state stands; the walk goes on from its stored places.
+// The other's word is heard at the product or refresh where the state stands; the walk goes on from the walk's places
+// there.
 pub(crate) fn resume(
     host: u32,
     job: &[u32],
@@ -45,7 +46,7 @@ pub(crate) fn resume(
     stand: Stand,
 ) -> Halt
     requires { ⌜ Sized 32 (now job) (now table) × Standing 32 (now job) (now table) order (stand .at .gate)
-        × Stands 32 (rows (now table)) (order-at (now job) order) (stand .at .gate) (stand .at .a) (stand .b)
+        × StandIs 32 (rows (now table)) (order-at (now job) order) (stand .at .gate) (stand .at .a) (stand .b)
         (stand .at .deals) stand
         × (stand .at .gate < 1000) × (turn < 1000)
         × (stand .at .a < 2 ^ 30) × (stand .at .deals < 2 ^ 30) × (stand .b < 2 ^ 30) ⌝ }
@@ -58,7 +59,7 @@ pub(crate) fn resume(
         (cursor order turn (stand .at .a) (stand .b) (stand .at .deals))))) ⌝ }
 {
     let at = stand.at;
-    let stored = stand.stored;
+    let stored = stand.walked;
     meet(host, stand.gate, masks, deals, at, stand.b, heard, m, mask);
     let next = Reach {
         gate: at.gate + 1,
@@ -118,7 +119,7 @@ impl State {
             return refused(8, 0, self);
         };
         let stand = stand_at(o, table, lent.counts, self.turn, gate, a, dealt);
-        if !are_same(self.stored, stand.stored) {
+        if !are_same(self.stored, stand.walked) {
             return refused(18, 0, self);
         }
         let mut m = self.m;

@@ -6,7 +6,7 @@ ghost use Prim.Native.Nat.{_+_, _^_, _<_};
 ghost use lib.Dec.{eqb};
 ghost use Rattle.tables.specs.Table.{rows};
 ghost use Rattle.calls.specs.Calls.{stored-places, same-places};
-ghost use Rattle.worker.specs.Jobs.{Stands};
+ghost use Rattle.worker.specs.Jobs.{StandIs};
 use crate::walk::places_with;
 use calls::Stored;
 use gate_shape::used_by;
@@ -22,7 +22,7 @@ pub(crate) struct Stand {
     pub gate: GateCode,
     pub at: Reach,
     pub b: usize,
-    pub stored: Stored,
+    pub walked: Stored,
 }
 
 // By what the orders before use, and what the order uses before its gate.
@@ -37,7 +37,7 @@ pub(crate) fn stand_at(
 ) -> Stand
     requires { ⌜ (used .a + a < 2 ^ 30) × (used .b + turn < 2 ^ 30) × (used .deals + dealt < 2 ^ 30) ⌝ }
     ensures { λ r.
-        ⌜ Stands 32 (rows (now (table .entry))) o gate (used .a + a) (used .b + turn) (used .deals + dealt) r ⌝ }
+        ⌜ StandIs 32 (rows (now (table .entry))) o gate (used .a + a) (used .b + turn) (used .deals + dealt) r ⌝ }
 {
     let p = piece_at(o, table, gate);
     let g = gate_at(p, table, p.from);
@@ -51,7 +51,7 @@ pub(crate) fn stand_at(
         gate: g,
         at,
         b,
-        stored: places_with(used_by(g), at, b),
+        walked: places_with(used_by(g), at, b),
     }
 }
 
@@ -67,7 +67,8 @@ pub(crate) fn are_same(u: Stored, v: Stored) -> bool
     u.deals == v.deals
 }
 
-// Conditions 8, 18 and 9 past the last order, of which these are the counts: the end is the number of orders and 0.
+// Conditions 8, 18 and 9 past the last order, where `whole` has the counts of all orders: the end is the number of
+// orders and 0.
 pub(crate) fn end_fault(order: usize, n: usize, turn: u32, whole: Counts, stored: Stored) -> u32
     ensures { λ r.
         ⌜ r

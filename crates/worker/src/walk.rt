@@ -82,7 +82,7 @@ fn places_at(at: Reach, b: usize) -> Stored
 }
 
 // Behind a gate at which so much is used.
-pub(crate) fn behind(used: Used, at: Reach) -> Reach
+fn behind(used: Used, at: Reach) -> Reach
     requires { ⌜ (used .a ≤ 2) × (used .deals ≤ 1)
         × (at .gate < 2 ^ 62) × (at .a < 2 ^ 62) × (at .deals < 2 ^ 62) ⌝ }
     ensures { λ r. ⌜ (r .gate ≡ at .gate + 1) × (r .a ≡ at .a + used .a)

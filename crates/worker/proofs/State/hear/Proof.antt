@@ -8,7 +8,7 @@ use Rattle.jobs.specs.Counts.{counted}
 use Rattle.calls.specs.Scripts.{job-script}
 use Rattle.calls.proofs.Scripts.{job-made}
 use Rattle.worker.specs.Answers.{state-of}
-use Rattle.worker.specs.Jobs.{Sized, Stands}
+use Rattle.worker.specs.Jobs.{Sized, StandIs}
 use Rattle.jobs.proofs.Indices.{gates-count}
 use Rattle.worker.proofs.Jobs.{sized}
 use Rattle.walks.proofs.Answers.{hear-refused, at-nowhere, at-unequal, at-exchange, past-programs}
@@ -126,12 +126,12 @@ found-place c = there-at 32 _ _ _ _ _ _ _ _ (there (c .before)) _ _ (c .stand-at
 stands-there : (c : tie.After-stand-at)
     → let a = c .before .before .before .before .before .before .before .before .before .before .before .before .before .before .before .args in
     let r = c .stand-at .result in
-    Stands 32 (rows (now (a .table))) (order-at (now (a .job)) (a .self .order)) (r .at .gate) (r .at .a) (r .b) (r .at .deals) r
+    StandIs 32 (rows (now (a .table))) (order-at (now (a .job)) (a .self .order)) (r .at .gate) (r .at .a) (r .b) (r .at .deals) r
 stands-there c =
     let q = c .before .before .before .before in
     let a = q .before .before .before .before .before .before .before .before .before .before .before .args in
     let r = c .stand-at .result in
-    subst (λ (o : Order). Stands 32 (rows (now (a .table))) o (r .at .gate) (r .at .a) (r .b) (r .at .deals) r)
+    subst (λ (o : Order). StandIs 32 (rows (now (a .table))) o (r .at .gate) (r .at .a) (r .b) (r .at .deals) r)
     (q .before .order-at .ensures) (stands-own 32 _ _ _ _ _ _ _ (c .stand-at .ensures))
 
 are-same-requires : tie.Need-are-same-requires

@@ -14,7 +14,7 @@ use Rattle.calendars.specs.Quarters.{held}
 use Rattle.days.specs.Orders.{is-run}
 use Rattle.days.proofs.Idle.{next-run}
 use Rattle.days.proofs.Own.{own-at}
-use Rattle.worker.specs.Jobs.{Sized, Standing, Stands}
+use Rattle.worker.specs.Jobs.{Sized, Standing, StandIs}
 use Rattle.worker.proofs.Days.{sized-own, halts-in, long-left, ends-day, next-order}
 use borrow.Author.Needs.{needs}
 use Rattle.worker.proofs.day.go_on.Statement.{statement}
@@ -39,7 +39,7 @@ resume-requires c κs =
     let e = sym (ow .order-words .ensures) in (
       subst (λ (J : List ℕ). Sized 32 J T) e (sized-own T (s .args .order) (s .pre .0 .ruled)),
       subst (λ (J : List ℕ). Standing 32 J T 0 (z .at .gate)) e (p .standing),
-      subst (λ (q : Order). Stands 32 (rows T) q (z .at .gate) (z .at .a) (z .b) (z .at .deals) z)
+      subst (λ (q : Order). StandIs 32 (rows T) q (z .at .gate) (z .at .a) (z .b) (z .at .deals) z)
           (sym (own-at (s .args .order)) ∙ ap (λ (J : List ℕ). order-at J 0) e) (s .pre .2),
       p .few-gates,
       p .few-turns,
@@ -63,7 +63,7 @@ returns c =
     (a .order) (s .pre .1 .in-day) (s .pre .1 .run) k l (now (a .m)) (now (a .mask)) _ _ (s .pre .3) (s .pre .4) (ts .take-share .ensures .0) (ts .take-share .ensures .1)
     (a .turn) _ _ _ _ (s .pre .1) u (a .heard) _ (ow .order-words .ensures) _ (rs .resume .ensures u)
     (c .before .if1 .taken) in
-    (w 0 0 (a .stand .stored) .1, λ k l u. c .halted .ensures _ _ ∙ w k l u .0)
+    (w 0 0 (a .stand .walked) .1, λ k l u. c .halted .ensures _ _ ∙ w k l u .0)
 
 -- the lanes that are left are as long as before
 long-left-of : (c : tie.After-leave) → (length (c .leave .last .1 .0) ≡ 24) × (length (c .leave .last .1 .1 .0) ≡ 24)
@@ -76,7 +76,7 @@ long-left-of c =
     let a = s .args in
     long-left (a .host) (now (a .masks)) (now (a .deals)) (now (a .table)) (now (a .shares)) (counted (a .day .curve)) _ (a .day .n) (s .pre .0)
     (a .order) (s .pre .1 .in-day) (s .pre .1 .run) 0 0 (now (a .m)) (now (a .mask)) _ _ (s .pre .3) (s .pre .4) (ts .take-share .ensures .0) (ts .take-share .ensures .1)
-    (a .turn) _ _ _ _ (s .pre .1) (a .stand .stored) (a .heard) _ (ow .order-words .ensures) _ (rs .resume .ensures (a .stand .stored))
+    (a .turn) _ _ _ _ (s .pre .1) (a .stand .walked) (a .heard) _ (ow .order-words .ensures) _ (rs .resume .ensures (a .stand .walked))
     (el .if1 .left) _ _ (c .leave .ensures .0) (c .leave .ensures .1)
 
 leave-requires : tie.Need-leave-requires

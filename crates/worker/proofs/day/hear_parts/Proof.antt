@@ -14,8 +14,8 @@ use Rattle.days.specs.Day.{hours}
 use Rattle.days.specs.DayCalls.{day-hear}
 use Rattle.days.proofs.Own.{own-at}
 use Rattle.worker.specs.Answers.{state-with}
-use Rattle.worker.specs.Days.{DayLent, DayPlace, DayStands, SameDay}
-use Rattle.worker.specs.Jobs.{Stands}
+use Rattle.worker.specs.Days.{DayLent, DayPlace, DayStandIs, SameDay}
+use Rattle.worker.specs.Jobs.{StandIs}
 use Rattle.worker.proofs.Days.{lent-few, none-placed, placed-day, place-at}
 use Rattle.worker.proofs.Places.{are-equal, stands-own}
 use Rattle.worker.proofs.DayCalls.{same-day, day-lent, whole-day, hear-turned, hear-past, hear-nowhere, hear-unequal}
@@ -175,7 +175,7 @@ stands-there : (c : tie.After-stand-at)
     let a = cd .before .before .before .before .before .before .args in
     let y = c .stand-at .result in
     DayPlace (now (a .table)) (held (cd .check-day-lent .result .day .quarters)) (a .order) (a .turn) (y .at .gate) (y .at .a) (y .b) (y .at .deals)
-    × DayStands (now (a .table)) (a .order) y
+    × DayStandIs (now (a .table)) (a .order) y
 stands-there c =
     let oa = c .before in
     let ub = oa .before .before in
@@ -183,7 +183,7 @@ stands-there c =
     let a = ow .before .before .before .before .before .before .before .before .before .before .before .before .before .before .args in
     let y = c .stand-at .result in (
       place-at _ _ _ _ _ _ _ _ (placed ub) _ y (c .stand-at .ensures),
-      subst (λ (q : Order). Stands 32 (rows (now (a .table))) q (y .at .gate) (y .at .a) (y .b) (y .at .deals) y)
+      subst (λ (q : Order). StandIs 32 (rows (now (a .table))) q (y .at .gate) (y .at .a) (y .b) (y .at .deals) y)
           (oa .order-at .ensures ∙ ap (λ (J : List ℕ). order-at J 0) (ow .order-words .ensures) ∙ own-at (a .order))
           (stands-own 32 _ _ _ _ _ _ y (c .stand-at .ensures)),
     )

@@ -39,9 +39,9 @@ returns c =
     c .answered .ensures
     ∙ rw (p1 .put .ensures, p2 .put2 .ensures)
     (hear-done (a .host) (now (a .table)) (now (a .shares)) (hours (now (a .calendar)) (a .weekday)) (now (a .masks)) (now (a .deals)) _
-    (s .pre .4) (state-with (a .m) (a .mask) (a .order) (a .turn) (a .stand .stored)) (omega (arith, s .good)) (omega (arith, s .good)) (a .heard)
+    (s .pre .4) (state-with (a .m) (a .mask) (a .order) (a .turn) (a .stand .walked)) (omega (arith, s .good)) (omega (arith, s .good)) (a .heard)
     refl (held (a .day .quarters)) (s .pre .3) (a .stand) (s .pre .1) (s .pre .2) refl (g .go-on .result) _ _ _ _ (g .go-on .ensures .0 .0)
-    (g .go-on .ensures .0 .1) (a1 .at .ensures) (a2 .at2 .ensures) (g .go-on .ensures .1 _ _ (a .stand .stored)))
+    (g .go-on .ensures .0 .1) (a1 .at .ensures) (a2 .at2 .ensures) (g .go-on .ensures .1 _ _ (a .stand .walked)))
 
 pub hear-there-spec : {M : Type 1} → statement M
 hear-there-spec =
