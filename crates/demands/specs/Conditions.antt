@@ -136,7 +136,8 @@ pub data StartIs (T : Terms) (h : ℕ) (masks deals : List ℕ) : (number index 
 abbrev pub end-place : Terms → Place
 end-place T = (T .orders, 0)
 
-pub data HearingIs (T : Terms) (h : ℕ) (masks deals : List ℕ) (p : Place) (u : Stored) : (number index : ℕ) → Type 0
+pub data HearingIs (T : Terms) (h : ℕ) (masks deals : List ℕ) (p : Place) (u : Stored)
+    : (number index : ℕ) → Type 0
   where
     -- 1 to 7
     as-starting : {n i : ℕ} → StartIs T h masks deals (suc n) i → HearingIs T h masks deals p u (suc n) i
@@ -147,5 +148,7 @@ pub data HearingIs (T : Terms) (h : ℕ) (masks deals : List ℕ) (p : Place) (u
     unequal : StartIs T h masks deals 0 0 → Among p (T .places) ⊎ (p ≡ end-place T) → u ≢ T .walked p
         → HearingIs T h masks deals p u 18 0
     -- "9. Hearing is called at the end."
-    ended : StartIs T h masks deals 0 0 → p ≡ end-place T → u ≡ T .walked p → HearingIs T h masks deals p u 9 0
-    hears-well : StartIs T h masks deals 0 0 → Among p (T .places) → u ≡ T .walked p → HearingIs T h masks deals p u 0 0
+    ended : StartIs T h masks deals 0 0 → p ≡ end-place T → u ≡ T .walked p
+        → HearingIs T h masks deals p u 9 0
+    hears-well : StartIs T h masks deals 0 0 → Among p (T .places) → u ≡ T .walked p
+        → HearingIs T h masks deals p u 0 0

@@ -16,7 +16,8 @@ use Rattle.calls.specs.Scripts.{Script, job-script}
 use Rattle.calls.specs.Lent.{Lent, lent}
 use Rattle.calls.specs.declared.Stored.{Stored}
 use Rattle.calls.specs.Calls.{stored-places, State, Answer, Prepared, start, hear, prepare}
-use Rattle.demands.specs.Conditions.{gate-places, walks-places, Terms, Single, PreparationIs, StartIs, HearingIs}
+use Rattle.demands.specs.Conditions.{gate-places, walks-places, Terms, Single, PreparationIs, StartIs}
+use Rattle.demands.specs.Conditions.{HearingIs}
 use Rattle.demands.specs.Numbers.{Told, ToldPlaces}
 
 -- a job with its table, whose counts are k: conditions 2 to 5 as jobs/specs/FirstFault.antt has them, and the products

@@ -26,7 +26,8 @@ pub record Told (σ : Script) (T : Terms) : Type 0 where
 -- R-7, and the walk's places are what they say: at each product or refresh what the steps up to and with it use, at the
 -- end what all of them use
 pub record ToldPlaces (σ : Script) (T : Terms) : Type 0 where
-  pub walked : (before behind : List Step) (d : ℕ) (e : Exchange) → σ .steps ≡ before ++ (exchange d e ∷ behind)
+  pub walked : (before behind : List Step) (d : ℕ) (e : Exchange)
+      → σ .steps ≡ before ++ (exchange d e ∷ behind)
       → used-in (before ++ (exchange d e ∷ [])) ≡ T .walked (far before origin .order, far before origin .turn)
   pub walked-all : used-in (σ .steps) ≡ T .walked (end-place T)
 
