@@ -2,7 +2,7 @@
 use crate::Quarters;
 
 // The check's number (0 for none, 16, 17), which quarters count and how many. Beside a number all else is 0.
-#[derive(Drop)]
+#[derive(Clone, Copy)]
 pub struct Counted {
     pub number: u32,
     pub quarters: Quarters,

@@ -1,5 +1,6 @@
 // Calendars of opening hours (document 02, R-6): which quarters of a weekday count, how many there are, and the factor
 // of the day's mean.
+#![tactic(auto)]
 pub mod answers;
 mod bits;
 mod checks;
@@ -13,7 +14,7 @@ pub use checks::counted;
 pub use factors::factor;
 
 // The 96 quarters as bits, quarter q at bit q % 32 of word q / 32.
-#[derive(Drop)]
+#[derive(Clone, Copy)]
 pub struct Quarters {
     pub low: u32,
     pub middle: u32,

@@ -12,7 +12,7 @@ use jobs::Counts;
 
 // The number, 0 for none, and the order's index; where there is none, the counts of the orders before the host's place,
 // or for host 0 of the whole job.
-#[derive(Drop)]
+#[derive(Clone, Copy)]
 pub struct Finding {
     pub number: u32,
     pub index: u32,

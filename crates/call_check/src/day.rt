@@ -25,7 +25,7 @@ const CURVE_END_DEALS: u32 = programs::EXACT_DEALS as u32 + programs::SATURATION
 const CURVE_END_WORDS_A: u32 = programs::EXACT_WORDS_A as u32 + programs::SATURATION_WORDS_A as u32;
 
 // What the walk of a day goes by: the counts of one curve, which quarters count, and how many.
-#[derive(Drop)]
+#[derive(Clone, Copy)]
 pub struct Day {
     pub curve: Counts,
     pub quarters: Quarters,
@@ -33,7 +33,7 @@ pub struct Day {
 }
 
 // The number, 0 for none; where there is one, the day and its counts are all 0. The index is 0 at every number.
-#[derive(Drop)]
+#[derive(Clone, Copy)]
 pub struct DayFinding {
     pub number: u32,
     pub day: Day,

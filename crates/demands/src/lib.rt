@@ -1,1 +1,2 @@
 // The three demands of the customer, of every run and of every call; the crate has no code.
+#![tactic(auto)]

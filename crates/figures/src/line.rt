@@ -6,7 +6,7 @@ use std::num::{wrapping_add_u32, wrapping_sub_u32};
 
 // What lies between two rows: the first's value, the change to the next, the counts from the one to the other, and how
 // many of these the reading has come.
-#[derive(Drop)]
+#[derive(Clone, Copy)]
 pub(crate) struct Segment {
     c: u32,
     change: u32,
@@ -16,7 +16,7 @@ pub(crate) struct Segment {
 
 // A table's rows, 16 at most; Y, from -4095 to some 82 million; whether the reading is above the last row's count; the
 // last segment that the reading has come into, or the first.
-#[derive(Drop)]
+#[derive(Clone, Copy)]
 pub(crate) struct Curve {
     pub(crate) rows: u32,
     pub(crate) sum: u32,

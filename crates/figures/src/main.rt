@@ -1,4 +1,5 @@
 // Document 01's cases, run by the engine and compared with plain arithmetic: one line for each group.
+#![tactic(auto)]
 mod curve_cases;
 mod draw;
 mod groups;

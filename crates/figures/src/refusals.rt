@@ -8,7 +8,7 @@ use jobs::{Checked, Which};
 use worker::{Answer, Registers, State, start};
 
 // A call and what it is to answer: the number and the order's index.
-#[derive(Drop)]
+#[derive(Clone, Copy)]
 pub(crate) struct Case {
     // 0 and 1 starting host 1 and host 2, 2 and 3 hearing, 4 and 5 unused masks of A and of B, 6 preparation, 7
     // checking

@@ -5,7 +5,7 @@ use std::num::wrapping_add_u32;
 // The trials, and of these the ones with a wrong value, those of a curve up to the last row, of these the ones too far
 // from its line, those with another register changed and with wrong counts or a changed rest of the deal buffer; the
 // reading of the first that went wrong.
-#[derive(Drop)]
+#[derive(Clone, Copy)]
 pub(crate) struct Sums {
     pub(crate) cases: u32,
     pub(crate) value: u32,

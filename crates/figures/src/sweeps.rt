@@ -6,7 +6,7 @@ use crate::trials::{Trial, compared};
 use std::num::{wrapping_add_u32, wrapping_sub_u32};
 
 // Which readings a sweep takes.
-#[derive(Drop)]
+#[derive(Clone, Copy)]
 pub(crate) enum Readings {
     // any word
     Words,

@@ -11,7 +11,7 @@ use worker::State;
 
 // An order, what its source opens, and the seed of everything else: of l1, l2 and m of the registers, A, B and the deal
 // buffer.
-#[derive(Drop)]
+#[derive(Clone, Copy)]
 pub(crate) struct Trial {
     pub(crate) kind: u32,
     pub(crate) target: u32,
@@ -69,7 +69,7 @@ fn plain_value(c: Trial, curve: Curve) -> u32 {
 }
 
 // Deals, and words spoken by both hosts.
-#[derive(Drop)]
+#[derive(Clone, Copy)]
 struct Cost(u32, u32);
 
 // Document 01's table of costs, as R-4 leaves it. Here 10 is what the exact curve has after its rows, a kind 8, and 11

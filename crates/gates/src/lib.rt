@@ -1,10 +1,11 @@
 // The gates of a program on shares: definitions and laws of what a gate writes on a lane, deals and speaks (the code:
 // crates `gate_shape`, `gate_local`, `gate_deal`, `gate_speak`). A lane is a host's words of one kind, the masked
 // values m or one of the masks: slots 0 to 15 are the registers, 16 to 23 the temporaries (document 01's kept words).
+#![tactic(auto)]
 
 // A gate as numbers: its operation, the target slot d, the source slots a and b, and a constant n. A part of a word
 // has its first bit in n and its number of bits in b. The definitions read it as a gate (`read`).
-#[derive(Drop)]
+#[derive(Clone, Copy)]
 pub struct GateCode {
     pub op: u32,
     pub d: u32,
@@ -83,7 +84,7 @@ pub const PAST: u32 = 20;
 
 // What a walk does at a gate: writes a slot on each lane alone, takes a deal, or exchanges words, with a deal at a
 // product and without one at a refresh and at a product with a known value.
-#[derive(Drop)]
+#[derive(Clone, Copy)]
 pub enum Shape {
     Local,
     Dealing { d: u32 },
@@ -92,7 +93,7 @@ pub enum Shape {
 }
 
 // Words used of A and of B, and deals.
-#[derive(Drop)]
+#[derive(Clone, Copy)]
 pub struct Used {
     pub a: usize,
     pub b: usize,

@@ -50,7 +50,7 @@ pub(crate) fn rows_of(table: &[u32], ruled: bool) -> u64
 }
 
 // The tallies of a curve in its two modes.
-#[derive(Drop)]
+#[derive(Clone, Copy)]
 pub(crate) struct CurveTallies {
     exact: u64,
     one_bit: u64,

@@ -1,8 +1,9 @@
 // Jobs: lists of orders, four words to an order. The definitions of their format, checks and counts, with their laws;
 // the code stands in `job_order`, `job_check` and `job_leftover`.
+#![tactic(auto)]
 
 // Deals, words spoken by both hosts, and words used of A and of B.
-#[derive(Drop)]
+#[derive(Clone, Copy)]
 pub struct Counts {
     pub deals: u32,
     pub words: u32,
@@ -11,7 +12,7 @@ pub struct Counts {
 }
 
 // What checking a job with its table finds.
-#[derive(Drop)]
+#[derive(Clone, Copy)]
 pub enum Checked {
     // The job's counts: deals, words spoken by both hosts, and words used of A and of B.
     Accepted {
@@ -29,7 +30,7 @@ pub enum Checked {
 
 // The number, 0 for none, and the order's index; the counts of the job and of the orders before a place in it, 0 where
 // it is refused.
-#[derive(Drop)]
+#[derive(Clone, Copy)]
 pub struct Findings {
     pub number: u32,
     pub index: u32,
@@ -38,7 +39,7 @@ pub struct Findings {
 }
 
 // One of the two mask lists.
-#[derive(Drop)]
+#[derive(Clone, Copy)]
 pub enum Which {
     ListA,
     ListB,

@@ -1,8 +1,9 @@
 // The gate program of each kind of order, what it opens and what it costs: definitions and laws, and the sizes by
 // number.
+#![tactic(auto)]
 
 // An order's four words (document 01: kind, target, first source, fourth word).
-#[derive(Drop)]
+#[derive(Clone, Copy)]
 pub struct Order {
     pub kind: u32,
     pub target: u32,
@@ -12,7 +13,7 @@ pub struct Order {
 
 // Where a program's n-th product or refresh stands: the gate's index, and the words of A and the deals that the program
 // uses before it.
-#[derive(Drop)]
+#[derive(Clone, Copy)]
 pub enum Sought {
     Found { gate: usize, a: usize, deals: usize },
     Nowhere,

@@ -1,12 +1,13 @@
 // The rehearsal (document 01, "House table by hand"): answers each line of standard input on standard output. How the
 // input is cut into lines is proved of `text_lines::cut`, what a line is answered of `rehearsal_answer::rehearsed`;
 // here bytes are read and written.
+#![tactic(auto)]
 use rehearsal_answer::rehearsed;
 use text_lines::{Line, blank, cut, front};
 use text_prints::Text;
 
 // Whether there was anything more to read, and the line that it left open.
-#[derive(Drop)]
+#[derive(Clone, Copy)]
 struct Input {
     more: bool,
     line: Line,

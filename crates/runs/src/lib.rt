@@ -1,1 +1,2 @@
 // Theorems about runs; the crate has no code.
+#![tactic(auto)]

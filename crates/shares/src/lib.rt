@@ -1,39 +1,41 @@
 // Sharing a reading among the three hosts, and opening what they hold (document 01, "Shares").
 // A value x has the masks l1 and l2, and m = x + l1 + l2 modulo 2^32.
+#![tactic(auto)]
+
 ghost use Rattle.std.specs.Prelude.{◌≡◌};
 ghost use Rattle.shares.specs.Sharing.{split, reconstruction};
 ghost use Rattle.shares.specs.Answers.{words, sharing, opening};
 
 // What host 0 holds of a value: both masks.
-#[derive(Drop)]
+#[derive(Clone, Copy)]
 pub struct DealerShare {
     pub l1: u32,
     pub l2: u32,
 }
 
 // What host 1 or host 2 holds: the masked value, and its own mask (l1 or l2).
-#[derive(Drop)]
+#[derive(Clone, Copy)]
 pub struct WorkerShare {
     pub m: u32,
     pub l: u32,
 }
 
 // The six words of the three hosts.
-#[derive(Drop)]
+#[derive(Clone, Copy)]
 pub struct Shares {
     pub p0: DealerShare,
     pub p1: WorkerShare,
     pub p2: WorkerShare,
 }
 
-#[derive(Drop)]
+#[derive(Clone, Copy)]
 pub enum Sharing {
     Shared(Shares),
     // Number 11.
     OutOfRange,
 }
 
-#[derive(Drop)]
+#[derive(Clone, Copy)]
 pub enum Opening {
     Opened(i64),
     // Number 10.

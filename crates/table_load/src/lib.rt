@@ -1,4 +1,5 @@
 // Loading a hotel's own calibration table from bytes (document 02, R-5): records of six bytes, one for each row.
+#![tactic(auto)]
 ghost use Rattle.std.specs.Prelude.{◌≡◌, true, ◌+◌, ◌*◌, ◌≤◌, length, set};
 ghost use Rattle.std.proofs.lemmas.List.Edits.{sets};
 ghost use Rattle.table_load.specs.Loading.{two_bytes, has_mark, count_of, value_of, marked, table_in};
@@ -15,7 +16,7 @@ const RECORD_BYTES: usize = 6;
 
 // Loading's answer: the number, 0 for none; the table's words, with zeros behind them, and how many there are, so that
 // table[0..len] is lent on. Refused, all but the number is 0.
-#[derive(Drop)]
+#[derive(Clone, Copy)]
 pub struct Loaded {
     pub number: u32,
     pub table: [u32; 32],

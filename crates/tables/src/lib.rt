@@ -1,5 +1,7 @@
 // Calibration tables (document 01, "The curve"): their rules, the slopes of their segments, and the house table.
 // A table is a slice of words, two to a row: count r, then micrograms per litre c.
+#![tactic(auto)]
+
 ghost use Rattle.std.specs.Prelude.{◌≡◌};
 ghost use Rattle.tables.specs.Table.{row, rows, row_fits, rises, keeps_rules, slope, house};
 

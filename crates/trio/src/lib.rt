@@ -1,4 +1,5 @@
 // The three hosts in one place: preparation, both startings, and every spoken word carried to the other host.
+#![tactic(auto)]
 ghost use Rattle.std.specs.Prelude.{◌≡◌};
 ghost use Rattle.calls.specs.Calls as Calls;
 ghost use Rattle.calls.specs.Scripts.{job_script};
@@ -12,7 +13,7 @@ use word_lists::copy_front;
 use worker::{Answer, Registers, State, start};
 
 // A share of every register, on which the three hosts agree.
-#[derive(Drop)]
+#[derive(Clone, Copy)]
 pub struct Shared {
     pub m: [u32; 16],
     pub l1: [u32; 16],
@@ -20,7 +21,7 @@ pub struct Shared {
 }
 
 // The preparation's number, order's index, deals and masks, and the last answers of hosts 1 and 2.
-#[derive(Drop)]
+#[derive(Clone, Copy)]
 pub struct Trio {
     pub number: u32,
     pub index: u32,

@@ -1,5 +1,7 @@
 // A lane's slots and a list's words. Reading past the last one gives 0 and writing there does nothing, so that every
 // gate has a meaning on every lane.
+#![tactic(auto)]
+
 ghost use Rattle.std.specs.Prelude.{◌≡◌, ◌+◌, set};
 ghost use Rattle.gates.specs.Steps as Steps;
 ghost use Rattle.word_lists.specs.Copied.{front_copied};

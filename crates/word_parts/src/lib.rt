@@ -1,4 +1,6 @@
 // What a word has in its parts: shifts, bits and floors, total in every argument.
+#![tactic(auto)]
+
 ghost use Rattle.std.specs.Prelude.{◌≡◌, ◌%◌, ◌^◌};
 ghost use Rattle.words.specs.Words.{bit, shl, shr};
 ghost use Rattle.words.specs.Signed.{shr_signed};

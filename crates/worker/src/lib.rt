@@ -1,4 +1,5 @@
 // Starting and hearing: hosts 1 and 2 stepped word by word through the gates of a job, or of a day.
+#![tactic(auto)]
 mod answering;
 mod day;
 mod day_place;
@@ -12,7 +13,7 @@ pub use day::start_day;
 pub use starting::start;
 
 // A host's registers: masked values and the host's own masks.
-#[derive(Drop)]
+#[derive(Clone, Copy)]
 pub struct Registers {
     pub m: [u32; 16],
     pub mask: [u32; 16],
@@ -20,7 +21,7 @@ pub struct Registers {
 
 // A host between two words: its lanes of registers (slots 0 to 15) and kept words (16 to 23), its place, and its stored
 // places in A, B and the deals (R-7).
-#[derive(Drop)]
+#[derive(Clone, Copy)]
 pub struct State {
     pub m: [u32; 24],
     pub mask: [u32; 24],
@@ -30,7 +31,7 @@ pub struct State {
 }
 
 // The number, 0 for none, with the order's index; the words spoken so far, the word given, and the state.
-#[derive(Drop)]
+#[derive(Clone, Copy)]
 pub struct Answer {
     pub number: u32,
     pub index: u32,

@@ -15,7 +15,7 @@ use programs::Order;
 use worker_gate::Reach;
 
 // The product or refresh where a state stands, with b words of B used before it; and the walk's places there.
-#[derive(Drop)]
+#[derive(Clone, Copy)]
 pub(crate) struct Stand {
     pub gate: GateCode,
     pub at: Reach,

@@ -22,14 +22,14 @@ use program_fetch::{Piece, gate_at, piece_at};
 use worker_gate::{Reach, say, step};
 
 // Where a walk through a piece stopped, by the gate's index in the piece, and the gate there.
-#[derive(Drop)]
+#[derive(Clone, Copy)]
 struct Stop {
     at: Reach,
     gate: GateCode,
 }
 
 // Where a walk through a job halted: the word given, the place, and the walk's places there.
-#[derive(Drop)]
+#[derive(Clone, Copy)]
 pub(crate) struct Halt {
     pub word: u32,
     pub order: u32,

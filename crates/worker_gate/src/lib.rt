@@ -1,5 +1,6 @@
 // A host at one gate: what it writes where no word is exchanged, the word that it speaks at a product or refresh, and
 // what it writes when it has heard the other's.
+#![tactic(auto)]
 ghost use Rattle.std.specs.Prelude.{◌≡◌, [], ◌∷◌};
 ghost use Rattle.gates.specs.Codes.{step_of};
 ghost use Rattle.gates.specs.Hosts.{on_m, on_mask};
@@ -14,7 +15,7 @@ use gates::{FIRST_DEAL, GateCode, Shape};
 use word_lists::{put, word_after, word_at};
 
 // Where a walk stands: at a gate, of an order or of a piece of it, with so many words of A and deals used.
-#[derive(Drop)]
+#[derive(Clone, Copy)]
 pub struct Reach {
     pub gate: usize,
     pub a: usize,

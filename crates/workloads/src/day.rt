@@ -24,7 +24,7 @@ const WEEKDAY: u32 = 0;
 const HEARINGS: u32 = 12000;
 
 // The last answers of hosts 1 and 2.
-#[derive(Drop)]
+#[derive(Clone, Copy)]
 struct Workers {
     one: Answer,
     two: Answer,

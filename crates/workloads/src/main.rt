@@ -1,6 +1,7 @@
 // Workloads for `bench/run`: standard input is the workload's digit, the orders of its job in two digits (of a day the
 // quarter), and how often; printed is a sum over what came out, which bench.c prints too. Its functions promise nothing
 // but that they end and stay within their bounds.
+#![tactic(auto)]
 mod day;
 
 use calls::Stored;

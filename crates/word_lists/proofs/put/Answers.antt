@@ -1,0 +1,5 @@
+use borrow.Author.Rules.{rules}
+use Rattle.word_lists.proofs.put.Goals as goal
+
+pub returns : goal.returns
+returns c = c.put_word.ensures
