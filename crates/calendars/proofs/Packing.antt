@@ -148,8 +148,9 @@ before_some q n zero h = let a : q + 0 ≡ q = omega arith in rw (a, before_none
 before_some q zero (suc m) h = absurd (omega arith)
 before_some q (suc n) (suc m) h =
     let a : q + suc m ≡ suc q + m = omega arith in
-    let r : suc (packed (λ k. ltb k (suc q + m)) (suc q) n) ≡ 2 ^ m = before_some (suc q) n m (omega arith) in
-    rw (a, lt-ltb q (suc q + m) (omega arith), pow-suc 2 m) (omega arith)
+    let r : suc (packed (λ k. ltb k (q + suc m)) (suc q) n) ≡ 2 ^ m =
+        subst (λ (z : ℕ). suc (packed (λ k. ltb k z) (suc q) n) ≡ 2 ^ m) (sym a) (before_some (suc q) n m (omega arith)) in
+    rw (lt-ltb q (q + suc m) (omega arith), pow-suc 2 m) (omega arith)
 
 -- ---- a span
 

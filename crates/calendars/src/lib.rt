@@ -1,6 +1,7 @@
 // Calendars of opening hours (document 02, R-6): which quarters of a weekday count, how many there are, and the factor
 // of the day's mean.
 #![tactic(auto)]
+
 pub mod answers;
 mod bits;
 mod checks;

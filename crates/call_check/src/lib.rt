@@ -1,5 +1,6 @@
 // What preparation, starting and hearing begin with: the checks of what each host is lent.
 #![tactic(auto)]
+
 mod checking;
 mod day;
 

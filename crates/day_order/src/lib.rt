@@ -1,6 +1,7 @@
 // An order of a day (R-3) on a host's lanes: whether it is run (R-6), its words as one order of a job, the share of its
 // quarter, and what is done before its gates and behind them. All three hosts go through these.
 #![tactic(auto)]
+
 ghost use Rattle.std.specs.Prelude.{◌≡◌, ◌+◌, ◌*◌, slice_set};
 ghost use Rattle.words.specs.Words.{add};
 ghost use Rattle.gates.specs.Steps as Steps;

@@ -1,5 +1,6 @@
 // Host 0 at one gate: its lanes are written in place, and a deal goes into the buffer behind those written before.
 #![tactic(auto)]
+
 ghost use Rattle.gates.specs.Codes.{step_of};
 ghost use Rattle.walks.specs.Dealers.{dealer, Holds, dealing};
 

@@ -1,5 +1,6 @@
 // Document 01's cases, run by the engine and compared with plain arithmetic: one line for each group.
 #![tactic(auto)]
+
 mod curve_cases;
 mod draw;
 mod groups;

@@ -1,6 +1,7 @@
 // What host 0 deals at a gate: document 01's formulas on words. The definitions stand with the gates (`Speech`,
 // `Meaning`, `Codes`).
 #![tactic(auto)]
+
 ghost use Rattle.std.specs.Prelude.{◌≡◌};
 ghost use Rattle.words.specs.Words.{add, sub, neg, numbers, bits};
 ghost use Rattle.shares.specs.Gates.{product_deal};

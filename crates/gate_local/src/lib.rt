@@ -1,6 +1,7 @@
 // What a gate writes on a lane before any word is exchanged: one slot, in place. All three hosts go through `step_mask`
 // and `step_m`, but for a deal of host 0, which writes its two masks itself (crate `dealer_gate`).
 #![tactic(auto)]
+
 ghost use Rattle.std.specs.Prelude.{◌≡◌, ℕ, ◌<◌, slice_set};
 ghost use Rattle.gates.specs.Hosts.{on_m, on_mask};
 ghost use Rattle.gates.specs.Codes.{step_of};

@@ -1,6 +1,7 @@
 // What a walk does at a gate, and what it uses there. The definitions stand with the gates (`Speech`, `Codes`,
 // `Costs`).
 #![tactic(auto)]
+
 ghost use Rattle.std.specs.Prelude.{◌≡◌};
 ghost use Rattle.gates.specs.Speech.{shape};
 ghost use Rattle.gates.specs.Codes.{step_of};

@@ -1,6 +1,7 @@
 // The words that are spoken at a gate: document 01's formulas on words. The definitions stand with the gates (`Speech`,
 // `Codes`).
 #![tactic(auto)]
+
 ghost use Rattle.std.specs.Prelude.{◌≡◌};
 ghost use Rattle.words.specs.Words.{numbers, bits};
 ghost use Rattle.shares.specs.Gates.{product_word1, product_word2, refresh_word1, refresh_word2};

@@ -1,5 +1,6 @@
 // Additions and subtractions of a job, on a lane in place (R-2): all three hosts go through `add_in_place`.
 #![tactic(auto)]
+
 ghost use Rattle.std.specs.Prelude.{◌≡◌};
 ghost use Rattle.jobs.specs.Additions.{added};
 ghost use Rattle.job_add.specs.Here.{adds_here};

@@ -1,5 +1,6 @@
 // Checking a job with its table: the one walk over its orders, for their faults and their counts.
 #![tactic(auto)]
+
 ghost use Rattle.std.specs.Prelude.{◌≡◌};
 ghost use Rattle.gates.specs.Costs.{cost_of};
 ghost use Rattle.jobs.specs.Job.{ill_sized};

@@ -1,5 +1,6 @@
 // The part of a mask list that a job leaves unused.
 #![tactic(auto)]
+
 ghost use Rattle.std.specs.Prelude.{◌≡◌};
 ghost use Rattle.gates.specs.Costs.{cost_of};
 ghost use Rattle.jobs.specs.Answers.{need, leftover_number, leftover_part};

@@ -1,5 +1,6 @@
 // One order of a job: its words, and its faults.
 #![tactic(auto)]
+
 ghost use Rattle.std.specs.Prelude.{◌≡◌};
 ghost use Rattle.jobs.specs.Job.{order_at};
 

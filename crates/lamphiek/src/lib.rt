@@ -2,6 +2,7 @@
 // the caller lends. include/lamphiek.h declares what is exported here; a struct that is lent is an array of words here,
 // in the order of its fields.
 #![tactic(auto)]
+
 mod checking;
 mod day;
 mod layout;

@@ -1,6 +1,7 @@
 // The gate program of each kind of order, gate by gate. A walk asks for the piece of the program in which a gate stands
 // (`piece_at`), and then for one gate after another of that piece (`gate_at`).
 #![tactic(auto)]
+
 use programs::Order;
 
 mod blocks;

@@ -1,5 +1,6 @@
 // The place of an order's n-th product or refresh, in constant time: from the sizes of the blocks before it.
 #![tactic(auto)]
+
 ghost use Rattle.std.specs.Prelude.{◌≡◌, List, [], ◌∷◌, ◌++◌, ℕ, ◌+◌, ◌^◌, ◌≤◌, ◌<◌};
 ghost use Rattle.gates.specs.Gates.{Gate, Mul, Refresh};
 ghost use Rattle.tables.specs.Table.{rows};

@@ -2,6 +2,7 @@
 // input is cut into lines is proved of `text_lines::cut`, what a line is answered of `rehearsal_answer::rehearsed`;
 // here bytes are read and written.
 #![tactic(auto)]
+
 use rehearsal_answer::rehearsed;
 use text_lines::{Line, blank, cut, front};
 use text_prints::Text;

@@ -1,6 +1,7 @@
 // The rehearsal (document 01, "House table by hand"): one line of text to its answer, by a curve order that the three
 // hosts run on the house table.
 #![tactic(auto)]
+
 ghost use Rattle.std.specs.Prelude.{◌≡◌};
 ghost use Rattle.text_lines.specs.Lines.{asking};
 ghost use Rattle.text_lines.specs.Buffers.{filled};

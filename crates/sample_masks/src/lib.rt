@@ -1,5 +1,6 @@
 // Mask lists that anybody can work out again, for rehearsals and traces: they mask nothing.
 #![tactic(auto)]
+
 ghost use Rattle.std.specs.Prelude.{◌≡◌, ◌+◌, length};
 ghost use Rattle.sample_masks.specs.Masks.{multiples};
 

@@ -1,5 +1,6 @@
 // Loading a hotel's own calibration table from bytes (document 02, R-5): records of six bytes, one for each row.
 #![tactic(auto)]
+
 ghost use Rattle.std.specs.Prelude.{◌≡◌, true, ◌+◌, ◌*◌, ◌≤◌, length, set};
 ghost use Rattle.std.proofs.lemmas.List.Edits.{sets};
 ghost use Rattle.table_load.specs.Loading.{two_bytes, has_mark, count_of, value_of, marked, table_in};

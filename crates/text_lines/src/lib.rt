@@ -1,6 +1,7 @@
 // The rehearsal program's input (document 01, "House table by hand"): how it is cut into lines, and what a line asks
 // for. What is printed: crate `text_prints`.
 #![tactic(auto)]
+
 ghost use Rattle.std.specs.Prelude.{◌≡◌, take};
 
 mod cutting;

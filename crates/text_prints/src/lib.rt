@@ -1,6 +1,7 @@
 // The lines that the rehearsal program prints (document 01, "House table by hand"), as short texts. A byte behind 80
 // others is left out, so that no step asks for room; no line is longer than 66.
 #![tactic(auto)]
+
 ghost use Rattle.std.specs.Prelude.{◌≡◌, [], ◌∷◌};
 ghost use Rattle.text_lines.specs.Buffers.{filled, with_bytes};
 ghost use Rattle.text_prints.specs.Printed.{letter, shown, signed_shown, answered, refused};

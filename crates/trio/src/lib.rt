@@ -1,5 +1,6 @@
 // The three hosts in one place: preparation, both startings, and every spoken word carried to the other host.
 #![tactic(auto)]
+
 ghost use Rattle.std.specs.Prelude.{◌≡◌};
 ghost use Rattle.calls.specs.Calls as Calls;
 ghost use Rattle.calls.specs.Scripts.{job_script};

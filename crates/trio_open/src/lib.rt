@@ -1,5 +1,6 @@
 // What a register opens, where the three hosts stand in one place; the plant room is sent its six words alone.
 #![tactic(auto)]
+
 ghost use Rattle.std.specs.Prelude.{◌≡◌};
 ghost use Rattle.gates.specs.Steps.{at};
 ghost use Rattle.shares.specs.Answers.{opening};

@@ -1,6 +1,7 @@
 // Words of 32 bits, as the three hosts hold them. Sums and differences of words are the supplied
 // `std::num::wrapping_add_u32` and `wrapping_sub_u32`; here are the product and the signed reading.
 #![tactic(auto)]
+
 ghost use Rattle.std.specs.Prelude.{◌≡◌};
 ghost use Rattle.words.specs.Words.{mul};
 ghost use Rattle.words.specs.Signed.{signed, wrap};

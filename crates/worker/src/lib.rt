@@ -1,5 +1,6 @@
 // Starting and hearing: hosts 1 and 2 stepped word by word through the gates of a job, or of a day.
 #![tactic(auto)]
+
 mod answering;
 mod day;
 mod day_place;

@@ -1,6 +1,7 @@
 // A host at one gate: what it writes where no word is exchanged, the word that it speaks at a product or refresh, and
 // what it writes when it has heard the other's.
 #![tactic(auto)]
+
 ghost use Rattle.std.specs.Prelude.{◌≡◌, [], ◌∷◌};
 ghost use Rattle.gates.specs.Codes.{step_of};
 ghost use Rattle.gates.specs.Hosts.{on_m, on_mask};

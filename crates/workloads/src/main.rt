@@ -2,6 +2,7 @@
 // quarter), and how often; printed is a sum over what came out, which bench.c prints too. Its functions promise nothing
 // but that they end and stay within their bounds.
 #![tactic(auto)]
+
 mod day;
 
 use calls::Stored;

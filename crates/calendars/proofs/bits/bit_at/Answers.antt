@@ -1,0 +1,8 @@
+use mathlib.Core.Path.{refl}
+use borrow.Author.Rules.{rules}
+use Rattle.words.specs.Words.{bit}
+use Rattle.calendars.proofs.bits.bit_at.Goals as goal
+
+pub returns : goal.returns
+unfolding bit
+returns c = refl

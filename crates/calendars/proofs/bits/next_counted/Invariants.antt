@@ -1,0 +1,14 @@
+use mathlib.Core.Path.{◌≡◌, refl, sym, ◌∙◌}
+use Prim.Native.Nat.{◌-◌}
+use native.Mathlib.Omega.{arith}
+use borrow.Author.Rules.{rules}
+use Rattle.calendars.specs.Ranges.{next}
+use Rattle.calendars.specs.Quarters.{held}
+use Rattle.calendars.proofs.Ranges.{next_stop, next_go, next_done}
+use Rattle.calendars.proofs.bits.next_counted.Given as goal
+
+abbrev pub invariant-loop-q : goal.invariant-loop-q
+invariant-loop-q l = next (held l.x) l.quarter (96 - l.quarter) ≡ next (held l.x) l.q (96 - l.q)
+
+abbrev pub decreases-loop-q : goal.decreases-loop-q
+decreases-loop-q l = 96 - l.q

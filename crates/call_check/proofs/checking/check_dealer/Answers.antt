@@ -1,0 +1,11 @@
+use mathlib.Core.Path.{◌∙◌}
+use borrow.Author.Rules.{rules}
+use Rattle.jobs.specs.Job.{job_cost}
+use Rattle.calls.specs.Lent.{dealer_fault}
+use Rattle.call_check.specs.Faults.{needs_of}
+use Rattle.call_check.proofs.Hosts.{all_before}
+use Rattle.call_check.proofs.checking.check_dealer.Goals as goal
+
+pub returns : goal.returns
+unfolding dealer_fault needs_of job_cost
+returns c = record { fault = c.check_job.ensures.fault; counts = c.check_job.ensures.counts ∙ all_before _ _ _ _ }

@@ -1,0 +1,15 @@
+use borrow.Author.Tests.{ne_eqb}
+use Rattle.call_check.specs.Faults.{needs_of}
+use Rattle.call_check.proofs.checking.needs_of.Goals as goal
+
+pub returns-in-1 : goal.returns-in-1
+unfolding needs_of
+returns-in-1 c = simp c.in-1.is
+
+pub returns-in-2 : goal.returns-in-2
+unfolding needs_of
+returns-in-2 c = simp c.in-2.is
+
+pub returns-in_default : goal.returns-in_default
+unfolding needs_of
+returns-in_default c = simp (ne_eqb _ _ c.in_default.rest.0.1, ne_eqb _ _ c.in_default.rest.1)

@@ -1,0 +1,101 @@
+use mathlib.Core.Path.{◌≡◌, refl, sym, ap, ◌∙◌}
+use mathlib.Core.Bool.{true}
+use Prim.Native.Nat.{ℕ}
+use native.Mathlib.Omega.{arith}
+use borrow.Author.Tests.{not-true, not-false}
+use lib.ListN.{length}
+use Rattle.tables.specs.Table.{rows, keeps_rules}
+use Rattle.jobs.specs.Job.{Fault}
+use Rattle.jobs.specs.CostTable.{curve_cost}
+use Rattle.calls.specs.Lent.{or_else, dealer_lists_fault}
+use Rattle.calendars.specs.Calendar.{counted_quarters}
+use Rattle.days.specs.Day.{hours, day_fault, day_of}
+use Rattle.call_check.specs.Faults.{needs_of}
+use Rattle.call_check.proofs.Days.{nothing_found, no_day, bad_hours, few_quarters, no_rules, few_rows, few_counts, lists_day, day_found}
+use borrow.Author.Rules.{rules}
+use Rattle.call_check.proofs.day.check_day.Goals as goal
+
+pub returns-then-shares-ne-DAY_WORDS : goal.returns-then-shares-ne-DAY_WORDS
+returns-then-shares-ne-DAY_WORDS c =
+    let t = c.day_turned_down.ensures in
+    record { fault = ap {B = Fault} (λ (n : ℕ). (n, 0)) t.0 ∙ no_day _ _ _ _ c.if-shares-ne-DAY_WORDS.true; day = nothing_found _ _ _ _ t (λ z. omega arith) }
+
+pub returns-then-found-ne0 : goal.returns-then-found-ne0
+returns-then-found-ne0 c =
+    let t = c.day_turned_down-then-found-ne0.ensures in
+    let k = c in
+    let ne = c.if-found-ne0.true in record { fault = ap {B = Fault} (λ (n : ℕ). (n, 0)) t.0 ∙ bad_hours _ _ _ k.if-shares-ne-DAY_WORDS.false _ k.counted-found.ensures _ ne; day = nothing_found _ _ _ _ t ne }
+
+pub returns-then-not-keeps_rules : goal.returns-then-not-keeps_rules
+returns-then-not-keeps_rules c =
+    let t = c.day_turned_down-then-not-keeps_rules.ensures in
+    let r = c in
+    let g = r in
+    let k = g in record {
+      fault = ap {B = Fault} (λ (n : ℕ). (n, 0)) t.0
+          ∙ no_rules _ _ _ k.if-shares-ne-DAY_WORDS.false _ k.counted-found.ensures g.if-found-ne0.false _
+          (sym r.keeps_rules.ensures ∙ not-true _ c.if-not-keeps_rules.true-raw);
+      day = nothing_found _ _ _ _ t (λ z. omega arith);
+    }
+
+-- the table keeps its rules
+kept : (c : goal.Else-not-keeps_rules)
+    → keeps_rules c.args.table.now ≡ true
+kept c = sym c.keeps_rules.ensures ∙ not-false _ c.if-not-keeps_rules.false-raw
+
+pub overflow_cast-table : goal.overflow_cast-table
+overflow_cast-table c =
+    let g = c in
+    let k = g in
+    omega (arith, few_rows _ _ _ k.if-shares-ne-DAY_WORDS.false _ k.counted-found.ensures g.if-found-ne0.false (kept c))
+
+pub curve_counts-curve-requires : goal.curve_counts-curve-requires
+curve_counts-curve-requires c =
+    let g = c in
+    let k = g in
+    few_rows _ _ _ k.if-shares-ne-DAY_WORDS.false _ k.counted-found.ensures g.if-found-ne0.false (kept c)
+
+pub day_counts-whole-requires : goal.day_counts-whole-requires
+day_counts-whole-requires c =
+    let e = c in
+    let g = e in
+    let k = g in
+    let f = few_counts _ _ _ k.if-shares-ne-DAY_WORDS.false _ k.counted-found.ensures g.if-found-ne0.false (kept e) _ c.curve_counts-curve.ensures in
+    let a = k.args in
+    (f.0, f.1, f.2, f.3, few_quarters a.table.now _ _ k.if-shares-ne-DAY_WORDS.false _ k.counted-found.ensures g.if-found-ne0.false)
+
+-- the lists' number is the day's
+lists_are : (c : goal.After-lists_fault-number)
+    → let k = c in
+    let a = k.args in
+    let T = a.table.now in
+    let H = hours a.calendar.now a.weekday in
+    (c.lists_fault-number.result, 0)
+    ≡ or_else (day_fault T (length a.shares.now) H)
+    (dealer_lists_fault (needs_of a.host (day_of (counted_quarters H.calendar H.weekday) (curve_cost 0 (length (rows T))))) a.a.now
+    a.b.now a.deals.now)
+lists_are c =
+    let v = c in
+    let e = v in
+    let g = e in
+    let k = g in
+    lists_day _ _ _ k.if-shares-ne-DAY_WORDS.false _ k.counted-found.ensures g.if-found-ne0.false (kept e) _ v.curve_counts-curve.ensures _ _ _ _ _ _
+    (c.needs_of.ensures ∙ ap (needs_of _) c.day_counts-whole.ensures) c.lists_fault-number.ensures
+
+pub returns-then-number-ne0 : goal.returns-then-number-ne0
+returns-then-number-ne0 c =
+    let t = c.day_turned_down-then-number-ne0.ensures in
+    record { fault = ap {B = Fault} (λ (n : ℕ). (n, 0)) t.0 ∙ lists_are c; day = nothing_found _ _ _ _ t c.if-number-ne0.true }
+
+pub returns : goal.returns
+returns c =
+    let n = c in
+    let l = n in
+    let v = l in
+    let e = v in
+    let g = e in
+    let k = g in record {
+      fault = ap {B = Fault} (λ (n : ℕ). (n, 0)) (sym n.if-number-ne0.false) ∙ lists_are l;
+      day = day_found _ _ _ k.if-shares-ne-DAY_WORDS.false _ k.counted-found.ensures g.if-found-ne0.false (kept e) _ v.curve_counts-curve.ensures _ _ refl refl refl
+          l.day_counts-whole.ensures;
+    }

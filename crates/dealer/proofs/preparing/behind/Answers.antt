@@ -1,0 +1,26 @@
+use native.Mathlib.Omega.{arith}
+use Rattle.gates.specs.Codes.{step_of}
+use Rattle.gates.proofs.Uses.{few_used}
+use Rattle.walks.proofs.Dealers.{counts_behind}
+use borrow.Author.Rules.{rules}
+use Rattle.dealer.proofs.preparing.behind.Goals as goal
+
+pub overflow_add-result : goal.overflow_add-result
+overflow_add-result c =
+    let u = c in
+    omega (arith, few_used (step_of 32 u.args.g) _ u.used_by-more.ensures, u.requires)
+
+pub overflow_add-result-2 : goal.overflow_add-result-2
+overflow_add-result-2 c =
+    let u = c in
+    omega (arith, few_used (step_of 32 u.args.g) _ u.used_by-more.ensures, u.requires)
+
+pub overflow_add-result-3 : goal.overflow_add-result-3
+overflow_add-result-3 c =
+    let u = c in
+    omega (arith, few_used (step_of 32 u.args.g) _ u.used_by-more.ensures, u.requires)
+
+pub returns : goal.returns
+returns c =
+    let u = c in
+    λ A B l1 l2 buf. counts_behind A B (step_of 32 u.args.g) _ _ u.used_by-more.ensures

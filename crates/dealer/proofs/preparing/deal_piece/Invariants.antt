@@ -1,0 +1,21 @@
+use mathlib.Core.List.{map}
+use Prim.Native.Nat.{◌-◌, ◌≤◌, ◌<◌}
+use native.Mathlib.Omega.{arith}
+use borrow.Author.Rules.{rules}
+use lib.ListN.{length, drop}
+use Rattle.tables.specs.Table.{rows}
+use Rattle.gates.specs.Meaning.{meaning}
+use Rattle.gates.specs.Codes.{step_of}
+use Rattle.program_fetch.specs.Pieces.{piece_gates}
+use Rattle.walks.specs.Dealers.{dealer, dealing}
+use Rattle.walks.proofs.Dealers.{joined}
+use Rattle.walks.proofs.Preparing.{Midway, begins}
+use Rattle.dealer.proofs.Pieces.{gate_room, gate_done, gates_done}
+use Rattle.dealer.proofs.preparing.deal_piece.Given as goal
+
+abbrev pub invariant-loop-i : goal.invariant-loop-i
+invariant-loop-i l = let gs = piece_gates 32 (rows l.table) l.p in
+    Midway l.a l.b (map (meaning 32) (drop l.p.from gs)) (map (meaning 32) (drop l.i gs)) (dealer l.initial.at l.initial.l1 l.initial.l2 l.initial.deals) (dealer l.at l.l1 l.l2 l.deals)
+
+abbrev pub decreases-loop-i : goal.decreases-loop-i
+decreases-loop-i l = l.p.end - l.i

@@ -1,0 +1,15 @@
+use Rattle.std.proofs.Common.{arith, rules}
+use Rattle.words.specs.Words.{add}
+use Rattle.words.proofs.Words.{sub_of}
+use Rattle.gate_deal.proofs.product_deal.Goals as goal
+
+pub returns : goal.returns
+unfolding add
+returns c =
+    simp (
+      sub_of 32 c.wrapping_sub_u32.result c.args.g1 (omega arith) (omega arith)
+          c.wrapping_sub_u32.ensures.value,
+      c.wrapping_mul.ensures,
+      c.wrapping_add_u32-b.ensures.value,
+      c.wrapping_add_u32-a.ensures.value,
+    )

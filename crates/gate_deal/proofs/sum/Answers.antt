@@ -1,0 +1,7 @@
+use Rattle.words.specs.Words.{add}
+use Rattle.std.proofs.Common.{rules}
+use Rattle.gate_deal.proofs.sum.Goals as goal
+
+pub returns : goal.returns
+unfolding add
+returns c = c.wrapping_add_u32.ensures.value

@@ -1,0 +1,91 @@
+use mathlib.Core.Path.{sym, ap, ◌∙◌}
+use mathlib.Core.Logic.{inl, inr, ⊎_elim}
+use Prim.Native.Nat.{◌*◌, ◌-◌, ◌+◌, ◌≤◌}
+use native.Mathlib.Omega.{arith}
+use borrow.Author.Rules.{rules}
+use lib.ListN.{length}
+use Rattle.jobs.proofs.Sums.{job_counts, row_count, rows_few}
+use Rattle.jobs.proofs.Turns.{Given, given, Going, refused, accepted, ill, starts, done, faulty, few_so_far, turn}
+use Rattle.jobs.proofs.Marks.{Marked, unmarked, next_mark, all_marked}
+use Rattle.job_check.specs.Tally.{tallied, CurveTallied}
+use Rattle.job_check.proofs.Tallies.{nothing, sum_fits, tallied_sum}
+use Rattle.job_check.proofs.survey.Goals as goal
+
+pub returns-then-ill_sized : goal.returns-then-ill_sized
+returns-then-ill_sized c =
+    let t = c.turned_down.ensures in
+    let q = refused 32 _ _ _ 2 0 (ill 32 _ _ (sym c.ill_sized.ensures ∙ c.if-ill_sized.true)) (λ z. omega arith) in
+    record { found = t.0 ∙ q.0; passed = t.1 ∙ q.1 }
+
+pub rows_of-requires : goal.rows_of-requires
+rows_of-requires c = c.keeps_rules-ruled.ensures
+
+pub curve_tallies-curve-requires : goal.curve_tallies-curve-requires
+curve_tallies-curve-requires c = rw c.rows_of_lem.ensures (rows_few _ _ c.keeps_rules-ruled.ensures)
+
+pub loop-i-init : goal.loop-i-init
+loop-i-init c =
+    let k = c in (
+      given _ _ (sym k.ill_sized.ensures ∙ k.if-ill_sized.false) k.keeps_rules-ruled.ensures,
+      rw (← c.rows_of_lem.ensures) c.curve_tallies-curve.ensures,
+      starts 32 _ _ job_counts _ nothing,
+      unmarked 32 _ _ _ job_counts _ nothing,
+    )
+
+pub overflow_cast-i : goal.overflow_cast-i
+overflow_cast-i c = omega arith
+
+pub returns-then-fault-ne0 : goal.returns-then-fault-ne0
+returns-then-fault-ne0 c =
+    let b = c in
+    let l = b.loop-i in
+    let s = b in
+    let h : l.i * 4 + 4 ≤ length s.args.job.now = omega arith in
+    let t = c.turned_down-then-fault-ne0.ensures in
+    let ne = c.if-fault-ne0.true in
+    let q = refused 32 _ _ _ _ _ (faulty 32 _ _ l.invariant.2 l.invariant.0 h c.order_at-order.ensures
+    c.order_fault-fault.ensures ne) ne in
+    record { found = t.0 ∙ q.0; passed = t.1 ∙ q.1 }
+
+pub overflow_add-whole : goal.overflow_add-whole
+overflow_add-whole c =
+    let b = c in
+    let l = b.loop-i in
+    let s = b in
+    let h : l.i * 4 + 4 ≤ length s.args.job.now = omega arith in
+    let f = few_so_far 32 _ _ l.invariant.2 l.invariant.0 h c.order_at-order.ensures
+    c.order_fault-fault.ensures c.if-fault-ne0.false (c.order_tally-whole.ensures _ l.invariant.1) in
+    omega (arith, sum_fits _ _ f.0 f.1)
+
+pub overflow_add-i : goal.overflow_add-i
+overflow_add-i c = omega arith
+
+pub loop-i-smaller : goal.loop-i-smaller
+loop-i-smaller c = omega arith
+
+pub loop-i-preserved : goal.loop-i-preserved
+loop-i-preserved c =
+    let e = c in
+    let b = e in
+    let l = b.loop-i in
+    let s = b in
+    let h : l.i * 4 + 4 ≤ length s.args.job.now = omega arith in
+    let k = c.order_tally-whole.ensures _ l.invariant.1 in
+    let f = few_so_far 32 _ _ l.invariant.2 l.invariant.0 h e.order_at-order.ensures e.order_fault-fault.ensures
+    e.if-fault-ne0.false k in
+    let g = turn 32 _ _ l.invariant.2 l.invariant.0 h e.order_at-order.ensures e.order_fault-fault.ensures e.if-fault-ne0.false k
+    (tallied_sum _ _ f.0 f.1) in (
+      l.invariant.0,
+      l.invariant.1,
+      g,
+      next_mark 32 _ _ _ l.invariant.3 job_counts g (omega arith)
+          (⊎_elim (λ t. inl (t.0.taken, ap tallied t.1)) (λ t. inr (t.0.left, ap tallied t.1)) c.if-i-place.branch),
+    )
+
+pub returns : goal.returns
+returns c =
+    let a = c in
+    let l = a.loop-i in
+    let d = done 32 _ _ l.invariant.2 l.invariant.0 a.loop-i-test.false in
+    accepted 32 _ _ _ _ _ d.0 (d.1 ∙ sym c.counts_of.ensures)
+    (c.counts_of-2.ensures ∙ all_marked 32 _ _ _ l.invariant.3 (omega (arith, l.invariant.0.fours)))

@@ -1,0 +1,21 @@
+-- `leftover` hands back the part after the job's need, and the number. Assumes nothing.
+use mathlib.Core.Path.{sym, ap, ◌∙◌}
+use Rattle.jobs.specs.Answers.{verdict}
+use Rattle.jobs.proofs.Unused.{after_refusal, too_short, long_enough}
+use borrow.Author.Rules.{rules}
+use Rattle.job_leftover.proofs.leftover.Goals as goal
+
+pub returns-then-list-first : goal.returns-then-list-first
+returns-then-list-first c =
+    let k = c in
+    too_short 32 _ _ _ _ _ _ _ _ _ (sym (ap verdict k.a-1.given.1) ∙ k.check.ensures) c.need-first.ensures
+    c.if-list-first.true
+
+pub returns-in-Refused : goal.returns-in-Refused
+returns-in-Refused c = let k = c in after_refusal 32 _ _ _ _ _ _ (sym (ap verdict k.found-1.given.1) ∙ k.check.ensures)
+
+pub returns-else-list-first : goal.returns-else-list-first
+returns-else-list-first c =
+    let k = c in
+    long_enough 32 _ _ _ _ _ _ _ _ _ (sym (ap verdict k.a-1.given.1) ∙ k.check.ensures)
+    c.need-first.ensures c.if-list-first.false

@@ -1,0 +1,11 @@
+use Rattle.jobs.specs.Answers.{need}
+use borrow.Author.Rules.{rules}
+use Rattle.job_leftover.proofs.need.Goals as goal
+
+pub returns-in-ListA : goal.returns-in-ListA
+unfolding need
+returns-in-ListA c = rw c.enum_told-1.given.1
+
+pub returns-in-ListB : goal.returns-in-ListB
+unfolding need
+returns-in-ListB c = rw c.enum_told-in-ListB-1.given.1

@@ -1,0 +1,17 @@
+use mathlib.Core.Path.{sym, ap, ◌∙◌}
+use Rattle.jobs.specs.Answers.{verdict}
+use Rattle.lamphiek.proofs.Told.{check_refused, check_accepted}
+use borrow.Author.Rules.{rules}
+use Rattle.lamphiek.proofs.checking.lamphiek_check.Goals as goal
+
+pub returns-in-Refused : goal.returns-in-Refused
+returns-in-Refused c =
+    let k = c in
+    let a = k.args in
+    check_refused a.job.now a.table.now a.counts.now _ _ (sym (ap verdict k.number-1.given.1) ∙ k.check.ensures)
+
+pub returns-in-Accepted : goal.returns-in-Accepted
+returns-in-Accepted c =
+    let k = c in
+    let a = k.args in
+    check_accepted a.job.now a.table.now a.counts.now _ (sym (ap verdict k.deals-1.given.1) ∙ k.check.ensures)

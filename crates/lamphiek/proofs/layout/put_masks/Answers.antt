@@ -1,0 +1,11 @@
+use native.Mathlib.Omega.{arith}
+use Rattle.lamphiek.proofs.Packing.{masks_put}
+use borrow.Author.Rules.{rules}
+use Rattle.lamphiek.proofs.layout.put_masks.Goals as goal
+
+pub returns : goal.returns
+returns c =
+    let first = c in
+    let start = first in
+    let a = start.args in
+    masks_put a.words.now a.t2 a.t3 _ _ (omega (arith, start.well-formed)) (omega (arith, start.well-formed)) (omega (arith, start.well-formed)) first.copy.ensures c.copy-2.ensures

@@ -1,0 +1,24 @@
+use mathlib.Core.Path.{◌≡◌, sym, ap, ◌∙◌}
+use mir.Syntax.{w64}
+use mir.Val.{to_z, of_z}
+use lib.IntN.{ℤ, pos}
+use Rattle.shares.specs.Answers.{opening}
+use Rattle.lamphiek.specs.Layout.{written}
+use Rattle.lamphiek.proofs.Told.{told}
+use borrow.Author.Rules.{rules}
+use Rattle.lamphiek.proofs.readings.lamphiek_open.Goals as goal
+
+pub returns-in_default : goal.returns-in_default
+unfolding written
+returns-in_default c =
+    let s = c in
+    told (λ (x : ℤ). x) 10 (pos 0) s.args.value.now (sym (ap opening c.enum_told-1.given.1) ∙ s.reconstruct.ensures)
+
+pub returns : goal.returns
+unfolding written
+returns c =
+    let k = c in
+    let s = k in
+    let e = told (λ (x : ℤ). x) 0 k.x-1.given.0.0 s.args.value.now (sym (ap opening k.x-1.given.1) ∙ s.reconstruct.ensures) in
+    let same : to_z w64 (of_z w64 k.x-1.given.0.0) ≡ k.x-1.given.0.0 = search rules in
+    record { number = e.0; value = same ∙ e.1 }

@@ -1,0 +1,16 @@
+use mathlib.Core.List.{[]}
+use mathlib.Core.Path.{ap, ◌∙◌}
+use Rattle.calls.specs.Calls as Calls
+use Rattle.calls.specs.Scripts.{job_script}
+use Rattle.lamphiek.proofs.Told.{from_dealer}
+use borrow.Author.Rules.{rules}
+use Rattle.lamphiek.proofs.stepping.lamphiek_prepare.Goals as goal
+
+pub returns : goal.returns
+returns c =
+    let h = c in
+    let s = h in
+    let a = s.args in
+    let same = h.prepare-p.ensures
+    ∙ ap (Calls.prepare (job_script 32 a.job.now a.table.now) a.a.now a.b.now a.deals.now) s.masks_in.ensures in
+    from_dealer _ _ _ _ a.masks.now same (c.put_prepared.ensures.answer []) (c.put_prepared.ensures.masks [])

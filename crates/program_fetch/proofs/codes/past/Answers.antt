@@ -1,0 +1,7 @@
+use Rattle.std.proofs.Common.{rules}
+use Rattle.gates.specs.Codes.{gates_with, fetched}
+use Rattle.program_fetch.proofs.codes.past.Goals as goal
+
+pub returns : goal.returns
+unfolding gates_with fetched
+returns c = c.on_slots.ensures

@@ -1,0 +1,8 @@
+use Rattle.program_seek.proofs.ByKind.{once, not_once}
+use Rattle.program_seek.proofs.at_once.Goals as goal
+
+pub returns-then-n-eq0 : goal.returns-then-n-eq0
+returns-then-n-eq0 c = once 32 _ _ _ _ c.if-n-eq0.true
+
+pub returns-else-n-eq0 : goal.returns-else-n-eq0
+returns-else-n-eq0 c = not_once 32 _ _ _ _ c.if-n-eq0.false

@@ -1,0 +1,13 @@
+use mathlib.Core.Path.{◌∙◌}
+use mathlib.Core.List.{◌++◌}
+use native.Mathlib.Omega.{arith}
+use Rattle.programs.proofs.AdderParts.{sign_rest}
+use Rattle.program_seek.proofs.Products.{sign_adder, sign_number}
+use borrow.Author.Rules.{rules}
+use Rattle.program_seek.proofs.sign_place.Goals as goal
+
+pub returns-then-n-lt-ADDER_EXCHANGES : goal.returns-then-n-lt-ADDER_EXCHANGES
+returns-then-n-lt-ADDER_EXCHANGES c = λ x gs. c.adder_place.ensures x (sign_rest 32 ++ gs) ∙ sign_adder gs x _ _ _ _
+
+pub returns : goal.returns
+returns c = λ x gs. c.dealt_place.ensures ∙ sign_number gs x _ _ _ _ (omega arith)

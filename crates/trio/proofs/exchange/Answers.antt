@@ -1,0 +1,7 @@
+use Rattle.trio.specs.Together.{heard}
+use borrow.Author.Rules.{rules}
+use Rattle.trio.proofs.exchange.Goals as goal
+
+pub returns : goal.returns
+unfolding heard
+returns c = rw (c.hear-one.ensures, c.hear-two.ensures)

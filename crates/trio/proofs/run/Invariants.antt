@@ -1,0 +1,18 @@
+use mathlib.Core.Path.{◌≡◌, refl}
+use native.Mathlib.Omega.{arith}
+use Prim.Native.Nat.{◌/◌, ◌≤◌}
+use lib.ListN.{length}
+use borrow.Author.Rules.{rules}
+use Rattle.calls.specs.Scripts.{job_script}
+use Rattle.worker.specs.Answers.{state_of}
+use Rattle.runs.proofs.Chain.{job_closed}
+use Rattle.trio.specs.Together.{trio_of, shared}
+use Rattle.trio.proofs.Ends.{ahead}
+use Rattle.trio.proofs.Turns.{Going, few_words, order_number, going_in, going_on, nearer, arrived, refused_together}
+use Rattle.trio.proofs.run.Given as goal
+
+abbrev pub invariant-loop-s : goal.invariant-loop-s
+invariant-loop-s l = (l.orders ≡ length l.job / 4) × Going (job_script 32 l.job l.table) l.a l.b (trio_of l.initial.s l.deals) (trio_of l.s l.deals)
+
+abbrev pub decreases-loop-s : goal.decreases-loop-s
+decreases-loop-s l = ahead (job_script 32 l.job l.table) (state_of l.s.one.state)

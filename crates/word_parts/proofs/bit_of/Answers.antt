@@ -1,0 +1,7 @@
+use Rattle.words.specs.Words.{bit, shr}
+use borrow.Author.Rules.{rules}
+use Rattle.word_parts.proofs.bit_of.Goals as goal
+
+pub returns : goal.returns
+unfolding bit shr
+returns c = rw c.shift_down.ensures

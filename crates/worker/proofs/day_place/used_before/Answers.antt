@@ -1,0 +1,22 @@
+use mathlib.Core.Path.{ap, ◌∙◌}
+use Prim.Native.Nat.{ℕ}
+use native.Mathlib.Omega.{arith}
+use Rattle.programs.specs.Sizes.{times_cost}
+use Rattle.jobs.specs.Counts.{counted}
+use Rattle.calendars.specs.Quarters.{held}
+use Rattle.calendars.proofs.Counting.{number_le}
+use Rattle.worker.specs.Days.{used_until}
+use borrow.Author.Rules.{rules}
+use Rattle.worker.proofs.day_place.used_before.Goals as goal
+
+pub used_by-requires : goal.used_by-requires
+used_by-requires c =
+    let s = c in
+    (s.requires.0, omega (arith, c.counted_before.ensures, number_le (held s.args.day.quarters) 0 s.args.order, s.requires.1))
+
+pub returns : goal.returns
+unfolding used_until
+returns c =
+    let b = c in
+    let s = b in
+    c.used_by.ensures ∙ ap (λ (n : ℕ). times_cost n (counted s.args.day.curve)) b.counted_before.ensures

@@ -1,0 +1,56 @@
+use mathlib.Core.Path.{sym, ap, ◌∙◌}
+use native.Mathlib.Omega.{arith}
+use Rattle.jobs.specs.Job.{Fault, job_gates}
+use Rattle.calls.specs.Calls.{refused}
+use Rattle.calls.specs.Scripts.{job_script}
+use Rattle.calls.proofs.Scripts.{job_made}
+use Rattle.worker.specs.Answers.{lanes_of}
+use Rattle.calls.proofs.Faults.{no_fault}
+use Rattle.calls.proofs.Lists.{given_registers}
+use Rattle.worker.proofs.Jobs.{sized}
+use Rattle.walks.proofs.Answers.{start_refused, started}
+use borrow.Author.Rules.{rules}
+use Rattle.worker.proofs.starting.start.Goals as goal
+
+pub returns-then-lent-ne0 : goal.returns-then-lent-ne0
+returns-then-lent-ne0 c =
+    let k = c in
+    let x = k in
+    let e₀ = x in
+    let a = e₀.args in
+    c.refused.ensures
+    ∙ ap (refused _) c.first_state.ensures
+    ∙ start_refused a.host (job_script 32 a.job.now a.table.now) a.masks.now a.deals.now _ _
+    k.check_lent-lent.ensures.fault
+    (lanes_of a.registers) _ _ (x.copy_front.ensures ∙ given_registers a.registers.m (sym (slice-aggregate-copy-front x)))
+    (k.copy_front-2.ensures ∙ given_registers a.registers.mask (sym (slice-aggregate-copy-front-3 k))) c.if-lent-ne0.true
+
+pub advance-h-requires : goal.advance-h-requires
+advance-h-requires c =
+    let e = c in
+    let k = e in
+    let x = k in
+    let e₀ = x in
+    let a = e₀.args in
+    let none = ap (λ (f : Fault). f.0) (sym k.check_lent-lent.ensures.fault) ∙ e.if-lent-ne0.false in (
+      sized a.job.now a.table.now (no_fault _ (job_script 32 a.job.now a.table.now) _ _ none),
+      omega arith,
+      omega arith,
+      omega arith,
+      omega arith,
+    )
+
+pub returns : goal.returns
+returns c =
+    let e = c in
+    let k = e in
+    let x = k in
+    let e₀ = x in
+    let a = e₀.args in
+    let J = a.job.now in
+    let T = a.table.now in
+    c.answered.ensures
+    ∙ c.advance-h.ensures
+    ∙ started a.host (job_script 32 J T) a.masks.now a.deals.now _ _ k.check_lent-lent.ensures.fault (lanes_of a.registers) _ _
+    (x.copy_front.ensures ∙ given_registers a.registers.m (sym (slice-aggregate-copy-front x)))
+    (k.copy_front-2.ensures ∙ given_registers a.registers.mask (sym (slice-aggregate-copy-front-3 k))) 32 (job_gates 32 J T) (job_made 32 J T) e.if-lent-ne0.false

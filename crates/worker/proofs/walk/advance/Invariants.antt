@@ -1,0 +1,35 @@
+use mathlib.Core.Path.{◌≡◌, refl, sym, ap, ◌∙◌}
+use borrow.Author.Rules.{rules}
+use native.Mathlib.Omega.{arith}
+use Prim.Native.Nat.{◌*◌, ◌/◌, ◌+◌, ◌-◌, ◌^◌, ◌<◌, ◌≤◌}
+use lib.ListN.{length, drop}
+use Rattle.gates.specs.Codes.{step_of}
+use Rattle.gates.proofs.Uses as Uses
+use Rattle.tables.specs.Table.{rows}
+use Rattle.jobs.specs.Job.{job_gates}
+use Rattle.calls.specs.declared.Stored.{Stored}
+use Rattle.walks.specs.Workers.{cursor}
+use Rattle.walks.specs.Halts.{going_on, steps_from, reported}
+use Rattle.walks.proofs.Programs.{finished, at_once}
+use Rattle.job_add.proofs.Here.{here}
+use Rattle.program_fetch.proofs.Stands.{piece_stands}
+use Rattle.program_fetch.proofs.PieceSteps.{still_within}
+use Rattle.jobs.proofs.Additions.{additive_steps}
+use Rattle.jobs.proofs.Indices.{order_there, gates_over}
+use Rattle.worker.proofs.Jobs.{short_order}
+use Rattle.worker.proofs.Pieces.{few_used, at_exchange, next_piece, next_order}
+use Rattle.calls.specs.Lent.{worker_with}
+use Rattle.worker.proofs.walk.advance.Given as goal
+
+abbrev pub invariant-loop-order : goal.invariant-loop-order
+invariant-loop-order l = (l.n ≡ length l.job / 4) × (l.at.gate ≤ 1000) × (l.order < 2 ^ 32)
+    × (l.at.a + 2000 * l.initial.order ≤ 2 ^ 31 + 2000 * l.order + l.at.gate) × (l.at.deals + 2000 * l.initial.order ≤ 2 ^ 31 + 2000 * l.order + l.at.gate)
+    × (l.order ≤ l.initial.order + 64)
+    × (reported (worker_with l.host l.masks l.deals) (steps_from 32 l.at.gate (drop l.order (job_gates 32 l.job l.table)))
+    (cursor l.order l.turn l.at.a l.b l.at.deals) (l.m, l.mask)
+    ≡ reported (worker_with l.host l.masks l.deals) (steps_from 32 l.initial.at.gate (drop l.initial.order (job_gates 32 l.job l.table)))
+    (cursor l.initial.order l.initial.turn l.initial.at.a l.b l.initial.at.deals) (l.initial.m, l.initial.mask))
+
+-- the gates left of the order, and those of the orders left
+abbrev pub decreases-loop-order : goal.decreases-loop-order
+decreases-loop-order l = 1001 * (l.n - l.order) + (1000 - l.at.gate)

@@ -1,0 +1,17 @@
+use mathlib.Core.Path.{◌∙◌}
+use Rattle.walks.proofs.Workers.{mask_after, mask_next, mask_of_b}
+use borrow.Author.Rules.{rules}
+use Rattle.worker_gate.proofs.new_mask.Goals as goal
+
+pub returns-in-2 : goal.returns-in-2
+returns-in-2 c =
+    let h = c in
+    c.word_after.ensures ∙ mask_after _ _ _ _ _ _ h.used_by-used.ensures h.in-1.is c.in-2.is
+
+pub returns-in_default-used : goal.returns-in_default-used
+returns-in_default-used c =
+    let h = c in
+    c.word_at.ensures ∙ mask_next _ _ _ _ _ _ h.used_by-used.ensures h.in-1.is c.in_default-used.rest.1
+
+pub returns-in_default : goal.returns-in_default
+returns-in_default c = c.word_at-in_default.ensures ∙ mask_of_b _ _ _ _ _ c.in_default.rest.1
