@@ -1,5 +1,5 @@
 -- Tests of a run of numbers as bits: single bits, sums of digits, or, and; the bits of a span. Assumes nothing.
-use mathlib.Core.Path.{◌≡◌, refl, sym, ap, ap₂, ◌∙◌}
+use mathlib.Core.Path.{◌≡◌, refl, sym, ap, ap₂, subst, ◌∙◌}
 use mathlib.Core.Bool.{Bool, true, false, ◌&&◌, ◌||◌}
 use Prim.Native.Nat.{ℕ, zero, suc, ◌+◌, ◌-◌, ◌*◌, ◌/◌, ◌%◌, ◌^◌, min, max, ◌≤◌, ◌<◌}
 use native.Mathlib.Nat.{pow-suc, div-div-eq-div-mul, mul_comm}
@@ -149,7 +149,7 @@ before_some q zero (suc m) h = absurd (omega arith)
 before_some q (suc n) (suc m) h =
     let a : q + suc m ≡ suc q + m = omega arith in
     let r : suc (packed (λ k. ltb k (q + suc m)) (suc q) n) ≡ 2 ^ m =
-        subst (λ (z : ℕ). suc (packed (λ k. ltb k z) (suc q) n) ≡ 2 ^ m) (sym a) (before_some (suc q) n m (omega arith)) in
+    subst (λ (z : ℕ). suc (packed (λ k. ltb k z) (suc q) n) ≡ 2 ^ m) (sym a) (before_some (suc q) n m (omega arith)) in
     rw (lt-ltb q (q + suc m) (omega arith), pow-suc 2 m) (omega arith)
 
 -- ---- a span

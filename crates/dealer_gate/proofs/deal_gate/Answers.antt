@@ -8,7 +8,7 @@ use Rattle.dealer_gate.proofs.deal_gate.Goals as goal
 pub returns-in-Local : goal.returns-in-Local
 returns-in-Local c =
     let e = c in
-    holds_local _ _ _ _ (sym e.enum_told-1.given.1 ∙ e.shape_of-shape.ensures) c.step_mask.ensures
+    holds_local _ _ _ _ (sym e.in-Local.is ∙ e.shape_of-shape.ensures) c.step_mask.ensures
     c.step_mask-in-Local.ensures
 
 pub returns-in-Undealt : goal.returns-in-Undealt

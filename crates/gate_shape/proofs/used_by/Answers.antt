@@ -6,16 +6,16 @@ use Rattle.gate_shape.proofs.used_by.Goals as goal
 
 pub returns-in-Local : goal.returns-in-Local
 returns-in-Local c = used_there (step_of 32 c.args.g) _ Local c.shape_of.ensures
-    c.enum_told-1.given.1
+    c.in-Local.is
 
 pub returns-in-Dealing : goal.returns-in-Dealing
 returns-in-Dealing c = used_there (step_of 32 c.args.g) _ (Dealing _) c.shape_of.ensures
-    c.enum_told-in-Dealing-1.given.1
+    c.in-Dealing.is
 
 pub returns-in-Product : goal.returns-in-Product
 returns-in-Product c = used_there (step_of 32 c.args.g) _ (Product _) c.shape_of.ensures
-    c.enum_told-in-Product-1.given.1
+    c.in-Product.is
 
 pub returns-in-Undealt : goal.returns-in-Undealt
 returns-in-Undealt c = used_there (step_of 32 c.args.g) _ (Undealt _) c.shape_of.ensures
-    c.enum_told-in-Undealt-1.given.1
+    c.in-Undealt.is

@@ -4,8 +4,8 @@ use Rattle.job_leftover.proofs.need.Goals as goal
 
 pub returns-in-ListA : goal.returns-in-ListA
 unfolding need
-returns-in-ListA c = rw c.enum_told-1.given.1
+returns-in-ListA c = rw c.in-ListA.is
 
 pub returns-in-ListB : goal.returns-in-ListB
 unfolding need
-returns-in-ListB c = rw c.enum_told-in-ListB-1.given.1
+returns-in-ListB c = rw c.in-ListB.is

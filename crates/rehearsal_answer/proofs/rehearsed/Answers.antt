@@ -11,4 +11,4 @@ returns-in-Reading c =
 pub returns-in-Malformed : goal.returns-in-Malformed
 returns-in-Malformed c =
     nothing_asked c.args.line.now c.parse.result
-    c.parse.ensures c.enum_told-1.given.1 _ c.refusal_text.ensures
+    c.parse.ensures c.in-Malformed.is _ c.refusal_text.ensures

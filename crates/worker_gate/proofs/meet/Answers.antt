@@ -31,7 +31,7 @@ returns-in-Undealt c =
     (λ i. (c.put-in-Undealt.ensures i, c.put-in-Undealt-2.ensures i)) ∙ at-shape d (Undealt _) d.d-in-Undealt-1.given.1
 
 pub returns-in-Local : goal.returns-in-Local
-returns-in-Local c = at-shape c Local c.enum_told-1.given.1
+returns-in-Local c = at-shape c Local c.in-Local.is
 
 pub returns-in-Dealing : goal.returns-in-Dealing
-returns-in-Dealing c = at-shape c (Dealing _) c.enum_told-in-Dealing-1.given.1
+returns-in-Dealing c = at-shape c (Dealing _) c.in-Dealing.is

@@ -10,4 +10,4 @@ pub returns-in_default : goal.returns-in_default
 returns-in_default c =
     let s = c in
     to_z-of_z (record { sfits = c.slope_after.type_inv }) ∙ c.slope_after.ensures
-    ∙ some_slope_before (slopes (rows s.args.table.now)) _ c.in_default.rest.1
+    ∙ some_slope_before (slopes (rows s.args.table.now)) _ c.in_default-own.rest.1
