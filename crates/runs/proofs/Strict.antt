@@ -132,7 +132,7 @@ module _ (S : Stage) where
 
   -- ---- along a run
 
-  pub wide_on : {E : List ℕ} {cs more : List Call} {v v' : World} {h1 h2 u1 u2 : List Spoken} → Run S cs v → Calls S E v h1 h2 more v' u1 u2
+  pub wide_on : {E : List ℕ} {cs : List Call} {v : World} {h1 h2 : List Spoken} {more : List Call} {v' : World} {u1 u2 : List Spoken} → Run S cs v → Calls S E v h1 h2 more v' u1 u2
       → Run S (more ++ cs) v'
   wide_on r none = r
   wide_on r (completes c k n) = complete (wide_on r c) k
@@ -141,7 +141,7 @@ module _ (S : Stage) where
   pub wide : {E : List ℕ} {cs : List Call} {v : World} {h1 h2 : List Spoken} → StrictRun S E cs v h1 h2 → Run S cs v
   wide {cs = cs} r = rw (append-nil cs) at (wide_on (begin r.begins) r.calls)
 
-  pub joined : {E : List ℕ} {v v' v'' : World} {cs more : List Call} {h1 h2 u1 u2 x1 x2 : List Spoken} → Calls S E v h1 h2 cs v' u1 u2
+  pub joined : {E : List ℕ} {v : World} {h1 h2 : List Spoken} {cs : List Call} {v' : World} {u1 u2 : List Spoken} {more : List Call} {v'' : World} {x1 x2 : List Spoken} → Calls S E v h1 h2 cs v' u1 u2
       → Calls S E v' u1 u2 more v'' x1 x2 → Calls S E v h1 h2 (more ++ cs) v'' x1 x2
   joined r none = r
   joined r (completes c k n) = completes (joined r c) k n

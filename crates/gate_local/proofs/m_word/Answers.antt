@@ -40,5 +40,5 @@ returns-in-9 c = rw (
 pub returns-in_default : goal.returns-in_default
 returns-in_default c =
     let s = c in
-    let i = c.in_default-own.rest in
+    let i = c.in_default.in_default-own.rest in
     c.mask_word.ensures 0 ∙ as_mask 32 s.args.g 0 _ s.requires i.0.0.0.1 i.0.0.1 i.0.1 i.1

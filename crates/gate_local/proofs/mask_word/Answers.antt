@@ -65,6 +65,6 @@ returns-in-6 c v = rw (
 pub returns-in_default : goal.returns-in_default
 returns-in_default c v =
     let s = c in
-    let n = c.in_default-own.rest in
+    let n = c.in_default.in_default-own.rest in
     let h : 4 ≤ s.args.g.op = omega (arith, n.0.0.0.0.0.0.1, n.0.0.0.0.0.1, n.0.0.0.0.1, n.0.0.0.1) in
     no_mask 32 s.args.g v _ (omega (arith, h, n.0.0.1, n.0.1, n.1)) s.requires

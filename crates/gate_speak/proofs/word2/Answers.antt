@@ -38,5 +38,5 @@ returns-in-19 c =
 
 pub returns-in_default : goal.returns-in_default
 returns-in_default c =
-    let n = c.in_default-own.rest in
+    let n = c.in_default.in_default-own.rest in
     (silent_code 32 c.args.g n.0.0.0.0.1 n.0.0.0.1 n.0.0.1 n.0.1 n.1).second _ _ _ _

@@ -10,6 +10,7 @@ use Rattle.jobs.proofs.Marks.{Marked, unmarked, next_mark, all_marked}
 use Rattle.job_check.specs.Tally.{tallied, CurveTallied}
 use Rattle.job_check.proofs.Tallies.{nothing, sum_fits, tallied_sum}
 use Rattle.job_check.proofs.survey.Goals as goal
+use Rattle.job_check.proofs.survey.Goals.{then-i-place, else-i-place}
 
 pub returns-then-ill_sized : goal.returns-then-ill_sized
 returns-then-ill_sized c =
@@ -21,13 +22,13 @@ pub rows_of-requires : goal.rows_of-requires
 rows_of-requires c = c.keeps_rules-ruled.ensures
 
 pub curve_tallies-curve-requires : goal.curve_tallies-curve-requires
-curve_tallies-curve-requires c = rw c.rows_of_lem.ensures (rows_few _ _ c.keeps_rules-ruled.ensures)
+curve_tallies-curve-requires c = rw c.rows_of.ensures (rows_few _ _ c.keeps_rules-ruled.ensures)
 
 pub loop-i-init : goal.loop-i-init
 loop-i-init c =
     let k = c in (
       given _ _ (sym k.ill_sized.ensures ∙ k.if-ill_sized.false) k.keeps_rules-ruled.ensures,
-      rw (← c.rows_of_lem.ensures) c.curve_tallies-curve.ensures,
+      rw (← c.rows_of.ensures) c.curve_tallies-curve.ensures,
       starts 32 _ _ job_counts _ nothing,
       unmarked 32 _ _ _ job_counts _ nothing,
     )
@@ -79,7 +80,7 @@ loop-i-preserved c =
       l.invariant.1,
       g,
       next_mark 32 _ _ _ l.invariant.3 job_counts g (omega arith)
-          (⊎_elim (λ t. inl (t.0.taken, ap tallied t.1)) (λ t. inr (t.0.left, ap tallied t.1)) c.if-i-place.branch),
+          (elim c.if-i-place.branch [ then-i-place w ↦ inl (w.if-i-place.true, ap tallied w.before-is) | else-i-place w ↦ inr (w.if-i-place.false, ap tallied w.before-is) ]),
     )
 
 pub returns : goal.returns
@@ -87,5 +88,6 @@ returns c =
     let a = c in
     let l = a.loop-i in
     let d = done 32 _ _ l.invariant.2 l.invariant.0 a.loop-i-test.false in
-    accepted 32 _ _ _ _ _ d.0 (d.1 ∙ sym c.counts_of.ensures)
-    (c.counts_of-2.ensures ∙ all_marked 32 _ _ _ l.invariant.3 (omega (arith, l.invariant.0.fours)))
+    let answered = accepted 32 _ _ _ _ _ d.0 (d.1 ∙ sym c.counts_of.ensures)
+    (c.counts_of-2.ensures ∙ all_marked 32 _ _ _ l.invariant.3 (omega (arith, l.invariant.0.fours))) in
+    record { found = answered.0; passed = answered.1 }

@@ -29,4 +29,4 @@ unfolding program kinds
 returns-in-10 c = told _ _ _ _ (simp c.in-10.is (c.curve_place.ensures _ _))
 
 pub returns-in_default : goal.returns-in_default
-returns-in_default c = let s = c in told _ _ _ _ (no_exchange 32 _ s.args.o s.args.turn c.in_default-own.rest)
+returns-in_default c = let s = c in told _ _ _ _ (no_exchange 32 _ s.args.o s.args.turn c.in_default.in_default-own.rest)

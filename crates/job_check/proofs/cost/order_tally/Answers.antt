@@ -39,6 +39,6 @@ returns-else-mode-eq0 c = λ n h. h.1 ∙ one_bit_cost _ n c.if-mode-eq0.false �
 
 pub returns-in_default : goal.returns-in_default
 returns-in_default c =
-    let m = c.in_default-own.rest in
+    let m = c.in_default.in_default-own.rest in
     λ n h. nothing ∙ no_cost _ _ n m.0.0.0.0.0.0.1 m.0.0.0.0.0.1 m.0.0.0.0.1 m.0.0.0.1 m.0.0.1
     m.0.1 m.1

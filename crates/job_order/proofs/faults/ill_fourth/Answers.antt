@@ -36,5 +36,5 @@ returns-else-ruled c = rw (c.in-10.is, c.if-ruled.false) (or_all (ltb 1 c.args.o
 pub returns-in_default : goal.returns-in_default
 unfolding ill_fourth
 returns-in_default c =
-    let n = c.in_default-own.rest in
+    let n = c.in_default.in_default-own.rest in
     any_fourth 32 c.args.ruled _ _ n.0.0.0.0.0.1 n.0.0.0.0.1 n.0.0.0.1 n.0.0.1 n.0.1 n.1

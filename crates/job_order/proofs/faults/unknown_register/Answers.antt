@@ -22,4 +22,4 @@ returns-in-4 c = let m = c in second_source _ m.if-o-gt15.false m.if-o-gt15-2.fa
 
 pub returns-in_default : goal.returns-in_default
 returns-in_default c =
-    let n = c.in_default-own.rest in one_source _ c.if-o-gt15.false c.if-o-gt15-2.false n.0.0.1 n.0.1 n.1
+    let n = c.in_default.in_default-own.rest in one_source _ c.if-o-gt15.false c.if-o-gt15-2.false n.0.0.1 n.0.1 n.1

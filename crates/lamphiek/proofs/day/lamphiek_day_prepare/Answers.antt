@@ -7,4 +7,5 @@ pub returns : goal.returns
 returns c =
     let h = c in
     let a = h.args in
-    from_dealer _ _ _ _ a.masks.now h.prepare_day-p.ensures (c.put_prepared.ensures.answer []) (c.put_prepared.ensures.masks [])
+    let answered = from_dealer _ _ _ _ a.masks.now h.prepare_day-p.ensures (c.put_prepared.ensures.answer []) (c.put_prepared.ensures.masks []) in
+    record { answer = answered.0; buffer = answered.1; masks = answered.2 }

@@ -12,7 +12,8 @@ pub returns-in_default : goal.returns-in_default
 unfolding written
 returns-in_default c =
     let s = c in
-    told (λ (x : ℤ). x) 10 (pos 0) s.args.value.now (sym (ap opening c.enum_told-1.given.1) ∙ s.reconstruct.ensures)
+    let answered = told (λ (x : ℤ). x) 10 (pos 0) s.args.value.now (sym (ap opening c.enum_told-1.given.1) ∙ s.reconstruct.ensures) in
+    record { number = answered.0; value = answered.1 }
 
 pub returns : goal.returns
 unfolding written

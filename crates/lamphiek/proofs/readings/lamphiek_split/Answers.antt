@@ -16,10 +16,13 @@ as-given start = ap (λ (x : ℤ). split 32 x start.args.l1 start.args.l2) (to_z
 
 pub returns-in_default : goal.returns-in_default
 unfolding written
-returns-in_default c = told six_out 11 nothing c.args.shares.now (sym (ap sharing c.enum_told-1.given.1) ∙ c.share.ensures ∙ as-given c)
+returns-in_default c =
+    let answered = told six_out 11 nothing c.args.shares.now (sym (ap sharing c.enum_told-1.given.1) ∙ c.share.ensures ∙ as-given c) in
+    record { number = answered.0; words = answered.1 }
 
 pub returns : goal.returns
 unfolding written
 returns c =
     let s = c in
-    told six_out 0 (words s.s-1.given.0.0) s.args.shares.now (sym (ap sharing s.s-1.given.1) ∙ s.share.ensures ∙ as-given s)
+    let answered = told six_out 0 (words s.s-1.given.0.0) s.args.shares.now (sym (ap sharing s.s-1.given.1) ∙ s.share.ensures ∙ as-given s) in
+    record { number = answered.0; words = answered.1 }

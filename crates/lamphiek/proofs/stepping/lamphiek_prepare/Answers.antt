@@ -13,4 +13,5 @@ returns c =
     let a = s.args in
     let same = h.prepare-p.ensures
     ∙ ap (Calls.prepare (job_script 32 a.job.now a.table.now) a.a.now a.b.now a.deals.now) s.masks_in.ensures in
-    from_dealer _ _ _ _ a.masks.now same (c.put_prepared.ensures.answer []) (c.put_prepared.ensures.masks [])
+    let answered = from_dealer _ _ _ _ a.masks.now same (c.put_prepared.ensures.answer []) (c.put_prepared.ensures.masks []) in
+    record { answer = answered.0; buffer = answered.1; masks = answered.2 }

@@ -31,4 +31,4 @@ returns-in-5 c = simp c.in-5.is c.on_slots-in-5.ensures
 
 pub returns-in_default : goal.returns-in_default
 unfolding to_number
-returns-in_default c = c.past.ensures ∙ sym (beyond (to_number 32) _ (none_below 6 _ c.in_default-own.rest))
+returns-in_default c = c.past.ensures ∙ sym (beyond (to_number 32) _ (none_below 6 _ c.in_default.in_default-own.rest))

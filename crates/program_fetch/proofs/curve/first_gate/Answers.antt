@@ -17,4 +17,4 @@ pub returns-in_default : goal.returns-in_default
 unfolding first_gates
 returns-in_default c =
     let s = c in
-    c.past.ensures ∙ sym (beyond (first_gates 32 (rows s.args.table.now)) s.args.i (omega (arith, c.in_default-own.rest.1)))
+    c.past.ensures ∙ sym (beyond (first_gates 32 (rows s.args.table.now)) s.args.i (omega (arith, c.in_default.in_default-own.rest.1)))

@@ -21,6 +21,6 @@ pub returns-in_default : goal.returns-in_default
 unfolding row_end
 returns-in_default c =
     let s = c in
-    let r = c.in_default-own.rest in
+    let r = c.in_default.in_default-own.rest in
     c.past.ensures
     ∙ sym (beyond (row_end 32 (rows s.args.table.now) s.args.row) s.args.i (omega (arith, r.0.1, r.1)))

@@ -21,4 +21,4 @@ unfolding row_start
 returns-in_default c =
     let s = c in
     let gs = row_start 32 (rows s.args.table.now) s.args.row s.args.x in
-    c.past.ensures ∙ sym (beyond gs s.args.i (omega (arith, c.in_default-own.rest.1)))
+    c.past.ensures ∙ sym (beyond gs s.args.i (omega (arith, c.in_default.in_default-own.rest.1)))

@@ -38,7 +38,7 @@ returns-in-2-to-37 c =
     let t = c in
     let s = t.args in
     let gs : List Gate = saturation 32 (last_count (rows s.table.now)) s.x s.d in
-    c.sign_gate.ensures ∙ within (take 2 gs) (sign_program 32 y_slot) (drop 38 gs) s.i (omega arith) c.if-i-lt38.true
+    c.sign_gate.ensures ∙ within (take 2 gs) (sign_program 32 y_slot) (drop 38 gs) s.i (omega arith) (omega arith)
 
 pub returns-in_default : goal.returns-in_default
 unfolding saturation saturation_head saturation_end sign_program adder rounds update_gates updates distances doubled to_number

@@ -1,4 +1,4 @@
-use Rattle.std.proofs.Common.{◌≤◌, List, take, drop, sym, ◌∙◌, rules}
+use Rattle.std.proofs.Common.{◌≤◌, List, take, drop, sym, ◌∙◌, arith, rules}
 use Rattle.truncations.specs.Adder.{doubled, distances, updates}
 use Rattle.gates.specs.Gates.{Gate}
 use Rattle.gates.specs.Codes.{fetched, gates_with}
@@ -6,17 +6,6 @@ use Rattle.gates.proofs.Fetched.{beyond}
 use Rattle.programs.specs.Programs.{y_slot, update_gates, rounds, adder, to_number, exact_program}
 use Rattle.program_fetch.proofs.Fetched.{within, none_below, above}
 use Rattle.program_fetch.proofs.kinds.exact_gate.Goals as goal
-
-pub overflow_sub-i : goal.overflow_sub-i
-overflow_sub-i c = none_below 4 _ c.in_default-1.rest.0.0.0.0.0.0
-
-pub overflow_sub-i-in-33-to-38 : goal.overflow_sub-i-in-33-to-38
-overflow_sub-i-in-33-to-38 c = above c.if-i-lt32.false c.in_default-1.rest.0.0.0.0.0.1
-
-pub overflow_sub-i-in-41-to-46 : goal.overflow_sub-i-in-41-to-46
-overflow_sub-i-in-41-to-46 c =
-    let n = c.in_default-1.rest in
-    above (above c.if-i-lt39.false n.0.0.0.0.1) n.0.0.0.1
 
 pub returns-in-0 : goal.returns-in-0
 unfolding gates_with fetched exact_program adder rounds update_gates updates distances doubled to_number
@@ -66,8 +55,8 @@ returns-in-4-to-31 c =
     let t = c in
     let s = t.args in
     let gs : List Gate = exact_program 32 s.k s.x s.d in
-    let l : 4 ≤ s.i = none_below 4 _ t.in_default-1.rest.0.0.0.0.0.0 in
-    c.adder_gate.ensures ∙ within (take 4 gs) (adder 32 y_slot) (drop 32 gs) s.i l c.if-i-lt32.true
+    let l : 4 ≤ s.i = omega arith in
+    c.adder_gate.ensures ∙ within (take 4 gs) (adder 32 y_slot) (drop 32 gs) s.i l (omega arith)
 
 pub returns-in-33-to-38 : goal.returns-in-33-to-38
 unfolding exact_program adder rounds update_gates updates distances doubled to_number
@@ -75,24 +64,22 @@ returns-in-33-to-38 c =
     let t = c in
     let s = t.args in
     let gs : List Gate = exact_program 32 s.k s.x s.d in
-    let l : 33 ≤ s.i = above c.if-i-lt32.false t.in_default-1.rest.0.0.0.0.0.1 in
-    c.number_gate.ensures ∙ within (take 33 gs) (to_number 32) (drop 39 gs) s.i l c.if-i-lt39.true
+    let l : 33 ≤ s.i = omega arith in
+    c.number_gate.ensures ∙ within (take 33 gs) (to_number 32) (drop 39 gs) s.i l (omega arith)
 
 pub returns-in-41-to-46 : goal.returns-in-41-to-46
 unfolding exact_program adder rounds update_gates updates distances doubled to_number
 returns-in-41-to-46 c =
     let t = c in
     let s = t.args in
-    let n = t.in_default-1.rest in
     let gs : List Gate = exact_program 32 s.k s.x s.d in
-    let l : 41 ≤ s.i = above (above c.if-i-lt39.false n.0.0.0.0.1) n.0.0.0.1 in
-    c.number_gate-in-41-to-46.ensures ∙ within (take 41 gs) (to_number 32) (drop 47 gs) s.i l c.if-i-lt47.true
+    let l : 41 ≤ s.i = omega arith in
+    c.number_gate-in-41-to-46.ensures ∙ within (take 41 gs) (to_number 32) (drop 47 gs) s.i l (omega arith)
 
 pub returns-in_default : goal.returns-in_default
 unfolding exact_program adder rounds update_gates updates distances doubled to_number
 returns-in_default c =
     let t = c in
     let s = t.args in
-    let n = t.in_default-1.rest in
-    let l : 50 ≤ s.i = above (above (above c.if-i-lt47.false n.0.0.1) n.0.1) n.1 in
+    let l : 50 ≤ s.i = omega arith in
     c.past.ensures ∙ sym (beyond (exact_program 32 s.k s.x s.d) s.i l)

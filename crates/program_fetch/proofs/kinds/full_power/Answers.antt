@@ -6,4 +6,4 @@ pub returns-in-0 : goal.returns-in-0
 returns-in-0 c = simp c.in-0.is
 
 pub returns-in_default : goal.returns-in_default
-returns-in_default c = c.power.ensures ∙ full 32 _ (omega arith) c.in_default-own.rest.1
+returns-in_default c = c.power.ensures ∙ full 32 _ (omega arith) c.in_default.in_default-own.rest.1

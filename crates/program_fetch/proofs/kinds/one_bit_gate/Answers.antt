@@ -61,4 +61,4 @@ returns-in-12 c =
 
 pub returns-in_default : goal.returns-in_default
 unfolding one_bit_program
-returns-in_default c = c.past.ensures ∙ sym (beyond (one_bit_program 32 _ _ _) _ (none_below 13 _ c.in_default-own.rest))
+returns-in_default c = c.past.ensures ∙ sym (beyond (one_bit_program 32 _ _ _) _ (none_below 13 _ c.in_default.in_default-own.rest))

@@ -19,4 +19,4 @@ returns-in-2 c = simp c.in-2.is c.on_slots.ensures
 
 pub returns-in_default : goal.returns-in_default
 unfolding slack_program
-returns-in_default c = c.past.ensures ∙ sym (beyond (slack_program _ _ _) _ (none_below 3 _ c.in_default-own.rest))
+returns-in_default c = c.past.ensures ∙ sym (beyond (slack_program _ _ _) _ (none_below 3 _ c.in_default.in_default-own.rest))

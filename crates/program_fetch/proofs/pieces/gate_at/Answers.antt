@@ -1,4 +1,4 @@
-use Rattle.std.proofs.Common.{List, sym, ap, ◌∙◌, rules}
+use Rattle.std.proofs.Common.{arith, List, sym, ap, ◌∙◌, rules}
 use Rattle.gates.specs.Gates.{Gate}
 use Rattle.gates.specs.Codes.{fetched}
 use Rattle.tables.specs.Table.{rows}
@@ -44,9 +44,8 @@ pub returns-in-0-to-5 : goal.returns-in-0-to-5
 returns-in-0-to-5 c =
     let s = c in
     let ps = rows s.args.table.now in
-    let k = c.if-kind-lt6.true in
     c.one_gate.ensures
-    ∙ ap (λ (gs : List Gate). fetched gs s.args.i) (sym (one_gated 32 ps s.args.p k))
+    ∙ ap (λ (gs : List Gate). fetched gs s.args.i) (sym (one_gated 32 ps s.args.p (omega arith)))
 
 pub returns-in_default : goal.returns-in_default
 unfolding fetched
@@ -54,4 +53,4 @@ returns-in_default c =
     let s = c in
     c.past.ensures
     ∙ ap (λ (gs : List Gate). fetched gs s.args.i) (sym (nothing 32 (rows s.args.table.now) s.args.p
-    (none_from 6 8 _ c.if-kind-lt6.false c.in_default-1.rest)))
+    (omega arith)))

@@ -17,4 +17,4 @@ returns-in-9 c ps = counted_at ps c.args.o c.requires 9 c.in-9.is
 pub returns-in_default : goal.returns-in_default
 returns-in_default c ps =
     let s = c in
-    counted_one ps s.args.o s.requires (omega (arith, s.requires, c.in_default-own.rest))
+    counted_one ps s.args.o s.requires (omega (arith, s.requires, c.in_default.in_default-own.rest))
