@@ -8,18 +8,18 @@ use Rattle.job_leftover.proofs.leftover.Goals as goal
 pub returns-then-list-first : goal.returns-then-list-first
 returns-then-list-first c =
     let k = c in
-    let answered = too_short 32 _ _ _ _ _ _ _ _ _ (sym (ap verdict k.a-1.given.1) ∙ k.check.ensures) c.need-first.ensures
+    let answered = too_short 32 _ _ _ _ _ _ _ _ _ (sym (ap verdict k.in-Accepted.is) ∙ k.check.ensures) c.need-first.ensures
     c.if-list-first.true in
     record { part = answered.0; said = answered.1 }
 
 pub returns-in-Refused : goal.returns-in-Refused
 returns-in-Refused c =
-    let answered = let k = c in after_refusal 32 _ _ _ _ _ _ (sym (ap verdict k.found-1.given.1) ∙ k.check.ensures) in
+    let answered = let k = c in after_refusal 32 _ _ _ _ _ _ (sym (ap verdict k.in-Refused.is) ∙ k.check.ensures) in
     record { part = answered.0; said = answered.1 }
 
 pub returns-else-list-first : goal.returns-else-list-first
 returns-else-list-first c =
     let k = c in
-    let answered = long_enough 32 _ _ _ _ _ _ _ _ _ (sym (ap verdict k.a-1.given.1) ∙ k.check.ensures)
+    let answered = long_enough 32 _ _ _ _ _ _ _ _ _ (sym (ap verdict k.in-Accepted.is) ∙ k.check.ensures)
     c.need-first.ensures c.if-list-first.false in
     record { part = answered.0; said = answered.1 }
