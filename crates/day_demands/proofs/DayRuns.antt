@@ -83,26 +83,25 @@ module _ (w : ℕ) (S : DaySetting) where
       (take_all 120 (behind_zeros b) (omega (arith, behind_full b f)))
 
   -- calls that complete
-  completed : {cs : List Call} {c : Call} {u u' : DayWorld} (v : World) → Run (day_staged w S) cs v → Same u v
-      → DayCompletes w S c u u'
+  completed : {cs : List Call} {c : Call} {u u' : DayWorld} (v : World) → DayCompletes w S c u u' → Run (day_staged w S) cs v → Same u v
       → Followed (c ∷ cs) u'
-  completed {cs = cs} (world (idle r) buf' one two) R (z, b, p, q) (day_prepares {buf = buf} n) =
+  completed {cs = cs} (world (idle r) buf' one two) (day_prepares {buf = buf} n) R (z, b, p, q) =
       let a : Prepared = preparation (day_staged w S) buf' r in
       let e : own_masks a ≡ prepare0 w S buf = (day_calls w).prepares S cs r buf' one two R ∙ ap (prepare0 w S) (sym b) in (
         world (ready a.masks (prepare_walk (day_staged w S).script S.A S.B r).trail) a.buffer one two,
         complete R (prepares (ap (λ (x : Prepared). x.number) e ∙ n)),
         (ap (λ (x : Prepared). x.masks) (sym e), ap (λ (x : Prepared). x.buffer) (sym e), p, q),
       )
-  completed (world (ready r t) buf' one two) R (z, b, p, q) (day_prepares n) = absurd z
-  completed {cs = cs} (world z' buf' (waiting s') two) R (z, b, p, q) (day_starts1 D n) =
+  completed (world (ready r t) buf' one two) (day_prepares n) R (z, b, p, q) = absurd z
+  completed {cs = cs} (world z' buf' (waiting s') two) (day_starts1 D n) R (z, b, p, q) =
       let a : Answer = start (lent1 (day_staged w S) D) (held (day_staged w S) s') in
       let e : own_answer a ≡ start1 w S D = (day_calls w).starts1 S cs z' buf' D s' two R in (
         world z' buf' (started (day_staged w S) (lent1 (day_staged w S) D) s') two,
         complete R (starts1 D (ap (λ (x : Answer). x.number) e ∙ n)),
         (z, b, answered (start1 w S D) a [] [] e refl, q),
       )
-  completed (world z' buf' (going s' t said') two) R (z, b, p, q) (day_starts1 D n) = absurd p
-  completed {cs = cs} (world (ready r t₀) buf' one (waiting s')) R (z, b, p, q) (day_starts2 D d n) =
+  completed (world z' buf' (going s' t said') two) (day_starts1 D n) R (z, b, p, q) = absurd p
+  completed {cs = cs} (world (ready r t₀) buf' one (waiting s')) (day_starts2 D d n) R (z, b, p, q) =
       let a : Answer = start (lent2 (day_staged w S) D) (held (day_staged w S) s') in
       let e : own_answer a ≡ start2 w S D = (day_calls w).starts2 S cs (ready r t₀) buf' D one s' R in (
         world (ready r t₀) buf' one (started (day_staged w S) (lent2 (day_staged w S) D) s'),
@@ -110,10 +109,9 @@ module _ (w : ℕ) (S : DaySetting) where
             (starts2 D (subst (λ (x : List ℕ). Dealt (day_staged w S) x D) b d) (ap (λ (x : Answer). x.number) e ∙ n)),
         (z, b, p, answered (start2 w S D) a [] [] e refl),
       )
-  completed (world (idle r) buf' one two) R (z, b, p, q) (day_starts2 D d n) = absurd z
-  completed (world (ready r t₀) buf' one (going s' t said')) R (z, b, p, q) (day_starts2 D d n) = absurd q
-  completed {cs = cs} (world z' buf' (going s' t said') (going s2' t2 said2')) R (z, b, p, q)
-      (day_hears1 {s = s} {said = said} D v m n) =
+  completed (world (idle r) buf' one two) (day_starts2 D d n) R (z, b, p, q) = absurd z
+  completed (world (ready r t₀) buf' one (going s' t said')) (day_starts2 D d n) R (z, b, p, q) = absurd q
+  completed {cs = cs} (world z' buf' (going s' t said') (going s2' t2 said2')) (day_hears1 {s = s} {said = said} D v m n) R (z, b, p, q) =
       let a : Answer = hear (lent1 (day_staged w S) D) s' v in
       let e : own_answer a ≡ hear1 w S D s v =
       (day_calls w).hears1 S cs z' buf' D s' t said' (going s2' t2 said2') v R ∙ ap (λ (x : State). hear1 w S D x v) (sym p.0) in (
@@ -121,10 +119,9 @@ module _ (w : ℕ) (S : DaySetting) where
         complete R (hears1 D v (among (same_place s' v p.0) q.1 m) (ap (λ (x : Answer). x.number) e ∙ n)),
         (z, b, answered (hear1 w S D s v) a said said' e p.1, q),
       )
-  completed (world z' buf' (waiting s') two) R (z, b, p, q) (day_hears1 D v m n) = absurd p
-  completed (world z' buf' (going s' t said') (waiting s2')) R (z, b, p, q) (day_hears1 D v m n) = absurd q
-  completed {cs = cs} (world z' buf' (going s1' t1 said1') (going s' t said')) R (z, b, p, q)
-      (day_hears2 {s = s} {said = said} D d v m n) =
+  completed (world z' buf' (waiting s') two) (day_hears1 D v m n) R (z, b, p, q) = absurd p
+  completed (world z' buf' (going s' t said') (waiting s2')) (day_hears1 D v m n) R (z, b, p, q) = absurd q
+  completed {cs = cs} (world z' buf' (going s1' t1 said1') (going s' t said')) (day_hears2 {s = s} {said = said} D d v m n) R (z, b, p, q) =
       let a : Answer = hear (lent2 (day_staged w S) D) s' v in
       let e : own_answer a ≡ hear2 w S D s v =
       (day_calls w).hears2 S cs z' buf' D (going s1' t1 said1') s' t said' v R ∙ ap (λ (x : State). hear2 w S D x v) (sym q.0) in (
@@ -134,8 +131,8 @@ module _ (w : ℕ) (S : DaySetting) where
             (ap (λ (x : Answer). x.number) e ∙ n)),
         (z, b, p, answered (hear2 w S D s v) a said said' e q.1),
       )
-  completed (world z' buf' (waiting s1') two) R (z, b, p, q) (day_hears2 D d v m n) = absurd p
-  completed (world z' buf' (going s1' t1 said1') (waiting s')) R (z, b, p, q) (day_hears2 D d v m n) = absurd q
+  completed (world z' buf' (waiting s1') two) (day_hears2 D d v m n) R (z, b, p, q) = absurd p
+  completed (world z' buf' (going s1' t1 said1') (waiting s')) (day_hears2 D d v m n) R (z, b, p, q) = absurd q
 
   -- a hearing turned down
   hearing_back : (x : DayHost) (y : Side) → HasSlots 120 (side_state y) → (h : ℕ) (T L : List ℕ) (H : Hours) (M D : List ℕ) (v : ℕ)
@@ -171,22 +168,22 @@ module _ (w : ℕ) (S : DaySetting) where
   masks_given (prepared r) (ready r' t) given masks g e p = e ∙ sym g ∙ p
 
   -- calls that are refused: the run's world stays as it is, and the day's is still the same
-  refused : {cs : List Call} {u u' : DayWorld} (v : World) → Run (day_staged w S) cs v → Same u v → DayRefuses w S u u' → Same u' v
-  refused (world z' buf' one two) R (z, b, p, q) (day_refuses0 {buf = buf} T L H A B n) = (z, buffer_back w T L H A B buf n ∙ b, p, q)
-  refused v R e (day_refuses_elsewhere T L H A B other n) = e
-  refused v R e (day_refuses_start h T L H M D n) = e
-  refused (world z' buf' one' two') R (z, b, p, q) (day_refuses1 {one = one} h T L H M D v n) =
+  refused : {cs : List Call} {u u' : DayWorld} (v : World) → DayRefuses w S u u' → Run (day_staged w S) cs v → Same u v → Same u' v
+  refused (world z' buf' one two) (day_refuses0 {buf = buf} T L H A B n) R (z, b, p, q) = (z, buffer_back w T L H A B buf n ∙ b, p, q)
+  refused v (day_refuses_elsewhere T L H A B other n) R e = e
+  refused v (day_refuses_start h T L H M D n) R e = e
+  refused (world z' buf' one' two') (day_refuses1 {one = one} h T L H M D v n) R (z, b, p, q) =
       (z, b, hearing_back one one' (both_hold (day_staged w S) R).0 h T L H M D v n p, q)
-  refused (world z' buf' one' two') R (z, b, p, q) (day_refuses2 {two = two} h T L H M D v n) =
+  refused (world z' buf' one' two') (day_refuses2 {two = two} h T L H M D v n) R (z, b, p, q) =
       (z, b, p, hearing_back two two' (both_hold (day_staged w S) R).1 h T L H M D v n q)
-  refused (world z' buf' one two) R (d, b, p, q) (job_refuses0 {z = z} {buf = buf} σ A B given g n) =
+  refused (world z' buf' one two) (job_refuses0 {z = z} {buf = buf} σ A B given g n) R (d, b, p, q) =
       let k = prepare_back σ A B buf given n in
       (masks_given z z' given (prepare σ A B buf given).masks g k.0 d, k.1 ∙ b, p, q)
-  refused (world z' buf' one two) R (d, b, p, q) (job_refuses_elsewhere {z = z} σ A B other given g n) =
+  refused (world z' buf' one two) (job_refuses_elsewhere {z = z} σ A B other given g n) R (d, b, p, q) =
       (masks_given z z' given (prepare σ A B other given).masks g (prepare_back σ A B other given n).0 d, b, p, q)
-  refused (world z' buf' one' two') R (z, b, p, q) (job_refuses1 {one = one} n) =
+  refused (world z' buf' one' two') (job_refuses1 {one = one} n) R (z, b, p, q) =
       (z, b, job_back one one' (both_hold (day_staged w S) R).0 n p, q)
-  refused (world z' buf' one' two') R (z, b, p, q) (job_refuses2 {two = two} n) =
+  refused (world z' buf' one' two') (job_refuses2 {two = two} n) R (z, b, p, q) =
       (z, b, p, job_back two two' (both_hold (day_staged w S) R).1 n q)
 
   pub followed : {cs : List Call} {u : DayWorld} → DayRun w S cs u → (v : World) × Run (day_staged w S) cs v × Same u v
@@ -196,5 +193,5 @@ module _ (w : ℕ) (S : DaySetting) where
     begin (given_out (given_held S.m S.l1 S.m_day S.l1_day) (given_held S.m S.l2 S.m_day S.l2_day)),
     (tt, refl, tt, tt),
   )
-  followed (day_complete r c) = let f = followed r in completed f.0 f.1 f.2 c
-  followed (day_refuse r c) = let f = followed r in (f.0, refuse f.1 (turns_down w f.0), refused f.0 f.1 f.2 c)
+  followed (day_complete r c) = let f = followed r in completed f.0 c f.1 f.2
+  followed (day_refuse r c) = let f = followed r in (f.0, refuse f.1 (turns_down w f.0), refused f.0 c f.1 f.2)

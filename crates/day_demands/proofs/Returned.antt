@@ -165,7 +165,7 @@ module _ (S : DaySetting) where
       let k : Accepted the_day (buffer_of f.0) =
       subst (Accepted the_day) (same_buffer u f.0 f.2) ((day_opens.accepted S (day_buffer u)).0 a) in
       all_done u f.0 f.1 f.2
-      (strict.finishes the_day [] cs f.0 n.0 n.1 n.2 k (λ c v' x o. none c _ (back 32 S u f.1 f.2 x).1) 96
+      (strict.finishes the_day [] cs f.0 n.0 n.1 n.2 k (λ c v' x o. none c _ (back 32 S u x f.1 f.2).1) 96
       last_order)
 
 -- what a day opens at its end

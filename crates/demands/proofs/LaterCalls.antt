@@ -21,12 +21,12 @@ use Rattle.calls.specs.Calls.{State, Answer, counted_to, stored_at, hear_walk, f
 use Rattle.calls.proofs.Faults.{no_fault}
 use Rattle.runs.specs.Runs.{Stage, Spoken, placed_word, Dealer, idle, ready, Side, going, World, world, Call, hearing1, hearing2}
 use Rattle.runs.specs.Runs.{lent1, lent2, stepped}
-use Rattle.runs.specs.Runs.{Completes, hears1, hears2, Run}
+use Rattle.runs.specs.Runs.{Completes, prepares, starts1, starts2, hears1, hears2, Run}
 use Rattle.runs.specs.Strict.{Narrow, heard_by_1, heard_by_2, Calls, none, completes, refuses}
 use Rattle.runs.proofs.Places.{pos, seek_pos, exchange_or_end, ends_pos}
 use Rattle.runs.proofs.Refusals.{hear_none}
 use Rattle.runs.proofs.Progress.{hear_zero}
-use Rattle.runs.proofs.Kept.{all, j₀, position, dealt_all, go1, go2, Ok, ok, kept, refuses_nothing, supplied}
+use Rattle.runs.proofs.Kept.{all, j₀, position, not_yet, dealt_all, go1, go2, Ok, ok, kept, refuses_nothing, supplied}
 use Rattle.runs.proofs.Strict.{resume_number, Stands, moved1, moved2, wide_on}
 use Rattle.demands.specs.Conditions.{used_in}
 use Rattle.demands.specs.Completed.{Located}
@@ -237,6 +237,9 @@ module _ (S : Stage) (fine : Orderly S.script) (A' B' : List ℕ) (la : (script_
     step : {cs : List Call} {c : Call} {v v' : World} {g1 g2 : List Spoken} (k : Completes S c v v') → Narrow S E g1 g2 k → Ok S v
         → Onward E v₀ h1 h2 cs v g1 g2 → Onward E v₀ h1 h2 (c ∷ cs) v' (heard_by_1 S k g1) (heard_by_2 S k g2)
     unfolding worker_with
+    step {cs = cs} {g1 = g1} {g2 = g2} (prepares {r = r} {buf = buf} _) n _ (C, h) = elim h [ ]
+    step {cs = cs} {g1 = g1} {g2 = g2} (starts1 {z = z} {buf = buf} {s = s} D _) n _ (C, h) = elim h [ ]
+    step {cs = cs} {g1 = g1} {g2 = g2} (starts2 {r = r} {t₀ = t₀} {buf = buf} {s = s} D _ _) n _ (C, h) = elim h [ ]
     step {cs = cs} {g1 = g1} {g2 = g2} (hears1 {z = z} {buf = buf} {s = s} {s2 = s2} {t = t} {t2 = t2} {said = said} {said2 = said2} D v m e) n
         (ok a (go1 X) (go2 Y) w) (C, both m1 m2 Z Q l1 l2) =
         let M = moved1 S D s m1 (suc Y.n) v said2 Z Y.heard m e in
@@ -249,6 +252,8 @@ module _ (S : Stage) (fine : Orderly S.script) (A' B' : List ℕ) (la : (script_
           subst (λ (x : Side). Calls S' E v₀ h1 h2 (hearing1 v ∷ cs) (world z buf x (going s2 t2 said2)) (placed_word s v ∷ g1) g2) q (completes C (hears1 D v m e') n),
           both M.to m2 M.stands Q (omega (arith, M.later, l1)) l2,
         )
+    step {cs = cs} {g1 = g1} {g2 = g2} (hears2 {buf = buf} {s = s} {s1 = s1} {t = t} {t1 = t1} {said = said} {said1 = said1} D d v m e) n
+        (ok (not_yet {r = r} _) _ _ w) _ = elim w [ ]
     step {cs = cs} {g1 = g1} {g2 = g2} (hears2 {z = z} {buf = buf} {s = s} {s1 = s1} {t = t} {t1 = t1} {said = said} {said1 = said1} D d v m e) n
         (ok (dealt_all p g x y) (go1 X) (go2 Y) w) (C, both m1 m2 Z Q l1 l2) =
         let M = moved2 S D (supplied S buf p D g d) s m2 (suc X.n) v said1 Q X.heard m e in

@@ -67,6 +67,9 @@ data AtWork (m : Pair) (b : List ℕ) : World → Type 0 where
 
 module _ (S : Stage) (E : List ℕ) where
   works_on : (m : Pair) (b : List ℕ) (c : Call) (v v' : World) → Completes S c v v' → AtWork m b v → AtWork m b v'
+  works_on m b _ _ _ (prepares {r = r} {buf = buf} {one = one} {two = two} _) h = elim h [ ]
+  works_on m b _ _ _ (starts1 {z = z} {buf = buf} {s = s} {two = two} D _) h = elim h [ ]
+  works_on m b _ _ _ (starts2 {r = r} {t₀ = t₀} {buf = buf} {s = s} {one = one} D _ _) h = elim h [ ]
   works_on m b _ _ _ (hears1 D x i e) at_work = at_work
   works_on m b _ _ _ (hears2 D d x i e) at_work = at_work
 

@@ -15,7 +15,7 @@ pub returns-in-Undealt : goal.returns-in-Undealt
 returns-in-Undealt c =
     let n = c in
     let e = n in
-    holds_undealt _ _ _ _ _ (sym e.shape-1.given.1 ∙ e.shape_of-shape.ensures) n.word_at.ensures
+    holds_undealt _ _ _ _ _ (sym e.in-Undealt.is ∙ e.shape_of-shape.ensures) n.word_at.ensures
     c.word_at-in-Undealt.ensures n.put.ensures c.put-in-Undealt.ensures
 
 pub returns-in-Dealing-shape : goal.returns-in-Dealing-shape
@@ -24,7 +24,7 @@ returns-in-Dealing-shape c =
     let p = e in
     let v = p in
     let x = v in
-    holds_deal _ _ _ _ _ (sym e.shape-in-Dealing-shape-2-1.given.1 ∙ x.shape_of-shape.ensures) x.word_at-x.ensures
+    holds_deal _ _ _ _ _ (sym e.in-Dealing-shape.is ∙ x.shape_of-shape.ensures) x.word_at-x.ensures
     v.deal_word-word.ensures c.put-in-Dealing-shape.ensures c.put-in-Dealing-shape-2.ensures p.put_word.ensures
 
 pub returns-in-Product : goal.returns-in-Product
@@ -34,14 +34,14 @@ returns-in-Product c =
     let p = e in
     let v = p in
     let x = v in
-    holds_product _ _ _ _ _ (sym e.shape-in-Product-1.given.1 ∙ x.shape_of-shape.ensures) x.word_at-x.ensures
+    holds_product _ _ _ _ _ (sym e.in-Product.is ∙ x.shape_of-shape.ensures) x.word_at-x.ensures
     v.deal_word-word.ensures n.word_after.ensures c.word_at-in-Product.ensures n.put-in-Product.ensures c.put-in-Product-2.ensures
     p.put_word.ensures
 
 -- the second match meets no shape but those two
 pub returns-in_default : goal.returns-in_default
 returns-in_default c =
-    let first = c.in-Dealing.keys3 in
+    let first = c.in-Dealing.in-Dealing-own.keys3 in
     absurd
-    (⊎_elim (λ p. ⊎_elim (λ q. omega arith) (λ q. omega arith) c.in_default.keys3)
-    (λ p. ⊎_elim (λ q. omega arith) (λ q. omega arith) c.in_default.keys3) first)
+    (⊎_elim (λ p. ⊎_elim (λ q. omega arith) (λ q. omega arith) c.in_default.in_default-own.keys3)
+    (λ p. ⊎_elim (λ q. omega arith) (λ q. omega arith) c.in_default.in_default-own.keys3) first)

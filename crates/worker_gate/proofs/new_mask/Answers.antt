@@ -11,7 +11,7 @@ returns-in-2 c =
 pub returns-in_default-used : goal.returns-in_default-used
 returns-in_default-used c =
     let h = c in
-    c.word_at.ensures ∙ mask_next _ _ _ _ _ _ h.used_by-used.ensures h.in-1.is c.in_default-used.rest.1
+    c.word_at.ensures ∙ mask_next _ _ _ _ _ _ h.used_by-used.ensures h.in-1.is c.in_default-used.in_default-used-own.rest.1
 
 pub returns-in_default : goal.returns-in_default
 returns-in_default c = c.word_at-in_default.ensures ∙ mask_of_b _ _ _ _ _ c.in_default.in_default-own.rest.1

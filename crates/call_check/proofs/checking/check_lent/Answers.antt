@@ -9,8 +9,8 @@ use Rattle.call_check.proofs.checking.check_lent.Goals as goal
 pub returns-in-1 : goal.returns-in-1
 unfolding job_cost
 returns-in-1 c =
-    record { fault = of_host _ _ _ _ _ c.if-host-lt1.false c.if-host-lt3.true c.check_job.ensures.fault; counts = c.check_job.ensures.counts }
+    record { fault = of_host _ _ _ _ _ (omega arith) (omega arith) c.check_job.ensures.fault; counts = c.check_job.ensures.counts }
 
 pub returns-in_default : goal.returns-in_default
 returns-in_default c =
-    let t = c.turned_down.ensures in record { fault = t.0 ∙ other_host _ _ _ _ (λ l u. ⊎_elim (λ z. omega arith) (λ z. omega arith) c.in_default.branch); counts = none_counted _ _ _ _ t (λ z. omega arith) }
+    let t = c.turned_down.ensures in record { fault = t.0 ∙ other_host _ _ _ _ (λ l u. omega arith); counts = none_counted _ _ _ _ t (λ z. omega arith) }

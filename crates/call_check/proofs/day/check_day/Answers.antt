@@ -38,54 +38,36 @@ returns-then-not-keeps_rules c =
       day = nothing_found _ _ _ _ t (λ z. omega arith);
     }
 
--- the table keeps its rules
-kept : (c : goal.Else-not-keeps_rules)
-    → keeps_rules c.args.table.now ≡ true
-kept c = sym c.keeps_rules.ensures ∙ not-false _ c.if-not-keeps_rules.false-raw
-
 pub overflow_cast-table : goal.overflow_cast-table
 overflow_cast-table c =
     let g = c in
     let k = g in
-    omega (arith, few_rows _ _ _ k.if-shares-ne-DAY_WORDS.false _ k.counted-found.ensures g.if-found-ne0.false (kept c))
+    omega (arith, few_rows _ _ _ k.if-shares-ne-DAY_WORDS.false _ k.counted-found.ensures g.if-found-ne0.false (sym c.keeps_rules.ensures ∙ not-false _ c.if-not-keeps_rules.false-raw))
 
 pub curve_counts-curve-requires : goal.curve_counts-curve-requires
 curve_counts-curve-requires c =
     let g = c in
     let k = g in
-    few_rows _ _ _ k.if-shares-ne-DAY_WORDS.false _ k.counted-found.ensures g.if-found-ne0.false (kept c)
+    few_rows _ _ _ k.if-shares-ne-DAY_WORDS.false _ k.counted-found.ensures g.if-found-ne0.false (sym c.keeps_rules.ensures ∙ not-false _ c.if-not-keeps_rules.false-raw)
 
 pub day_counts-whole-requires : goal.day_counts-whole-requires
 day_counts-whole-requires c =
     let e = c in
     let g = e in
     let k = g in
-    let f = few_counts _ _ _ k.if-shares-ne-DAY_WORDS.false _ k.counted-found.ensures g.if-found-ne0.false (kept e) _ c.curve_counts-curve.ensures in
+    let f = few_counts _ _ _ k.if-shares-ne-DAY_WORDS.false _ k.counted-found.ensures g.if-found-ne0.false (sym e.keeps_rules.ensures ∙ not-false _ e.if-not-keeps_rules.false-raw) _ c.curve_counts-curve.ensures in
     let a = k.args in
     (f.0, f.1, f.2, f.3, few_quarters a.table.now _ _ k.if-shares-ne-DAY_WORDS.false _ k.counted-found.ensures g.if-found-ne0.false)
-
--- the lists' number is the day's
-lists_are : (c : goal.After-lists_fault-number)
-    → let k = c in
-    let a = k.args in
-    let T = a.table.now in
-    let H = hours a.calendar.now a.weekday in
-    (c.lists_fault-number.result, 0)
-    ≡ or_else (day_fault T (length a.shares.now) H)
-    (dealer_lists_fault (needs_of a.host (day_of (counted_quarters H.calendar H.weekday) (curve_cost 0 (length (rows T))))) a.a.now
-    a.b.now a.deals.now)
-lists_are c =
-    let v = c in
-    let e = v in
-    let g = e in
-    let k = g in
-    lists_day _ _ _ k.if-shares-ne-DAY_WORDS.false _ k.counted-found.ensures g.if-found-ne0.false (kept e) _ v.curve_counts-curve.ensures _ _ _ _ _ _
-    (c.needs_of.ensures ∙ ap (needs_of _) c.day_counts-whole.ensures) c.lists_fault-number.ensures
 
 pub returns-then-number-ne0 : goal.returns-then-number-ne0
 returns-then-number-ne0 c =
     let t = c.day_turned_down-then-number-ne0.ensures in
-    record { fault = ap {B = Fault} (λ (n : ℕ). (n, 0)) t.0 ∙ lists_are c; day = nothing_found _ _ _ _ t c.if-number-ne0.true }
+    record {
+      fault = ap {B = Fault} (λ (n : ℕ). (n, 0)) t.0 ∙ lists_day _ _ _ c.if-shares-ne-DAY_WORDS.false _ c.counted-found.ensures c.if-found-ne0.false
+          (sym c.keeps_rules.ensures ∙ not-false _ c.if-not-keeps_rules.false-raw) _ c.curve_counts-curve.ensures _ _ _ _ _ _
+          (c.needs_of.ensures ∙ ap (needs_of _) c.day_counts-whole.ensures) c.lists_fault-number.ensures;
+      day = nothing_found _ _ _ _ t c.if-number-ne0.true;
+    }
 
 pub returns : goal.returns
 returns c =
@@ -95,7 +77,9 @@ returns c =
     let e = v in
     let g = e in
     let k = g in record {
-      fault = ap {B = Fault} (λ (n : ℕ). (n, 0)) (sym n.if-number-ne0.false) ∙ lists_are l;
-      day = day_found _ _ _ k.if-shares-ne-DAY_WORDS.false _ k.counted-found.ensures g.if-found-ne0.false (kept e) _ v.curve_counts-curve.ensures _ _ refl refl refl
+      fault = ap {B = Fault} (λ (n : ℕ). (n, 0)) (sym n.if-number-ne0.false) ∙ lists_day _ _ _ l.if-shares-ne-DAY_WORDS.false _ l.counted-found.ensures l.if-found-ne0.false
+          (sym l.keeps_rules.ensures ∙ not-false _ l.if-not-keeps_rules.false-raw) _ l.curve_counts-curve.ensures _ _ _ _ _ _
+          (l.needs_of.ensures ∙ ap (needs_of _) l.day_counts-whole.ensures) l.lists_fault-number.ensures;
+      day = day_found _ _ _ k.if-shares-ne-DAY_WORDS.false _ k.counted-found.ensures g.if-found-ne0.false (sym e.keeps_rules.ensures ∙ not-false _ e.if-not-keeps_rules.false-raw) _ v.curve_counts-curve.ensures _ _ refl refl refl
           l.day_counts-whole.ensures;
     }

@@ -16,11 +16,11 @@ returns-in-1 c =
     let T = a.table.now in
     let n = length a.shares.now in
     let H = hours a.calendar.now a.weekday in record {
-      fault = of_host (day_script 32 T n H) _ _ _ _ c.if-host-lt1.false c.if-host-lt3.true
+      fault = of_host (day_script 32 T n H) _ _ _ _ (omega arith) (omega arith)
           (by_script T n H a.host a.masks.now a.masks.now a.deals.now _ c.check_day.ensures.fault);
       day = c.check_day.ensures.day;
     }
 
 pub returns-in_default : goal.returns-in_default
 returns-in_default c =
-    let t = c.day_turned_down.ensures in record { fault = ap {B = Fault} (λ (n : ℕ). (n, 0)) t.0 ∙ other_host _ _ _ _ (λ l u. ⊎_elim (λ z. omega arith) (λ z. omega arith) c.in_default.branch); day = nothing_found _ _ _ _ t (λ z. omega arith) }
+    let t = c.day_turned_down.ensures in record { fault = ap {B = Fault} (λ (n : ℕ). (n, 0)) t.0 ∙ other_host _ _ _ _ (λ l u. omega arith); day = nothing_found _ _ _ _ t (λ z. omega arith) }

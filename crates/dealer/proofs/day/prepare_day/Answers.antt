@@ -17,49 +17,28 @@ returns-then-found-ne0 c =
     day_refused s.table.now s.shares.now (hours s.calendar.now s.weekday) s.a.now s.b.now s.deals.now _
     d.check_day_dealer-found.ensures.fault c.if-found-ne0.true
 
--- no number was found
-faultless : (c : goal.Else-found-ne0)
-    → let s = c.args in
-    (dealer_fault (day_script 32 s.table.now (length s.shares.now) (hours s.calendar.now s.weekday)) s.a.now s.b.now
-    s.deals.now).0
-    ≡ 0
-faultless c = sym (ap (λ (f : Fault). f.0) c.check_day_dealer-found.ensures.fault) ∙ c.if-found-ne0.false
-
--- and the day was
-found-day : (c : goal.Else-found-ne0)
-    → let d = c in
-    let s = d.args in
-    DayIs 0 s.table.now (hours s.calendar.now s.weekday) d.check_day_dealer-found.result.day d.check_day_dealer-found.result.whole
-found-day c =
-    let d = c in
-    let s = d.args in
-    subst
-    (λ (n : ℕ). DayIs n s.table.now (hours s.calendar.now s.weekday) d.check_day_dealer-found.result.day
-    d.check_day_dealer-found.result.whole) c.if-found-ne0.false
-    d.check_day_dealer-found.ensures.day
-
 pub deal_day-used-requires : goal.deal_day-used-requires
 deal_day-used-requires c =
     let f = c in
     let d = f in
     let s = d.args in
     let H = hours s.calendar.now s.weekday in (
-      (day_lent s.table.now s.shares.now H s.a.now s.b.now s.deals.now (faultless f)).0,
+      (day_lent s.table.now s.shares.now H s.a.now s.b.now s.deals.now ((sym (ap (λ (f : Fault). f.0) f.check_day_dealer-found.ensures.fault) ∙ f.if-found-ne0.false))).0,
       refl,
       refl,
-      n_is s.table.now s.shares.now H s.a.now s.b.now s.deals.now (faultless f) _ (found-day f),
-      day_room s.table.now s.shares.now H s.a.now s.b.now s.deals.now (faultless f) _ (found-day f) _ _,
+      n_is s.table.now s.shares.now H s.a.now s.b.now s.deals.now ((sym (ap (λ (f : Fault). f.0) f.check_day_dealer-found.ensures.fault) ∙ f.if-found-ne0.false)) _ ((let d = f in let s = d.args in subst (λ (n : ℕ). DayIs n s.table.now (hours s.calendar.now s.weekday) d.check_day_dealer-found.result.day d.check_day_dealer-found.result.whole) f.if-found-ne0.false d.check_day_dealer-found.ensures.day)),
+      day_room s.table.now s.shares.now H s.a.now s.b.now s.deals.now ((sym (ap (λ (f : Fault). f.0) f.check_day_dealer-found.ensures.fault) ∙ f.if-found-ne0.false)) _ ((let d = f in let s = d.args in subst (λ (n : ℕ). DayIs n s.table.now (hours s.calendar.now s.weekday) d.check_day_dealer-found.result.day d.check_day_dealer-found.result.whole) f.if-found-ne0.false d.check_day_dealer-found.ensures.day)) _ _,
     )
 
-pub UNKNOWN-cast-t28 : goal.UNKNOWN-cast-t28
-UNKNOWN-cast-t28 c =
+pub overflow_cast-Prepared : goal.overflow_cast-Prepared
+overflow_cast-Prepared c =
     let j = c in
     let f = j in
     let s = f.args in
     omega (
       arith,
-      few_dealt s.table.now s.shares.now (hours s.calendar.now s.weekday) s.a.now s.b.now s.deals.now (faultless f) _
-          (found-day f) _ _ _ _ j.deal_day-used.ensures.dealt,
+      few_dealt s.table.now s.shares.now (hours s.calendar.now s.weekday) s.a.now s.b.now s.deals.now ((sym (ap (λ (f : Fault). f.0) f.check_day_dealer-found.ensures.fault) ∙ f.if-found-ne0.false)) _
+          ((let d = f in let s = d.args in subst (λ (n : ℕ). DayIs n s.table.now (hours s.calendar.now s.weekday) d.check_day_dealer-found.result.day d.check_day_dealer-found.result.whole) f.if-found-ne0.false d.check_day_dealer-found.ensures.day)) _ _ _ _ j.deal_day-used.ensures.dealt,
     )
 
 pub returns : goal.returns
@@ -69,6 +48,6 @@ returns c =
     let j = p in
     let f = j in
     let s = f.args in
-    day_answer s.table.now s.shares.now (hours s.calendar.now s.weekday) s.a.now s.b.now s.deals.now (faultless f) _
-    (found-day f) _ _ _ _ j.deal_day-used.ensures.dealt j.deal_day-used.ensures.long.0 j.deal_day-used.ensures.long.1
+    day_answer s.table.now s.shares.now (hours s.calendar.now s.weekday) s.a.now s.b.now s.deals.now ((sym (ap (λ (f : Fault). f.0) f.check_day_dealer-found.ensures.fault) ∙ f.if-found-ne0.false)) _
+    ((let d = f in let s = d.args in subst (λ (n : ℕ). DayIs n s.table.now (hours s.calendar.now s.weekday) d.check_day_dealer-found.result.day d.check_day_dealer-found.result.whole) f.if-found-ne0.false d.check_day_dealer-found.ensures.day)) _ _ _ _ j.deal_day-used.ensures.dealt j.deal_day-used.ensures.long.0 j.deal_day-used.ensures.long.1
     _ _ (r.registers-kept1.ensures ∙ ap (take 16) p.put.ensures) (c.registers-kept2.ensures ∙ ap (take 16) r.put-2.ensures)

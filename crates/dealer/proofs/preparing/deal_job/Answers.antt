@@ -38,7 +38,7 @@ pub overflow_add-o : goal.overflow_add-o
 overflow_add-o c =
     let q = c in
     let e = q in
-    omega (arith, q.loop-o-test.true, q.loop-o.invariant.0, e.well-formed.0)
+    omega (arith, q.loop-o-test.true, q.loop-o.invariant.0, e.well_formed.0)
 
 pub loop-o-smaller-then-adds_here : goal.loop-o-smaller-then-adds_here
 loop-o-smaller-then-adds_here c =
@@ -69,7 +69,7 @@ pub overflow_add-o-then-piece : goal.overflow_add-o-then-piece
 overflow_add-o-then-piece c =
     let p = c in
     let e = p in
-    omega (arith, p.loop-o-test.true, p.loop-o.invariant.0, e.well-formed.0)
+    omega (arith, p.loop-o-test.true, p.loop-o.invariant.0, e.well_formed.0)
 
 pub loop-o-smaller-then-piece : goal.loop-o-smaller-then-piece
 loop-o-smaller-then-piece c =
@@ -110,7 +110,7 @@ overflow_add-gate c =
     let few =
     few_gates s.a.now s.b.now s.job.now s.table.now (dealer s.used s.l1.now s.l2.now s.deals.now)
     e.requires l.o n _ p.order_at-order.ensures in
-    omega (arith, within, few, e.well-formed.1.1.0)
+    omega (arith, within, few, e.well_formed.1.1.0)
 
 pub loop-o-smaller : goal.loop-o-smaller
 loop-o-smaller c =

@@ -38,8 +38,8 @@ overflow_cast-result c =
     let e = sym (ap (λ (f : Fault). f.0) d.check_dealer-found.ensures.fault) ∙ f.if-found-ne0.false in
     let n =
     dealt_count (job_script 32 s.job.now s.table.now) s.a.now s.b.now s.deals.now (s.masks.l1, s.masks.l2)
-    _ _ _ e (x.copy_front.ensures ∙ given_registers s.masks.l1 (sym (slice-aggregate-copy-front x)))
-    (y.copy_front-2.ensures ∙ given_registers s.masks.l2 (sym (slice-aggregate-copy-front-3 y)))
+    _ _ _ e (x.copy_front.ensures ∙ given_registers s.masks.l1 (search rules))
+    (y.copy_front-2.ensures ∙ given_registers s.masks.l2 (search rules))
     j.deal_job-used.ensures in
     omega (arith, n, ap (λ (n : Cost). n.deals) (d.check_dealer-found.ensures.counts ∙ no_fault_passed _ _ f.if-found-ne0.false), d.check_dealer-found.type_inv)
 
@@ -53,7 +53,7 @@ returns c =
     let s = x.args in
     let e = sym (ap (λ (f : Fault). f.0) d.check_dealer-found.ensures.fault) ∙ f.if-found-ne0.false in
     finished (job_script 32 s.job.now s.table.now) s.a.now s.b.now s.deals.now (s.masks.l1, s.masks.l2)
-    _ _ _ e (x.copy_front.ensures ∙ given_registers s.masks.l1 (sym (slice-aggregate-copy-front x)))
-    (y.copy_front-2.ensures ∙ given_registers s.masks.l2 (sym (slice-aggregate-copy-front-3 y)))
+    _ _ _ e (x.copy_front.ensures ∙ given_registers s.masks.l1 (search rules))
+    (y.copy_front-2.ensures ∙ given_registers s.masks.l2 (search rules))
     j.deal_job-used.ensures
     _ _ c.registers-kept1.ensures c.registers-kept2.ensures

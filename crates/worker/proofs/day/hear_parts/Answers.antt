@@ -30,7 +30,7 @@ returns-then-lent-ne0 c =
     let a = s.args in
     c.refused.ensures ∙ ap (refused _) t.state.ensures
     ∙ hear_turned a.host a.table.now a.shares.now (hours a.calendar.now a.weekday) a.masks.now a.deals.now _ cd.check_day_lent-lent.ensures.fault (state_with a.m a.mask a.order a.turn a.stored)
-    (omega (arith, s.well-formed)) (omega (arith, s.well-formed)) a.heard th.if-lent-ne0.true
+    (omega (arith, s.well_formed)) (omega (arith, s.well_formed)) a.heard th.if-lent-ne0.true
 
 pub returns-then-order-gt-QUARTERS : goal.returns-then-order-gt-QUARTERS
 returns-then-order-gt-QUARTERS c =
@@ -43,7 +43,7 @@ returns-then-order-gt-QUARTERS c =
     let a = s.args in
     c.refused-then-order-gt-QUARTERS.ensures ∙ ap (refused _) t.state-then-order-gt-QUARTERS.ensures
     ∙ hear_past a.host a.table.now a.shares.now (hours a.calendar.now a.weekday) a.masks.now a.deals.now _ cd.check_day_lent-lent.ensures.fault (state_with a.m a.mask a.order a.turn a.stored)
-    (omega (arith, s.well-formed)) (omega (arith, s.well-formed)) a.heard el.if-lent-ne0.false (counted cd.check_day_lent-lent.result.whole)
+    (omega (arith, s.well_formed)) (omega (arith, s.well_formed)) a.heard el.if-lent-ne0.false (counted cd.check_day_lent-lent.result.whole)
     (whole_day a.host a.table.now a.shares.now (hours a.calendar.now a.weekday) a.masks.now a.deals.now _
     cd.check_day_lent-lent.ensures.fault el.if-lent-ne0.false _ _ cd.check_day_lent-lent.ensures.day) _ (omega (arith, th.if-order-gt-QUARTERS.true)) ef.end_fault-number.ensures
 
@@ -85,7 +85,7 @@ returns-in_default c =
     let f = held cd.check_day_lent-lent.result.day.quarters in
     c.refused-in_default.ensures ∙ ap (refused _) t.state-in_default.ensures
     ∙ hear_nowhere a.host a.table.now a.shares.now (hours a.calendar.now a.weekday) a.masks.now a.deals.now _
-    cd.check_day_lent-lent.ensures.fault (state_with a.m a.mask a.order a.turn a.stored) (omega (arith, s.well-formed)) (omega (arith, s.well-formed)) a.heard
+    cd.check_day_lent-lent.ensures.fault (state_with a.m a.mask a.order a.turn a.stored) (omega (arith, s.well_formed)) (omega (arith, s.well_formed)) a.heard
     el.if-lent-ne0.false f (same-there e2)
     (none_placed a.table.now f a.order a.turn (omega (arith, e2.if-order-gt-QUARTERS.false)) _ pi.IsPlace-in.ensures et.enum_told-1.given.1)
 
@@ -152,7 +152,7 @@ returns-then-not-are_same c =
     let p = stands_there sa in
     c.refused-then-not-are_same.ensures ∙ ap (refused _) t.state-then-not-are_same.ensures
     ∙ hear_unequal a.host a.table.now a.shares.now (hours a.calendar.now a.weekday) a.masks.now a.deals.now _
-    cd.check_day_lent-lent.ensures.fault (state_with a.m a.mask a.order a.turn a.stored) (omega (arith, s.well-formed)) (omega (arith, s.well-formed))
+    cd.check_day_lent-lent.ensures.fault (state_with a.m a.mask a.order a.turn a.stored) (omega (arith, s.well_formed)) (omega (arith, s.well_formed))
     a.heard el.if-lent-ne0.false (held cd.check_day_lent-lent.result.day.quarters) (same-there e2) _ p.0 p.1 _ am.are_same.ensures
     th.if-not-are_same.true-raw
 
