@@ -1,4 +1,4 @@
-use Rattle.std.proofs.Common.{ℕ, ◌%◌, ◌^◌, refl, ap, ◌∙◌, rules}
+use Rattle.std.proofs.Common.{ℕ, ◌%◌, ◌^◌, refl, ap, ◌∙◌}
 use Rattle.words.specs.Words.{neg, shr, numbers, bits}
 use Rattle.words.specs.Signed.{shr_signed}
 use Rattle.gates.specs.Gates.{Field, Signed, OfSum, OfNegated, OfBits}

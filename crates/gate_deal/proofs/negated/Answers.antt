@@ -1,4 +1,4 @@
-use Rattle.std.proofs.Common.{◌≡◌, ℕ, ◌-◌, ◌%◌, ◌^◌, ◌<◌, ap, ◌∙◌, zero-add, arith, rules}
+use Rattle.std.proofs.Common.{◌≡◌, ℕ, ◌-◌, ◌%◌, ◌^◌, ◌<◌, ap, ◌∙◌, zero-add, arith}
 use Rattle.words.specs.Words.{add, sub, neg}
 use Rattle.words.proofs.Words.{sub_of}
 use Rattle.gate_deal.proofs.negated.Goals as goal

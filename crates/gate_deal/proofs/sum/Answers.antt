@@ -1,5 +1,4 @@
 use Rattle.words.specs.Words.{add}
-use Rattle.std.proofs.Common.{rules}
 use Rattle.gate_deal.proofs.sum.Goals as goal
 
 pub returns : goal.returns

@@ -1,4 +1,4 @@
-use Rattle.std.proofs.Common.{◌^◌, ◌<◌, refl, ◌∙◌, mod-eq_of_lt, arith, rules}
+use Rattle.std.proofs.Common.{◌^◌, ◌<◌, refl, ◌∙◌, mod-eq_of_lt, arith}
 use Rattle.words.specs.Words.{add}
 use Rattle.gates.specs.Codes.{fetched, gates_with, fetched_step}
 use Rattle.gates.specs.Hosts.{on_m}

@@ -1,4 +1,4 @@
-use Rattle.std.proofs.Common.{◌≤◌, refl, arith, rules}
+use Rattle.std.proofs.Common.{◌≤◌, refl, arith}
 use Rattle.words.specs.Words.{add}
 use Rattle.words.proofs.Words.{sub_of}
 use Rattle.gates.specs.Codes.{fetched, gates_with, fetched_step}

@@ -1,4 +1,4 @@
-use Rattle.std.proofs.Common.{◌∙◌, rules}
+use Rattle.std.proofs.Common.{◌∙◌}
 use Rattle.gate_local.proofs.Words.{of_deal, kept}
 use Rattle.gate_local.proofs.step_mask.Goals as goal
 

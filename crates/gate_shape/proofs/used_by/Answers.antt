@@ -1,7 +1,6 @@
 use Rattle.gates.specs.Codes.{step_of}
 use Rattle.gates.specs.declared.Shape.TheVariants.{Local, Dealing, Product, Undealt}
 use Rattle.gate_shape.proofs.Uses.{used_there}
-use borrow.Author.Rules.{rules}
 use Rattle.gate_shape.proofs.used_by.Goals as goal
 
 pub returns-in-Local : goal.returns-in-Local

@@ -2,7 +2,6 @@ use Rattle.words.specs.Words.{add}
 use Rattle.gates.specs.Speech.{met}
 use Rattle.gates.specs.Steps.{meet}
 use Rattle.gates.proofs.Codes.{mul_code, and_code, refresh_code, mul_known_code, and_known_code, silent_code}
-use Rattle.std.proofs.Common.{rules}
 use Rattle.gate_speak.proofs.met_word.Goals as goal
 
 pub returns-in-15 : goal.returns-in-15

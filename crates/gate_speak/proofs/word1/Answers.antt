@@ -1,7 +1,6 @@
 use Rattle.words.specs.Words.{numbers, bits}
 use Rattle.gates.proofs.Codes.{mul_code, and_code, refresh_code, mul_known_code, and_known_code, silent_code}
 use Rattle.gates.proofs.Spoken.{product_said1, refresh_said1, known_product_said1}
-use Rattle.std.proofs.Common.{rules}
 use Rattle.gate_speak.proofs.word1.Goals as goal
 
 pub returns-in-15 : goal.returns-in-15

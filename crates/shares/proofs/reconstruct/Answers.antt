@@ -1,4 +1,3 @@
-use Rattle.std.proofs.Common.{rules}
 use Rattle.shares.specs.Answers.{words}
 use Rattle.shares.proofs.RoundTrip.{not_l1, not_l2, not_m, opened}
 use Rattle.shares.proofs.reconstruct.Goals as goal

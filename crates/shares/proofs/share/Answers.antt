@@ -1,4 +1,3 @@
-use Rattle.std.proofs.Common.{rules}
 use Rattle.shares.proofs.RoundTrip.{too_low, too_high, accepted}
 use Rattle.shares.proofs.share.Goals as goal
 

@@ -1,7 +1,6 @@
 use mathlib.Core.Path.{sym, ◌∙◌}
 use native.Mathlib.Omega.{arith}
 use borrow.Author.Tests.{not-true, not-false}
-use borrow.Author.Rules.{rules}
 use Rattle.table_load.proofs.Reading.{two_to_sixteen_is, answer_13, answer_14, answer_15, answer_0}
 use Rattle.table_load.proofs.load.Goals as goal
 

@@ -1,5 +1,4 @@
 use mathlib.Core.Path.{◌∙◌}
-use borrow.Author.Rules.{rules}
 use Rattle.table_load.proofs.Reading.{apart, first_wrong, second_wrong, mark_right}
 use Rattle.table_load.proofs.read_record.Goals as goal
 

@@ -1,14 +1,8 @@
-use mathlib.Core.Path.{◌≡◌, refl, ◌∙◌, ap}
-use mathlib.Core.List.{List}
-use Prim.Native.Nat.{ℕ, ◌+◌, ◌≤◌, ◌-◌, ◌*◌}
-use native.Mathlib.Nat.{sub-zero}
-use native.Mathlib.Omega.{arith}
-use borrow.Author.Tests.{not-true, not-false}
-use borrow.Author.Rules.{rules}
+use mathlib.Core.Path.{◌≡◌}
+use Prim.Native.Nat.{◌≤◌, ◌-◌, ◌*◌}
 use lib.ListN.{length}
 use lib.Seq.{sets}
-use Rattle.table_load.specs.Loading.{records, marks, words}
-use Rattle.table_load.proofs.Reading.{apart, cut_short, mark_wrong, go_on, all_right, two_more, all_rows}
+use Rattle.table_load.specs.Loading.{marks, words}
 use Rattle.table_load.proofs.read_records.Given as goal
 
 abbrev pub invariant-loop-k : goal.invariant-loop-k

@@ -1,5 +1,4 @@
 use native.Mathlib.Omega.{arith}
-use borrow.Author.Rules.{rules}
 use mathlib.Core.Path.{◌∙◌}
 use Rattle.tables.proofs.Rules.{odd_words, too_few, too_many, enough}
 use Rattle.tables.proofs.keeps_rules.Goals as goal

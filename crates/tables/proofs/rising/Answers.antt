@@ -1,11 +1,7 @@
 use borrow.Author.Tests.{not-true, not-false}
 use Rattle.tables.proofs.Rules.{misfit, not_rising, go_on, no_row, last_row}
-use mathlib.Core.Path.{◌≡◌, refl}
-use Prim.Native.Nat.{◌≤◌, ◌-◌}
+use mathlib.Core.Path.{refl}
 use native.Mathlib.Omega.{arith}
-use borrow.Author.Rules.{rules}
-use lib.ListN.{length, drop}
-use Rattle.tables.specs.Table.{rows, rises}
 use Rattle.tables.proofs.rising.Goals as goal
 
 pub loop-i-init : goal.loop-i-init

@@ -1,9 +1,5 @@
-use borrow.Author.Tests.{not-true, not-false}
-use Rattle.tables.proofs.Rules.{misfit, not_rising, go_on, no_row, last_row}
-use mathlib.Core.Path.{◌≡◌, refl}
+use mathlib.Core.Path.{◌≡◌}
 use Prim.Native.Nat.{◌≤◌, ◌-◌}
-use native.Mathlib.Omega.{arith}
-use borrow.Author.Rules.{rules}
 use lib.ListN.{length, drop}
 use Rattle.tables.specs.Table.{rows, rises}
 use Rattle.tables.proofs.rising.Given as goal

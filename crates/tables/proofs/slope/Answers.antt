@@ -1,6 +1,5 @@
 use native.Mathlib.Omega.{arith}
 use Rattle.tables.proofs.Slopes.{slope_level, quotient_small, fallen_fits, risen_is, fallen_is}
-use borrow.Author.Rules.{rules}
 use Rattle.tables.proofs.slope.Goals as goal
 
 -- ---- what is returned

@@ -1,6 +1,5 @@
 use mathlib.Core.Path.{sym}
 use lib.Seq.{set_out}
-use borrow.Author.Rules.{rules}
 use Rattle.word_lists.proofs.put_word.Goals as goal
 
 pub returns-else-at-words : goal.returns-else-at-words

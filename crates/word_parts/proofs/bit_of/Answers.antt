@@ -1,5 +1,4 @@
 use Rattle.words.specs.Words.{bit, shr}
-use borrow.Author.Rules.{rules}
 use Rattle.word_parts.proofs.bit_of.Goals as goal
 
 pub returns : goal.returns

@@ -1,4 +1,3 @@
-use borrow.Author.Rules.{rules}
 use Rattle.word_parts.proofs.field.Goals as goal
 
 pub returns : goal.returns

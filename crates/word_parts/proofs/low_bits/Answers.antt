@@ -1,7 +1,6 @@
 use mathlib.Core.Path.{sym}
 use native.Mathlib.Omega.{arith}
 use Rattle.word_parts.proofs.Floors.{ones_positive, low_masked, low_whole}
-use borrow.Author.Rules.{rules}
 use Rattle.word_parts.proofs.low_bits.Goals as goal
 
 pub overflow_sub-result : goal.overflow_sub-result

@@ -2,7 +2,6 @@ use mathlib.Core.Path.{refl, sym}
 use native.Mathlib.Omega.{arith}
 use Rattle.words.specs.Words.{shr}
 use Rattle.word_parts.proofs.Floors.{shr_past}
-use borrow.Author.Rules.{rules}
 use Rattle.word_parts.proofs.shift_down.Goals as goal
 
 pub returns-then-k-lt32 : goal.returns-then-k-lt32

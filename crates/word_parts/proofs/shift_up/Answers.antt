@@ -1,7 +1,6 @@
 use mathlib.Core.Path.{refl, sym}
 use Rattle.words.specs.Words.{shl}
 use Rattle.word_parts.proofs.Floors.{shl_past}
-use borrow.Author.Rules.{rules}
 use Rattle.word_parts.proofs.shift_up.Goals as goal
 
 pub returns-then-n-lt32 : goal.returns-then-n-lt32

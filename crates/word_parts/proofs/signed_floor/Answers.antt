@@ -1,7 +1,6 @@
 use mathlib.Core.Path.{◌∙◌}
 use native.Mathlib.Omega.{arith}
 use Rattle.word_parts.proofs.Floors.{floor_positive, floor_negative}
-use borrow.Author.Rules.{rules}
 use Rattle.word_parts.proofs.signed_floor.Goals as goal
 
 pub returns-then-x-lt2147483648 : goal.returns-then-x-lt2147483648

@@ -1,4 +1,3 @@
-use Rattle.std.proofs.Common.{rules}
 use Rattle.words.proofs.Machine.{read_low, less_fits, read_high}
 use Rattle.words.proofs.signed_reading.Goals as goal
 

@@ -1,4 +1,3 @@
-use Rattle.std.proofs.Common.{rules}
 use Rattle.words.proofs.Machine.{turned_fits, turned_cast, turned_word, kept_cast, kept_word}
 use Rattle.words.proofs.word_of.Goals as goal
 

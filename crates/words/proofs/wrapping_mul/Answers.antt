@@ -1,4 +1,4 @@
-use Rattle.std.proofs.Common.{ℕ, ◌*◌, ◌%◌, ◌^◌, ◌≤◌, ap₂, mul-le-mul, arith, rules}
+use Rattle.std.proofs.Common.{ℕ, ◌*◌, ◌%◌, ◌^◌, ◌≤◌, ap₂, mul-le-mul, arith}
 use Rattle.words.specs.Words.{mul}
 use Rattle.words.proofs.wrapping_mul.Goals as goal
 

@@ -1,5 +1,4 @@
 use mathlib.Core.Path.{refl}
-use borrow.Author.Rules.{rules}
 use Rattle.words.specs.Words.{bit}
 use Rattle.calendars.proofs.bits.bit_at.Goals as goal
 

@@ -1,4 +1,3 @@
-use borrow.Author.Rules.{rules}
 use Rattle.calendars.proofs.Held.{ones_are}
 use Rattle.calendars.proofs.bits.counted_before.Goals as goal
 

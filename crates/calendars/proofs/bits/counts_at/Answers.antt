@@ -1,5 +1,4 @@
 use mathlib.Core.Path.{◌∙◌}
-use borrow.Author.Rules.{rules}
 use Rattle.calendars.proofs.Counting.{in_low, in_middle, in_high, in_none}
 use Rattle.calendars.proofs.bits.counts_at.Goals as goal
 

@@ -1,9 +1,5 @@
-use mathlib.Core.Path.{◌≡◌, refl, sym, ◌∙◌}
-use Prim.Native.Nat.{◌-◌}
+use mathlib.Core.Path.{refl, sym, ◌∙◌}
 use native.Mathlib.Omega.{arith}
-use borrow.Author.Rules.{rules}
-use Rattle.calendars.specs.Ranges.{next}
-use Rattle.calendars.specs.Quarters.{held}
 use Rattle.calendars.proofs.Ranges.{next_stop, next_go, next_done}
 use Rattle.calendars.proofs.bits.next_counted.Goals as goal
 

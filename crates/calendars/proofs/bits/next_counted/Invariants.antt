@@ -1,10 +1,7 @@
-use mathlib.Core.Path.{◌≡◌, refl, sym, ◌∙◌}
+use mathlib.Core.Path.{◌≡◌}
 use Prim.Native.Nat.{◌-◌}
-use native.Mathlib.Omega.{arith}
-use borrow.Author.Rules.{rules}
 use Rattle.calendars.specs.Ranges.{next}
 use Rattle.calendars.specs.Quarters.{held}
-use Rattle.calendars.proofs.Ranges.{next_stop, next_go, next_done}
 use Rattle.calendars.proofs.bits.next_counted.Given as goal
 
 abbrev pub invariant-loop-q : goal.invariant-loop-q

@@ -1,6 +1,5 @@
 use mathlib.Core.Path.{◌∙◌}
 use native.Mathlib.Omega.{arith}
-use borrow.Author.Rules.{rules}
 use borrow.Author.Tests.{not-true, not-false}
 use Rattle.calendars.proofs.Answering.{unsized, no_weekday, unsound_week, readable, sum_fits, none, some_count}
 use Rattle.calendars.proofs.checks.counted.Goals as goal

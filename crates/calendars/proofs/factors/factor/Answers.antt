@@ -1,4 +1,3 @@
-use borrow.Author.Rules.{rules}
 use Rattle.calendars.proofs.FactorTable.{factor_none, factor_many, factors, factor_at}
 use Rattle.calendars.proofs.factors.factor.Goals as goal
 

@@ -1,4 +1,3 @@
-use borrow.Author.Rules.{rules}
 use borrow.Author.Tests.{not-true, not-false}
 use Rattle.calendars.proofs.Days.{many_open, many_cleaning, unsound_open, by_cleaning}
 use Rattle.calendars.proofs.rules.sound_day.Goals as goal

@@ -1,9 +1,6 @@
-use mathlib.Core.Path.{◌≡◌, sym, ◌∙◌}
-use Prim.Native.Nat.{◌≤◌, ◌-◌}
+use mathlib.Core.Path.{sym, ◌∙◌}
 use native.Mathlib.Omega.{arith}
 use borrow.Author.Tests.{not-true, not-false}
-use Rattle.calendars.specs.Ranges.{every}
-use Rattle.calendars.specs.Calendar.{sound_day}
 use Rattle.calendars.proofs.Ranges.{every_start, every_stop, every_go, every_done}
 use Rattle.calendars.proofs.rules.sound_week.Goals as goal
 

@@ -1,10 +1,7 @@
-use mathlib.Core.Path.{◌≡◌, sym, ◌∙◌}
+use mathlib.Core.Path.{◌≡◌}
 use Prim.Native.Nat.{◌≤◌, ◌-◌}
-use native.Mathlib.Omega.{arith}
-use borrow.Author.Tests.{not-true, not-false}
 use Rattle.calendars.specs.Ranges.{every}
 use Rattle.calendars.specs.Calendar.{sound_day}
-use Rattle.calendars.proofs.Ranges.{every_start, every_stop, every_go, every_done}
 use Rattle.calendars.proofs.rules.sound_week.Given as goal
 
 abbrev pub invariant-loop-day : goal.invariant-loop-day

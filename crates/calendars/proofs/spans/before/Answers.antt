@@ -1,6 +1,5 @@
 use mathlib.Core.Path.{sym}
 use Rattle.calendars.proofs.Packing.{before_none, before_all, shift_fits, before_part}
-use borrow.Author.Rules.{rules}
 use Rattle.calendars.proofs.spans.before.Goals as goal
 
 pub returns-then-end-first : goal.returns-then-end-first

@@ -1,5 +1,4 @@
 use mathlib.Core.Path.{refl}
-use borrow.Author.Rules.{rules}
 use Rattle.calendars.proofs.spans.quarter_from.Goals as goal
 
 pub returns : goal.returns

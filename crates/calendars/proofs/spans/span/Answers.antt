@@ -1,6 +1,5 @@
 use mathlib.Core.Path.{sym}
 use Rattle.calendars.proofs.Packing.{span_none, span_fits, span_is}
-use borrow.Author.Rules.{rules}
 use Rattle.calendars.proofs.spans.span.Goals as goal
 
 pub returns-then-end-start : goal.returns-then-end-start

@@ -1,10 +1,7 @@
 use mathlib.Core.Path.{◌≡◌}
 use Prim.Native.Nat.{◌≤◌, ◌-◌}
-use native.Mathlib.Omega.{arith}
-use borrow.Author.Rules.{rules}
 use Rattle.calendars.specs.Ranges.{packed}
 use Rattle.calendars.specs.Calendar.{lies}
-use Rattle.calendars.proofs.Marks.{no_marks, mark, all_marks}
 use Rattle.calendars.proofs.windows.marked.Given as goal
 
 abbrev pub invariant-loop-i : goal.invariant-loop-i

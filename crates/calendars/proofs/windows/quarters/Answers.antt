@@ -1,4 +1,3 @@
-use borrow.Author.Rules.{rules}
 use Rattle.calendars.proofs.Marks.{by_rule}
 use Rattle.calendars.proofs.windows.quarters.Goals as goal
 
