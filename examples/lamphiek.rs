@@ -1,7 +1,7 @@
 //! Lamphiek from Rust: the nine calls that are not of a day, and a reading through the three hosts in one process, as
 //! one_process.c.
 //!
-//!     rustc -L target/staticlib -o target/from_rust examples/lamphiek.rs && target/from_rust E 202
+//!     rustc -L crates/lamphiek/out -o target/from_rust examples/lamphiek.rs && target/from_rust E 202
 use std::process::ExitCode;
 
 const RANGE: Refused = 11;

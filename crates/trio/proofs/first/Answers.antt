@@ -16,5 +16,5 @@ returns c =
     let e = x in
     let a = e.args in
     first_refused a.number a.index a.registers.m a.registers.mask _ _ _ e.if-number-eq0.false
-    (x.copy_front.ensures ∙ given_registers a.registers.m (sym (slice-aggregate-copy-front x)))
-    (y.copy_front-2.ensures ∙ given_registers a.registers.mask (sym (slice-aggregate-copy-front-3 y)))
+    (x.copy_front.ensures ∙ given_registers a.registers.m (search rules))
+    (y.copy_front-2.ensures ∙ given_registers a.registers.mask (search rules))

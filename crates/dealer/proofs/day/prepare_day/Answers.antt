@@ -30,8 +30,8 @@ deal_day-used-requires c =
       day_room s.table.now s.shares.now H s.a.now s.b.now s.deals.now ((sym (ap (λ (f : Fault). f.0) f.check_day_dealer-found.ensures.fault) ∙ f.if-found-ne0.false)) _ ((let d = f in let s = d.args in subst (λ (n : ℕ). DayIs n s.table.now (hours s.calendar.now s.weekday) d.check_day_dealer-found.result.day d.check_day_dealer-found.result.whole) f.if-found-ne0.false d.check_day_dealer-found.ensures.day)) _ _,
     )
 
-pub overflow_cast-Prepared : goal.overflow_cast-Prepared
-overflow_cast-Prepared c =
+pub overflow_cast-result : goal.overflow_cast-result
+overflow_cast-result c =
     let j = c in
     let f = j in
     let s = f.args in

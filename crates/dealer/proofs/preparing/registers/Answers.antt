@@ -6,4 +6,4 @@ use Rattle.dealer.proofs.preparing.registers.Goals as goal
 pub returns : goal.returns
 returns c =
     let x = c in
-    x.copy_front.ensures ∙ taken_registers x.args.t1 (search rules)
+    x.copy_front.ensures ∙ taken_registers x.args.lane (search rules)

@@ -8,12 +8,12 @@ pub returns-in-Refused : goal.returns-in-Refused
 returns-in-Refused c =
     let k = c in
     let a = k.args in
-    let answered = check_refused a.job.now a.table.now a.counts.now _ _ (sym (ap verdict k.number-1.given.1) ∙ k.check.ensures) in
+    let answered = check_refused a.job.now a.table.now a.counts.now _ _ (sym (ap verdict k.in-Refused.is) ∙ k.check.ensures) in
     record { answer = answered.0; counts = answered.1 }
 
 pub returns-in-Accepted : goal.returns-in-Accepted
 returns-in-Accepted c =
     let k = c in
     let a = k.args in
-    let answered = check_accepted a.job.now a.table.now a.counts.now _ (sym (ap verdict k.deals-1.given.1) ∙ k.check.ensures) in
+    let answered = check_accepted a.job.now a.table.now a.counts.now _ (sym (ap verdict k.in-Accepted.is) ∙ k.check.ensures) in
     record { answer = answered.0; counts = answered.1 }

@@ -6,4 +6,4 @@ pub returns : goal.returns
 returns c =
     let a = c.args in
     let e = left_over a.job.now a.table.now _ a.list.now _ c.leftover-rest.ensures.part in
-    (e.0, (e.1, c.leftover-rest.ensures.said))
+    record { count = e.0; part = e.1; said = c.leftover-rest.ensures.said }

@@ -8,4 +8,4 @@ returns c =
     let h = c in
     let a = h.args in
     let answered = from_dealer _ _ _ _ a.masks.now h.prepare_day-p.ensures (c.put_prepared.ensures.answer []) (c.put_prepared.ensures.masks []) in
-    record { answer = answered.0; buffer = answered.1; masks = answered.2 }
+    record { answer = answered.0; buffer = answered.1.0; masks = answered.1.1 }

@@ -8,4 +8,4 @@ returns c =
     let first = c in
     let start = first in
     let a = start.args in
-    masks_put a.words.now a.t2 a.t3 _ _ (omega (arith, start.well_formed)) (omega (arith, start.well_formed)) (omega (arith, start.well_formed)) first.copy.ensures c.copy-2.ensures
+    masks_put a.words.now a.l1 a.l2 _ _ (omega (arith, start.well_formed)) (omega (arith, start.well_formed)) (omega (arith, start.well_formed)) first.copy.ensures c.copy-2.ensures

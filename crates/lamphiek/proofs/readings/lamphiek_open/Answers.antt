@@ -12,7 +12,7 @@ pub returns-in_default : goal.returns-in_default
 unfolding written
 returns-in_default c =
     let s = c in
-    let answered = told (λ (x : ℤ). x) 10 (pos 0) s.args.value.now (sym (ap opening c.enum_told-1.given.1) ∙ s.reconstruct.ensures) in
+    let answered = told (λ (x : ℤ). x) 10 (pos 0) s.args.value.now (sym (ap opening c.in_default.is) ∙ s.reconstruct.ensures) in
     record { number = answered.0; value = answered.1 }
 
 pub returns : goal.returns
@@ -20,6 +20,6 @@ unfolding written
 returns c =
     let k = c in
     let s = k in
-    let e = told (λ (x : ℤ). x) 0 k.x-1.given.0.0 s.args.value.now (sym (ap opening k.x-1.given.1) ∙ s.reconstruct.ensures) in
-    let same : to_z w64 (of_z w64 k.x-1.given.0.0) ≡ k.x-1.given.0.0 = search rules in
+    let e = told (λ (x : ℤ). x) 0 k.in-Opened.x s.args.value.now (sym (ap opening k.in-Opened.is) ∙ s.reconstruct.ensures) in
+    let same : to_z w64 (of_z w64 k.in-Opened.x) ≡ k.in-Opened.x = search rules in
     record { number = e.0; value = same ∙ e.1 }

@@ -14,4 +14,4 @@ returns c =
     let same = h.prepare-p.ensures
     ∙ ap (Calls.prepare (job_script 32 a.job.now a.table.now) a.a.now a.b.now a.deals.now) s.masks_in.ensures in
     let answered = from_dealer _ _ _ _ a.masks.now same (c.put_prepared.ensures.answer []) (c.put_prepared.ensures.masks []) in
-    record { answer = answered.0; buffer = answered.1; masks = answered.2 }
+    record { answer = answered.0; buffer = answered.1.0; masks = answered.1.1 }

@@ -16,34 +16,6 @@ use Rattle.worker.proofs.Places.{steps_here, speaks_here, walked_here}
 use borrow.Author.Rules.{rules}
 use Rattle.worker.proofs.State.hear.Goals as goal
 
--- the job is small
-small : (c : goal.Else-lent-ne0)
-    → let a = c.args in Sized 32 a.job.now a.table.now
-small c =
-    let a = c.args in
-    let J = a.job.now in
-    let T = a.table.now in
-    sized J T (accepted 32 J T a.host a.masks.now a.deals.now _ _ c.check_lent-lent.ensures.fault c.if-lent-ne0.false)
-
--- the place that was found, with the words and deals that the orders before it use
-there : (c : goal.In-Found)
-    → let k = c in
-    let a = k.args in
-    let f = c.gate-1.given.0 in
-    let u = k.check_lent-lent.result.counts in
-    There 32 a.job.now a.table.now a.self.order a.self.turn f.0
-    (u.a + f.1.0) (u.b + a.self.turn) (u.deals + f.1.1.0)
-there c =
-    let q = c in
-    let k = q in
-    let a = k.args in
-    let u = k.check_lent-lent in
-    let J = a.job.now in
-    let T = a.table.now in
-    found_there 32 J T a.host a.masks.now a.deals.now _ _ u.ensures.0 k.if-lent-ne0.false a.self.order a.self.turn
-    q.if-n-order.false _ q.order_at-o.ensures _ q.seek.ensures.is (small k) _ _ _ c.gate-1.given.1
-    (counted u.result.counts) u.ensures.1
-
 pub returns-then-lent-ne0 : goal.returns-then-lent-ne0
 returns-then-lent-ne0 c =
     let a = c.args in
@@ -61,11 +33,14 @@ returns-then-n-order c =
     let T = a.table.now in
     let past = c.if-n-order.true in
     c.refused-then-n-order.ensures
-    ∙ past_programs a.host (job_script 32 J T) a.masks.now a.deals.now _ _ u.ensures.0
+    ∙ past_programs a.host (job_script 32 J T) a.masks.now a.deals.now _ _ u.ensures.fault
     (state_of a.self) a.heard k.if-lent-ne0.false 32 (job_gates 32 J T) (job_made 32 J T) _ (gates_count 32 J T)
     (counted u.result.counts)
-    (whole_job 32 J T a.host a.masks.now a.deals.now _ _ u.ensures.0 k.if-lent-ne0.false (small k) a.self.order past _
-    u.ensures.1) _ past c.end_fault-number.ensures
+    (whole_job 32 J T a.host a.masks.now a.deals.now _ _ u.ensures.fault k.if-lent-ne0.false ((let fact : (let a = k.args in Sized 32 a.job.now a.table.now) =
+    let a = k.args in
+    let J = a.job.now in
+    let T = a.table.now in sized J T (accepted 32 J T a.host a.masks.now a.deals.now _ _ k.check_lent-lent.ensures.fault k.if-lent-ne0.false) in fact)) a.self.order past _
+    u.ensures.counts) _ past c.end_fault-number.ensures
 
 pub returns-in_default : goal.returns-in_default
 unfolding steps_of
@@ -79,28 +54,47 @@ returns-in_default c =
     c.refused-in_default.ensures
     ∙ at_nowhere a.host (job_script 32 J T) a.masks.now a.deals.now _ _ e (state_of a.self) a.heard k.if-lent-ne0.false
     (none_there 32 J T a.host a.masks.now a.deals.now _ _ e k.if-lent-ne0.false a.self.order a.self.turn
-    q.if-n-order.false _ q.order_at-o.ensures _ q.seek.ensures.is c.enum_told-1.given.1)
+    q.if-n-order.false _ q.order_at-o.ensures _ q.seek.ensures.is c.in_default.is)
 
 pub stand_at-stand-requires : goal.stand_at-stand-requires
-stand_at-stand-requires c = ((there c).few_a, (there c).few_b, (there c).few_deals)
-
--- the same, as the code has it
-found-place : (c : goal.After-stand_at-stand)
-    → let a = c.args in
-    let r = c.stand_at-stand.result in
-    There 32 a.job.now a.table.now a.self.order a.self.turn r.at.gate r.at.a r.b r.at.deals
-found-place c = there_at 32 _ _ _ _ _ _ _ _ (there c) _ _ c.stand_at-stand.ensures
-
-stands_there : (c : goal.After-stand_at-stand)
-    → let a = c.args in
-    let r = c.stand_at-stand.result in
-    StandIs 32 (rows a.table.now) (order_at a.job.now a.self.order) r.at.gate r.at.a r.b r.at.deals r
-stands_there c =
-    let q = c in
-    let a = q.args in
-    let r = c.stand_at-stand.result in
-    subst (λ (o : Order). StandIs 32 (rows a.table.now) o r.at.gate r.at.a r.b r.at.deals r)
-    q.order_at-o.ensures (stands_own 32 _ _ _ _ _ _ _ c.stand_at-stand.ensures)
+stand_at-stand-requires c = (
+  ((let fact : (let k = c in
+      let a = k.args in
+      let u = k.check_lent-lent.result.counts in There 32 a.job.now a.table.now a.self.order a.self.turn c.in-Found.gate (u.a + c.in-Found.a) (u.b + a.self.turn) (u.deals + c.in-Found.dealt)) =
+      let q = c in
+      let k = q in
+      let a = k.args in
+      let u = k.check_lent-lent in
+      let J = a.job.now in
+      let T = a.table.now in found_there 32 J T a.host a.masks.now a.deals.now _ _ u.ensures.fault k.if-lent-ne0.false a.self.order a.self.turn q.if-n-order.false _ q.order_at-o.ensures _ q.seek.ensures.is ((let fact : (let a = k.args in Sized 32 a.job.now a.table.now) =
+      let a = k.args in
+      let J = a.job.now in
+      let T = a.table.now in sized J T (accepted 32 J T a.host a.masks.now a.deals.now _ _ k.check_lent-lent.ensures.fault k.if-lent-ne0.false) in fact)) _ _ _ c.in-Found.is (counted u.result.counts) u.ensures.counts in fact)).few_a,
+  ((let fact : (let k = c in
+      let a = k.args in
+      let u = k.check_lent-lent.result.counts in There 32 a.job.now a.table.now a.self.order a.self.turn c.in-Found.gate (u.a + c.in-Found.a) (u.b + a.self.turn) (u.deals + c.in-Found.dealt)) =
+      let q = c in
+      let k = q in
+      let a = k.args in
+      let u = k.check_lent-lent in
+      let J = a.job.now in
+      let T = a.table.now in found_there 32 J T a.host a.masks.now a.deals.now _ _ u.ensures.fault k.if-lent-ne0.false a.self.order a.self.turn q.if-n-order.false _ q.order_at-o.ensures _ q.seek.ensures.is ((let fact : (let a = k.args in Sized 32 a.job.now a.table.now) =
+      let a = k.args in
+      let J = a.job.now in
+      let T = a.table.now in sized J T (accepted 32 J T a.host a.masks.now a.deals.now _ _ k.check_lent-lent.ensures.fault k.if-lent-ne0.false) in fact)) _ _ _ c.in-Found.is (counted u.result.counts) u.ensures.counts in fact)).few_b,
+  ((let fact : (let k = c in
+      let a = k.args in
+      let u = k.check_lent-lent.result.counts in There 32 a.job.now a.table.now a.self.order a.self.turn c.in-Found.gate (u.a + c.in-Found.a) (u.b + a.self.turn) (u.deals + c.in-Found.dealt)) =
+      let q = c in
+      let k = q in
+      let a = k.args in
+      let u = k.check_lent-lent in
+      let J = a.job.now in
+      let T = a.table.now in found_there 32 J T a.host a.masks.now a.deals.now _ _ u.ensures.fault k.if-lent-ne0.false a.self.order a.self.turn q.if-n-order.false _ q.order_at-o.ensures _ q.seek.ensures.is ((let fact : (let a = k.args in Sized 32 a.job.now a.table.now) =
+      let a = k.args in
+      let J = a.job.now in
+      let T = a.table.now in sized J T (accepted 32 J T a.host a.masks.now a.deals.now _ _ k.check_lent-lent.ensures.fault k.if-lent-ne0.false) in fact)) _ _ _ c.in-Found.is (counted u.result.counts) u.ensures.counts in fact)).few_deals,
+)
 
 pub returns-then-not-are_same : goal.returns-then-not-are_same
 unfolding steps_of
@@ -108,8 +102,24 @@ returns-then-not-are_same c =
     let d = c in
     let k = d in
     let a = k.args in
-    let h = found-place d in
-    let S = stands_there d in
+    let h = (let fact : (let a = d.args in
+    let r = d.stand_at-stand.result in There 32 a.job.now a.table.now a.self.order a.self.turn r.at.gate r.at.a r.b r.at.deals) = there_at 32 _ _ _ _ _ _ _ _ ((let fact : (let k = d in
+    let a = k.args in
+    let u = k.check_lent-lent.result.counts in There 32 a.job.now a.table.now a.self.order a.self.turn d.in-Found.gate (u.a + d.in-Found.a) (u.b + a.self.turn) (u.deals + d.in-Found.dealt)) =
+    let q = d in
+    let k = q in
+    let a = k.args in
+    let u = k.check_lent-lent in
+    let J = a.job.now in
+    let T = a.table.now in found_there 32 J T a.host a.masks.now a.deals.now _ _ u.ensures.fault k.if-lent-ne0.false a.self.order a.self.turn q.if-n-order.false _ q.order_at-o.ensures _ q.seek.ensures.is ((let fact : (let a = k.args in Sized 32 a.job.now a.table.now) =
+    let a = k.args in
+    let J = a.job.now in
+    let T = a.table.now in sized J T (accepted 32 J T a.host a.masks.now a.deals.now _ _ k.check_lent-lent.ensures.fault k.if-lent-ne0.false) in fact)) _ _ _ d.in-Found.is (counted u.result.counts) u.ensures.counts in fact)) _ _ d.stand_at-stand.ensures in fact) in
+    let S = (let fact : (let a = d.args in
+    let r = d.stand_at-stand.result in StandIs 32 (rows a.table.now) (order_at a.job.now a.self.order) r.at.gate r.at.a r.b r.at.deals r) =
+    let q = d in
+    let a = q.args in
+    let r = d.stand_at-stand.result in subst (λ (o : Order). StandIs 32 (rows a.table.now) o r.at.gate r.at.a r.b r.at.deals r) q.order_at-o.ensures (stands_own 32 _ _ _ _ _ _ _ d.stand_at-stand.ensures) in fact) in
     let J = a.job.now in
     let T = a.table.now in
     let o = a.self.order in
@@ -123,10 +133,29 @@ returns-then-not-are_same c =
 pub resume-h-requires : goal.resume-h-requires
 resume-h-requires c =
     let d = c in
-    let h = found-place d in (
-      small d,
+    let h = (let fact : (let a = d.args in
+    let r = d.stand_at-stand.result in There 32 a.job.now a.table.now a.self.order a.self.turn r.at.gate r.at.a r.b r.at.deals) = there_at 32 _ _ _ _ _ _ _ _ ((let fact : (let k = d in
+    let a = k.args in
+    let u = k.check_lent-lent.result.counts in There 32 a.job.now a.table.now a.self.order a.self.turn d.in-Found.gate (u.a + d.in-Found.a) (u.b + a.self.turn) (u.deals + d.in-Found.dealt)) =
+    let q = d in
+    let k = q in
+    let a = k.args in
+    let u = k.check_lent-lent in
+    let J = a.job.now in
+    let T = a.table.now in found_there 32 J T a.host a.masks.now a.deals.now _ _ u.ensures.fault k.if-lent-ne0.false a.self.order a.self.turn q.if-n-order.false _ q.order_at-o.ensures _ q.seek.ensures.is ((let fact : (let a = k.args in Sized 32 a.job.now a.table.now) =
+    let a = k.args in
+    let J = a.job.now in
+    let T = a.table.now in sized J T (accepted 32 J T a.host a.masks.now a.deals.now _ _ k.check_lent-lent.ensures.fault k.if-lent-ne0.false) in fact)) _ _ _ d.in-Found.is (counted u.result.counts) u.ensures.counts in fact)) _ _ d.stand_at-stand.ensures in fact) in (
+      (let fact : (let a = d.args in Sized 32 a.job.now a.table.now) =
+          let a = d.args in
+          let J = a.job.now in
+          let T = a.table.now in sized J T (accepted 32 J T a.host a.masks.now a.deals.now _ _ d.check_lent-lent.ensures.fault d.if-lent-ne0.false) in fact),
       h.standing,
-      stands_there d,
+      (let fact : (let a = d.args in
+          let r = d.stand_at-stand.result in StandIs 32 (rows a.table.now) (order_at a.job.now a.self.order) r.at.gate r.at.a r.b r.at.deals r) =
+          let q = d in
+          let a = q.args in
+          let r = d.stand_at-stand.result in subst (λ (o : Order). StandIs 32 (rows a.table.now) o r.at.gate r.at.a r.b r.at.deals r) q.order_at-o.ensures (stands_own 32 _ _ _ _ _ _ _ d.stand_at-stand.ensures) in fact),
       h.few_gates,
       h.few_turns,
       h.few_a,
@@ -141,8 +170,24 @@ returns c =
     let d = t in
     let k = d in
     let a = k.args in
-    let h = found-place d in
-    let S = stands_there d in
+    let h = (let fact : (let a = d.args in
+    let r = d.stand_at-stand.result in There 32 a.job.now a.table.now a.self.order a.self.turn r.at.gate r.at.a r.b r.at.deals) = there_at 32 _ _ _ _ _ _ _ _ ((let fact : (let k = d in
+    let a = k.args in
+    let u = k.check_lent-lent.result.counts in There 32 a.job.now a.table.now a.self.order a.self.turn d.in-Found.gate (u.a + d.in-Found.a) (u.b + a.self.turn) (u.deals + d.in-Found.dealt)) =
+    let q = d in
+    let k = q in
+    let a = k.args in
+    let u = k.check_lent-lent in
+    let J = a.job.now in
+    let T = a.table.now in found_there 32 J T a.host a.masks.now a.deals.now _ _ u.ensures.fault k.if-lent-ne0.false a.self.order a.self.turn q.if-n-order.false _ q.order_at-o.ensures _ q.seek.ensures.is ((let fact : (let a = k.args in Sized 32 a.job.now a.table.now) =
+    let a = k.args in
+    let J = a.job.now in
+    let T = a.table.now in sized J T (accepted 32 J T a.host a.masks.now a.deals.now _ _ k.check_lent-lent.ensures.fault k.if-lent-ne0.false) in fact)) _ _ _ d.in-Found.is (counted u.result.counts) u.ensures.counts in fact)) _ _ d.stand_at-stand.ensures in fact) in
+    let S = (let fact : (let a = d.args in
+    let r = d.stand_at-stand.result in StandIs 32 (rows a.table.now) (order_at a.job.now a.self.order) r.at.gate r.at.a r.b r.at.deals r) =
+    let q = d in
+    let a = q.args in
+    let r = d.stand_at-stand.result in subst (λ (o : Order). StandIs 32 (rows a.table.now) o r.at.gate r.at.a r.b r.at.deals r) q.order_at-o.ensures (stands_own 32 _ _ _ _ _ _ _ d.stand_at-stand.ensures) in fact) in
     let J = a.job.now in
     let T = a.table.now in
     let o = a.self.order in

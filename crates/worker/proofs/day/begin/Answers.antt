@@ -20,28 +20,19 @@ used_before-used-requires c =
     let s = c in
     (lent_few _ _ _ _ _ s.requires.0, s.requires.1)
 
--- what the orders before use is little
-few_used : (c : goal.After-used_before-used)
-    → let u = c.used_before-used.result in (u.a ≤ 96000) × (u.b ≤ 96000) × (u.deals ≤ 96000)
-unfolding times_cost used_until
-few_used c =
-    let s = c in
-    let k = s.args.day.curve in
-    let n = number (held s.args.day.quarters) 0 s.args.order in
-    let l : n ≤ 96 = omega (arith, number_le (held s.args.day.quarters) 0 s.args.order, s.requires.1) in
-    let f = lent_few _ _ _ _ _ s.requires.0 in
-    let e = c.used_before-used.ensures in (
-      omega (arith, ap (λ (k : Cost). k.a) e, few_words k.a n f.2 l),
-      omega (arith, ap (λ (k : Cost). k.b) e, few_words k.b n f.3 l),
-      omega (arith, ap (λ (k : Cost). k.deals) e, few_words k.deals n f.0 l),
-    )
-
 pub advance-h-requires : goal.advance-h-requires
+unfolding times_cost used_until
 advance-h-requires c =
     let ow = c in
     let ub = ow in
     let s = ub in
-    let f = few_used ub in (
+    let f = (let fact : (let u = ub.used_before-used.result in (u.a ≤ 96000) × (u.b ≤ 96000) × (u.deals ≤ 96000)) =
+    let s = ub in
+    let k = s.args.day.curve in
+    let n = number (held s.args.day.quarters) 0 s.args.order in
+    let l : n ≤ 96 = omega (arith, number_le (held s.args.day.quarters) 0 s.args.order, s.requires.1) in
+    let f = lent_few _ _ _ _ _ s.requires.0 in
+    let e = ub.used_before-used.ensures in (omega (arith, ap (λ (k : Cost). k.a) e, few_words k.a n f.2 l), omega (arith, ap (λ (k : Cost). k.b) e, few_words k.b n f.3 l), omega (arith, ap (λ (k : Cost). k.deals) e, few_words k.deals n f.0 l)) in fact) in (
       subst (λ (J : List ℕ). Sized 32 J s.args.table.now) (sym ow.order_words-job.ensures)
           (sized_own s.args.table.now s.args.order s.requires.0.ruled),
       omega arith,

@@ -51,20 +51,6 @@ returns-then-h-eq0 c =
     c.if-h-eq0.true in
     record { long = (w 0 0 a.stand.walked).1; halt = λ k l u. c.halted.ensures _ _ ∙ (w k l u).0 }
 
--- the lanes that are left are as long as before
-long-left-of : (c : goal.After-leave) → (length c.leave.new.1.0 ≡ 24) × (length c.leave.new.1.1.0 ≡ 24)
-long-left-of c =
-    let el = c in
-    let rs = el in
-    let ow = rs in
-    let ts = ow in
-    let s = ts in
-    let a = s.args in
-    long_left a.host a.masks.now a.deals.now a.table.now a.shares.now (counted a.day.curve) _ a.day.n s.requires.0
-    a.order s.requires.1.in_day s.requires.1.run 0 0 a.m.now a.mask.now _ _ s.requires.3 s.requires.4 ts.take_share.ensures.0 ts.take_share.ensures.1
-    a.turn _ _ _ _ s.requires.1 a.stand.walked a.heard _ ow.order_words-job.ensures _ (rs.resume-h.ensures a.stand.walked)
-    el.if-h-eq0.false _ _ c.leave.ensures.0 c.leave.ensures.1
-
 pub returns-then-order-eq-QUARTERS : goal.returns-then-order-eq-QUARTERS
 returns-then-order-eq-QUARTERS c =
     let lv = c in
@@ -73,8 +59,14 @@ returns-then-order-eq-QUARTERS c =
     let ow = rs in
     let ts = ow in
     let s = ts in
-    let a = s.args in record {
-      long = long-left-of lv;
+    let a = s.args in
+    let long : (length lv.leave.new.first ≡ 24) × (length lv.leave.new.second ≡ 24) =
+    long_left a.host a.masks.now a.deals.now a.table.now a.shares.now (counted a.day.curve) _ a.day.n s.requires.0
+    a.order s.requires.1.in_day s.requires.1.run 0 0 a.m.now a.mask.now _ _ s.requires.3 s.requires.4 ts.take_share.ensures.0 ts.take_share.ensures.1
+    a.turn _ _ _ _ s.requires.1 a.stand.walked a.heard _ ow.order_words-job.ensures _ (rs.resume-h.ensures a.stand.walked)
+    lv.if-h-eq0.false _ _ lv.leave.ensures.0 lv.leave.ensures.1 in
+    record {
+      long = long;
       halt = λ k l u. c.halted-then-order-eq-QUARTERS.ensures _ _
           ∙ ends_day a.host a.masks.now a.deals.now a.table.now a.shares.now (counted a.day.curve) _ a.day.n s.requires.0
           a.order s.requires.1.in_day s.requires.1.run k l a.m.now a.mask.now _ _ s.requires.3 s.requires.4 ts.take_share.ensures.0 ts.take_share.ensures.1
@@ -90,30 +82,27 @@ overflow_add-order-2 c =
     let s = ts in
     omega (arith, s.requires.1.in_day)
 
--- the order that is run next
-next_of : (c : goal.After-next_counted-next)
-    → let s = c in
-    let f = held s.args.day.quarters in
-    let r = c.next_counted-next.result in
-    (s.args.order + 1 ≤ r) × (r ≤ 96) × (is_run f r ≡ true) × ((k : ℕ) → s.args.order + 1 ≤ k → k < r → f k ≡ false)
-next_of c =
-    let el = c in
-    let rs = el in
-    let ow = rs in
-    let ts = ow in
-    let s = ts in
-    next_run (held s.args.day.quarters) (s.args.order + 1) c.next_counted-next.result (omega (arith, s.requires.1.in_day, el.if-order-eq-QUARTERS.false))
-    c.next_counted-next.ensures
-
 pub begin-requires : goal.begin-requires
 begin-requires c =
-    let nc = c in
-    let lv = nc in
+    let lv = c in
     let rs = lv in
     let ow = rs in
     let ts = ow in
     let s = ts in
-    (s.requires.0, (next_of nc).1, (next_of nc).2, (long-left-of lv).0, (long-left-of lv).1)
+    let a = s.args in
+    -- the order that is run next
+    let next : let f = held a.day.quarters in
+    let r = c.next_counted-next.result in
+    (a.order + 1 ≤ r) × (r ≤ 96) × (is_run f r ≡ true) × ((k : ℕ) → a.order + 1 ≤ k → k < r → f k ≡ false) =
+    next_run (held a.day.quarters) (a.order + 1) c.next_counted-next.result (omega (arith, s.requires.1.in_day, c.if-order-eq-QUARTERS.false))
+    c.next_counted-next.ensures in
+    -- the lanes that are left are as long as before
+    let long : (length lv.leave.new.first ≡ 24) × (length lv.leave.new.second ≡ 24) =
+    long_left a.host a.masks.now a.deals.now a.table.now a.shares.now (counted a.day.curve) _ a.day.n s.requires.0
+    a.order s.requires.1.in_day s.requires.1.run 0 0 a.m.now a.mask.now _ _ s.requires.3 s.requires.4 ts.take_share.ensures.0 ts.take_share.ensures.1
+    a.turn _ _ _ _ s.requires.1 a.stand.walked a.heard _ ow.order_words-job.ensures _ (rs.resume-h.ensures a.stand.walked)
+    lv.if-h-eq0.false _ _ lv.leave.ensures.0 lv.leave.ensures.1 in
+    (s.requires.0, next.1, next.2, long.0, long.1)
 
 pub returns : goal.returns
 returns c =
@@ -125,7 +114,14 @@ returns c =
     let ts = ow in
     let s = ts in
     let a = s.args in
-    let n = next_of nc in record {
+    let n = (let fact : (let s = nc in
+    let f = held s.args.day.quarters in
+    let r = nc.next_counted-next.result in (s.args.order + 1 ≤ r) × (r ≤ 96) × (is_run f r ≡ true) × ((k : ℕ) → s.args.order + 1 ≤ k → k < r → f k ≡ false)) =
+    let el = nc in
+    let rs = el in
+    let ow = rs in
+    let ts = ow in
+    let s = ts in next_run (held s.args.day.quarters) (s.args.order + 1) nc.next_counted-next.result (omega (arith, s.requires.1.in_day, el.if-order-eq-QUARTERS.false)) nc.next_counted-next.ensures in fact) in record {
       long = c.begin.ensures.long;
       halt = λ k l u. c.begin.ensures.halt k l
           ∙ next_order a.host a.masks.now a.deals.now a.table.now a.shares.now (counted a.day.curve) _ a.day.n s.requires.0

@@ -47,31 +47,6 @@ returns-then-order-gt-QUARTERS c =
     (whole_day a.host a.table.now a.shares.now (hours a.calendar.now a.weekday) a.masks.now a.deals.now _
     cd.check_day_lent-lent.ensures.fault el.if-lent-ne0.false _ _ cd.check_day_lent-lent.ensures.day) _ (omega (arith, th.if-order-gt-QUARTERS.true)) ef.end_fault-number.ensures
 
--- what is lent has passed its checks
-lent-there : (c : goal.Else-order-gt-QUARTERS)
-    → let cd = c in
-    let a = cd.args in
-    let d = cd.check_day_lent-lent.result.day in
-    DayLent a.table.now a.shares.now (counted d.curve) (held d.quarters) d.n
-lent-there c =
-    let el = c in
-    let cd = el in
-    let a = cd.args in
-    day_lent a.host a.table.now a.shares.now (hours a.calendar.now a.weekday) a.masks.now a.deals.now _
-    cd.check_day_lent-lent.ensures.fault el.if-lent-ne0.false _ _ cd.check_day_lent-lent.ensures.day
-
--- and its quarters count by the hours
-same-there : (c : goal.Else-order-gt-QUARTERS)
-    → let cd = c in
-    let a = cd.args in
-    SameDay (held cd.check_day_lent-lent.result.day.quarters) (hours a.calendar.now a.weekday)
-same-there c =
-    let el = c in
-    let cd = el in
-    let a = cd.args in
-    same_day a.host a.table.now a.shares.now (hours a.calendar.now a.weekday) a.masks.now a.deals.now _
-    cd.check_day_lent-lent.ensures.fault el.if-lent-ne0.false _ _ cd.check_day_lent-lent.ensures.day
-
 pub returns-in_default : goal.returns-in_default
 returns-in_default c =
     let t = c in
@@ -86,57 +61,43 @@ returns-in_default c =
     c.refused-in_default.ensures ∙ ap (refused _) t.state-in_default.ensures
     ∙ hear_nowhere a.host a.table.now a.shares.now (hours a.calendar.now a.weekday) a.masks.now a.deals.now _
     cd.check_day_lent-lent.ensures.fault (state_with a.m a.mask a.order a.turn a.stored) (omega (arith, s.well_formed)) (omega (arith, s.well_formed)) a.heard
-    el.if-lent-ne0.false f (same-there e2)
-    (none_placed a.table.now f a.order a.turn (omega (arith, e2.if-order-gt-QUARTERS.false)) _ pi.IsPlace-in.ensures et.enum_told-1.given.1)
+    el.if-lent-ne0.false f ((let fact : (let cd = e2 in
+    let a = cd.args in SameDay (held cd.check_day_lent-lent.result.day.quarters) (hours a.calendar.now a.weekday)) =
+    let el = e2 in
+    let cd = el in
+    let a = cd.args in same_day a.host a.table.now a.shares.now (hours a.calendar.now a.weekday) a.masks.now a.deals.now _ cd.check_day_lent-lent.ensures.fault el.if-lent-ne0.false _ _ cd.check_day_lent-lent.ensures.day in fact))
+    (none_placed a.table.now f a.order a.turn (omega (arith, e2.if-order-gt-QUARTERS.false)) _ pi.place_in.ensures c.in_default.is)
 
 pub used_before-used-requires : goal.used_before-used-requires
 used_before-used-requires c =
-    let e2 = c in
-    (lent_few _ _ _ _ _ (lent-there e2), omega (arith, e2.if-order-gt-QUARTERS.false))
+    let e2 = c in (
+      lent_few _ _ _ _ _ ((let fact : (let cd = e2 in
+          let a = cd.args in
+          let d = cd.check_day_lent-lent.result.day in DayLent a.table.now a.shares.now (counted d.curve) (held d.quarters) d.n) =
+          let el = e2 in
+          let cd = el in
+          let a = cd.args in day_lent a.host a.table.now a.shares.now (hours a.calendar.now a.weekday) a.masks.now a.deals.now _ cd.check_day_lent-lent.ensures.fault el.if-lent-ne0.false _ _ cd.check_day_lent-lent.ensures.day in fact)),
+      omega (arith, e2.if-order-gt-QUARTERS.false),
+    )
 
--- the place that was found, with what the orders before it use
-placed : (c : goal.After-used_before-used)
-    → let kt = c in
-    let g = kt.gate-1.given.0 in
+pub stand_at-stand-requires : goal.stand_at-stand-requires
+stand_at-stand-requires c = let p = (let fact : (let kt = c in
     let e2 = kt in
     let cd = e2 in
     let a = cd.args in
-    let u = c.used_before-used.result in
-    DayPlace a.table.now (held cd.check_day_lent-lent.result.day.quarters) a.order a.turn g.0 (u.a + g.1.0) (u.b + a.turn)
-    (u.deals + g.1.1.0)
-placed c =
+    let u = c.used_before-used.result in DayPlace a.table.now (held cd.check_day_lent-lent.result.day.quarters) a.order a.turn kt.in-Found.gate (u.a + kt.in-Found.a) (u.b + a.turn) (u.deals + kt.in-Found.dealt)) =
     let kt = c in
     let pi = kt in
     let e2 = pi in
     let cd = e2 in
     let a = cd.args in
     let d = cd.check_day_lent-lent.result.day in
-    let L = lent-there e2 in
-    placed_day a.table.now (held d.quarters) a.order a.turn (omega (arith, e2.if-order-gt-QUARTERS.false)) _ pi.IsPlace-in.ensures L.ruled _ _ _
-    kt.gate-1.given.1 (counted d.curve) (counted c.used_before-used.result) L.counts c.used_before-used.ensures
-
-pub stand_at-stand-requires : goal.stand_at-stand-requires
-stand_at-stand-requires c = let p = placed c in (p.few_a, p.few_b, p.few_deals)
-
--- the same, as the code has it
-stands_there : (c : goal.After-stand_at-stand)
-    → let e2 = c in
-    let cd = e2 in
+    let L = (let fact : (let cd = e2 in
     let a = cd.args in
-    let y = c.stand_at-stand.result in
-    DayPlace a.table.now (held cd.check_day_lent-lent.result.day.quarters) a.order a.turn y.at.gate y.at.a y.b y.at.deals
-    × DayStandIs a.table.now a.order y
-stands_there c =
-    let oa = c in
-    let ub = oa in
-    let ow = ub in
-    let a = ow.args in
-    let y = c.stand_at-stand.result in (
-      place_at _ _ _ _ _ _ _ _ (placed ub) _ y c.stand_at-stand.ensures,
-      subst (λ (q : Order). StandIs 32 (rows a.table.now) q y.at.gate y.at.a y.b y.at.deals y)
-          (oa.order_at.ensures ∙ ap (λ (J : List ℕ). order_at J 0) ow.order_words-job.ensures ∙ own_at a.order)
-          (stands_own 32 _ _ _ _ _ _ y c.stand_at-stand.ensures),
-    )
+    let d = cd.check_day_lent-lent.result.day in DayLent a.table.now a.shares.now (counted d.curve) (held d.quarters) d.n) =
+    let el = e2 in
+    let cd = el in
+    let a = cd.args in day_lent a.host a.table.now a.shares.now (hours a.calendar.now a.weekday) a.masks.now a.deals.now _ cd.check_day_lent-lent.ensures.fault el.if-lent-ne0.false _ _ cd.check_day_lent-lent.ensures.day in fact) in placed_day a.table.now (held d.quarters) a.order a.turn (omega (arith, e2.if-order-gt-QUARTERS.false)) _ pi.place_in.ensures L.ruled _ _ _ kt.in-Found.is (counted d.curve) (counted c.used_before-used.result) L.counts c.used_before-used.ensures in fact) in (p.few_a, p.few_b, p.few_deals)
 
 pub returns-then-not-are_same : goal.returns-then-not-are_same
 returns-then-not-are_same c =
@@ -149,11 +110,42 @@ returns-then-not-are_same c =
     let cd = el in
     let s = cd in
     let a = s.args in
-    let p = stands_there sa in
+    let p = (let fact : (let e2 = sa in
+    let cd = e2 in
+    let a = cd.args in
+    let y = sa.stand_at-stand.result in DayPlace a.table.now (held cd.check_day_lent-lent.result.day.quarters) a.order a.turn y.at.gate y.at.a y.b y.at.deals × DayStandIs a.table.now a.order y) =
+    let oa = sa in
+    let ub = oa in
+    let ow = ub in
+    let a = ow.args in
+    let y = sa.stand_at-stand.result in (
+      place_at _ _ _ _ _ _ _ _ ((let fact : (let kt = ub in
+          let e2 = kt in
+          let cd = e2 in
+          let a = cd.args in
+          let u = ub.used_before-used.result in DayPlace a.table.now (held cd.check_day_lent-lent.result.day.quarters) a.order a.turn kt.in-Found.gate (u.a + kt.in-Found.a) (u.b + a.turn) (u.deals + kt.in-Found.dealt)) =
+          let kt = ub in
+          let pi = kt in
+          let e2 = pi in
+          let cd = e2 in
+          let a = cd.args in
+          let d = cd.check_day_lent-lent.result.day in
+          let L = (let fact : (let cd = e2 in
+          let a = cd.args in
+          let d = cd.check_day_lent-lent.result.day in DayLent a.table.now a.shares.now (counted d.curve) (held d.quarters) d.n) =
+          let el = e2 in
+          let cd = el in
+          let a = cd.args in day_lent a.host a.table.now a.shares.now (hours a.calendar.now a.weekday) a.masks.now a.deals.now _ cd.check_day_lent-lent.ensures.fault el.if-lent-ne0.false _ _ cd.check_day_lent-lent.ensures.day in fact) in placed_day a.table.now (held d.quarters) a.order a.turn (omega (arith, e2.if-order-gt-QUARTERS.false)) _ pi.place_in.ensures L.ruled _ _ _ kt.in-Found.is (counted d.curve) (counted ub.used_before-used.result) L.counts ub.used_before-used.ensures in fact)) _ y sa.stand_at-stand.ensures,
+      subst (λ (q : Order). StandIs 32 (rows a.table.now) q y.at.gate y.at.a y.b y.at.deals y) (oa.order_at.ensures ∙ ap (λ (J : List ℕ). order_at J 0) ow.order_words-job.ensures ∙ own_at a.order) (stands_own 32 _ _ _ _ _ _ y sa.stand_at-stand.ensures),
+    ) in fact) in
     c.refused-then-not-are_same.ensures ∙ ap (refused _) t.state-then-not-are_same.ensures
     ∙ hear_unequal a.host a.table.now a.shares.now (hours a.calendar.now a.weekday) a.masks.now a.deals.now _
     cd.check_day_lent-lent.ensures.fault (state_with a.m a.mask a.order a.turn a.stored) (omega (arith, s.well_formed)) (omega (arith, s.well_formed))
-    a.heard el.if-lent-ne0.false (held cd.check_day_lent-lent.result.day.quarters) (same-there e2) _ p.0 p.1 _ am.are_same.ensures
+    a.heard el.if-lent-ne0.false (held cd.check_day_lent-lent.result.day.quarters) ((let fact : (let cd = e2 in
+    let a = cd.args in SameDay (held cd.check_day_lent-lent.result.day.quarters) (hours a.calendar.now a.weekday)) =
+    let el = e2 in
+    let cd = el in
+    let a = cd.args in same_day a.host a.table.now a.shares.now (hours a.calendar.now a.weekday) a.masks.now a.deals.now _ cd.check_day_lent-lent.ensures.fault el.if-lent-ne0.false _ _ cd.check_day_lent-lent.ensures.day in fact)) _ p.0 p.1 _ am.are_same.ensures
     th.if-not-are_same.true-raw
 
 pub hear_there-requires : goal.hear_there-requires
@@ -162,11 +154,47 @@ hear_there-requires c =
     let e2 = sa in
     let el = e2 in
     let cd = el in
-    let p = stands_there sa in (
-      lent-there e2,
+    let p = (let fact : (let e2 = sa in
+    let cd = e2 in
+    let a = cd.args in
+    let y = sa.stand_at-stand.result in DayPlace a.table.now (held cd.check_day_lent-lent.result.day.quarters) a.order a.turn y.at.gate y.at.a y.b y.at.deals × DayStandIs a.table.now a.order y) =
+    let oa = sa in
+    let ub = oa in
+    let ow = ub in
+    let a = ow.args in
+    let y = sa.stand_at-stand.result in (
+      place_at _ _ _ _ _ _ _ _ ((let fact : (let kt = ub in
+          let e2 = kt in
+          let cd = e2 in
+          let a = cd.args in
+          let u = ub.used_before-used.result in DayPlace a.table.now (held cd.check_day_lent-lent.result.day.quarters) a.order a.turn kt.in-Found.gate (u.a + kt.in-Found.a) (u.b + a.turn) (u.deals + kt.in-Found.dealt)) =
+          let kt = ub in
+          let pi = kt in
+          let e2 = pi in
+          let cd = e2 in
+          let a = cd.args in
+          let d = cd.check_day_lent-lent.result.day in
+          let L = (let fact : (let cd = e2 in
+          let a = cd.args in
+          let d = cd.check_day_lent-lent.result.day in DayLent a.table.now a.shares.now (counted d.curve) (held d.quarters) d.n) =
+          let el = e2 in
+          let cd = el in
+          let a = cd.args in day_lent a.host a.table.now a.shares.now (hours a.calendar.now a.weekday) a.masks.now a.deals.now _ cd.check_day_lent-lent.ensures.fault el.if-lent-ne0.false _ _ cd.check_day_lent-lent.ensures.day in fact) in placed_day a.table.now (held d.quarters) a.order a.turn (omega (arith, e2.if-order-gt-QUARTERS.false)) _ pi.place_in.ensures L.ruled _ _ _ kt.in-Found.is (counted d.curve) (counted ub.used_before-used.result) L.counts ub.used_before-used.ensures in fact)) _ y sa.stand_at-stand.ensures,
+      subst (λ (q : Order). StandIs 32 (rows a.table.now) q y.at.gate y.at.a y.b y.at.deals y) (oa.order_at.ensures ∙ ap (λ (J : List ℕ). order_at J 0) ow.order_words-job.ensures ∙ own_at a.order) (stands_own 32 _ _ _ _ _ _ y sa.stand_at-stand.ensures),
+    ) in fact) in (
+      (let fact : (let cd = e2 in
+          let a = cd.args in
+          let d = cd.check_day_lent-lent.result.day in DayLent a.table.now a.shares.now (counted d.curve) (held d.quarters) d.n) =
+          let el = e2 in
+          let cd = el in
+          let a = cd.args in day_lent a.host a.table.now a.shares.now (hours a.calendar.now a.weekday) a.masks.now a.deals.now _ cd.check_day_lent-lent.ensures.fault el.if-lent-ne0.false _ _ cd.check_day_lent-lent.ensures.day in fact),
       p.0,
       p.1,
-      same-there e2,
+      (let fact : (let cd = e2 in
+          let a = cd.args in SameDay (held cd.check_day_lent-lent.result.day.quarters) (hours a.calendar.now a.weekday)) =
+          let el = e2 in
+          let cd = el in
+          let a = cd.args in same_day a.host a.table.now a.shares.now (hours a.calendar.now a.weekday) a.masks.now a.deals.now _ cd.check_day_lent-lent.ensures.fault el.if-lent-ne0.false _ _ cd.check_day_lent-lent.ensures.day in fact),
       ap {B = Fault} (λ (n : ℕ). (n, 0)) (sym el.if-lent-ne0.false) ∙ cd.check_day_lent-lent.ensures.fault,
     )
 

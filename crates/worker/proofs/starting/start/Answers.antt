@@ -22,8 +22,8 @@ returns-then-lent-ne0 c =
     ∙ ap (refused _) c.first_state.ensures
     ∙ start_refused a.host (job_script 32 a.job.now a.table.now) a.masks.now a.deals.now _ _
     k.check_lent-lent.ensures.fault
-    (lanes_of a.registers) _ _ (x.copy_front.ensures ∙ given_registers a.registers.m (sym (slice-aggregate-copy-front x)))
-    (k.copy_front-2.ensures ∙ given_registers a.registers.mask (sym (slice-aggregate-copy-front-3 k))) c.if-lent-ne0.true
+    (lanes_of a.registers) _ _ (x.copy_front.ensures ∙ given_registers a.registers.m (search rules))
+    (k.copy_front-2.ensures ∙ given_registers a.registers.mask (search rules)) c.if-lent-ne0.true
 
 pub advance-h-requires : goal.advance-h-requires
 advance-h-requires c =
@@ -52,5 +52,5 @@ returns c =
     c.answered.ensures
     ∙ c.advance-h.ensures
     ∙ started a.host (job_script 32 J T) a.masks.now a.deals.now _ _ k.check_lent-lent.ensures.fault (lanes_of a.registers) _ _
-    (x.copy_front.ensures ∙ given_registers a.registers.m (sym (slice-aggregate-copy-front x)))
-    (k.copy_front-2.ensures ∙ given_registers a.registers.mask (sym (slice-aggregate-copy-front-3 k))) 32 (job_gates 32 J T) (job_made 32 J T) e.if-lent-ne0.false
+    (x.copy_front.ensures ∙ given_registers a.registers.m (search rules))
+    (k.copy_front-2.ensures ∙ given_registers a.registers.mask (search rules)) 32 (job_gates 32 J T) (job_made 32 J T) e.if-lent-ne0.false

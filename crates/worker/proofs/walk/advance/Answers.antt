@@ -27,11 +27,6 @@ loop-order-init c =
     let p = s.requires in
     (refl, p.1, omega (arith, s.ranges.order), omega (arith, p), omega (arith, p), omega arith, refl)
 
--- the order's place in the job
-in_job : (c : goal.In-loop-order invariant-loop decreases-loop)
-    → c.loop-order.order < length c.args.job.now / 4
-in_job c = omega (arith, c.loop-order-test.true, c.loop-order.invariant.0)
-
 pub overflow_add-order : goal.overflow_add-order
 overflow_add-order c = omega arith
 
@@ -50,7 +45,7 @@ loop-order-preserved-then-adds_here c =
     let a = s.args in
     let J = a.job.now in
     let T = a.table.now in
-    let h = in_job k in
+    let h = (let fact : (k.loop-order.order < length k.args.job.now / 4) = omega (arith, k.loop-order-test.true, k.loop-order.invariant.0) in fact) in
     let first = here _ _ (sym t.if-adds_here.true ∙ t.adds_here.ensures) in
     let next =
     at_once 32 a.host a.masks.now a.deals.now (job_gates 32 J T) l.order l.turn l.at.gate l.at.a a.b
@@ -72,7 +67,7 @@ walk_piece-stop-requires c =
     let l = k.loop-order.invariant in
     let p = k.requires in
     let S = piece_stands d.piece_at-p.ensures in
-    let h = in_job k in
+    let h = (let fact : (k.loop-order.order < length k.args.job.now / 4) = omega (arith, k.loop-order-test.true, k.loop-order.invariant.0) in fact) in
     (S.end, S.few, omega (arith, l.1, l.3, h, p.0.few_words), omega (arith, l.1, l.4, h, p.0.few_words))
 
 pub places_with-stored-requires : goal.places_with-stored-requires
@@ -83,7 +78,7 @@ places_with-stored-requires c =
     let l = k.loop-order in
     let s = k in
     let S = piece_stands d.piece_at-p.ensures in
-    let h = in_job k in
+    let h = (let fact : (k.loop-order.order < length k.args.job.now / 4) = omega (arith, k.loop-order-test.true, k.loop-order.invariant.0) in fact) in
     let f = few_used 32 (rows s.args.table.now) _ l.at.gate _ S _ _ _ _ _ _ _ _ q.walk_piece-stop.ensures.0 in
     let g = Uses.few_used (step_of 32 q.walk_piece-stop.result.gate) _ c.used_by.ensures in (
       omega (arith, g),
@@ -111,7 +106,7 @@ returns-then-g-lt-PAST c =
     let a = k.args in
     let J = a.job.now in
     let T = a.table.now in
-    let there = order_there 32 J T l.order (in_job k) _ d.order_at-o.ensures in
+    let there = order_there 32 J T l.order ((let fact : (k.loop-order.order < length k.args.job.now / 4) = omega (arith, k.loop-order-test.true, k.loop-order.invariant.0) in fact)) _ d.order_at-o.ensures in
     let r = q.walk_piece-stop.ensures in
     c.halted.ensures _ _
     ∙ sym (at_exchange 32 (rows T) _ l.at.gate _ (piece_stands d.piece_at-p.ensures) a.host a.masks.now a.deals.now
@@ -127,24 +122,8 @@ overflow_sub-gate c =
     let d = c in
     omega (arith, (piece_stands d.piece_at-p.ensures).some c.if-p.false)
 
--- the gate behind a piece that is not the last, in its order
-more-gates : (c : goal.After-struct_known-else-p-2-1 invariant-loop decreases-loop)
-    → let d = c in
-    let p = d.piece_at-p.result in
-    (p.from < p.end) × (d.loop-order.at.gate + (p.end - p.from) ≤ 1000)
-more-gates c =
-    let e = c in
-    let d = e in
-    let k = d in
-    let s = k in
-    let a = s.args in
-    let S = piece_stands d.piece_at-p.ensures in
-    let l = k.loop-order in
-    let short = short_order 32 a.job.now a.table.now s.requires.0 l.order (in_job k) _ d.order_at-o.ensures in
-    (S.some e.if-p.false, omega (arith, still_within 32 _ _ l.at.gate _ S e.if-p.false, short))
-
 pub overflow_add-gate : goal.overflow_add-gate
-overflow_add-gate c = omega (arith, (more-gates c).1)
+overflow_add-gate c = omega (arith, ((let fact : (let d = c in let p = d.piece_at-p.result in (p.from < p.end) × (d.loop-order.at.gate + (p.end - p.from) ≤ 1000)) = let e = c in let d = e in let k = d in let s = k in let a = s.args in let S = piece_stands d.piece_at-p.ensures in let l = k.loop-order in let short = short_order 32 a.job.now a.table.now s.requires.0 l.order ((let fact : (k.loop-order.order < length k.args.job.now / 4) = omega (arith, k.loop-order-test.true, k.loop-order.invariant.0) in fact)) _ d.order_at-o.ensures in (S.some e.if-p.false, omega (arith, still_within 32 _ _ l.at.gate _ S e.if-p.false, short)) in fact)).1)
 
 pub loop-order-smaller-then-p : goal.loop-order-smaller-then-p
 loop-order-smaller-then-p c = omega arith
@@ -162,7 +141,7 @@ loop-order-preserved-then-p c =
     let M = a.masks.now in
     let D = a.deals.now in
     let S = piece_stands d.piece_at-p.ensures in
-    let h = in_job k in
+    let h = (let fact : (k.loop-order.order < length k.args.job.now / 4) = omega (arith, k.loop-order-test.true, k.loop-order.invariant.0) in fact) in
     let there = order_there 32 J T l.order h _ d.order_at-o.ensures in
     let r = q.walk_piece-stop.ensures in
     let f = few_used 32 (rows T) _ l.at.gate _ S _ _ _ _ _ _ _ _ r.0 in
@@ -179,7 +158,7 @@ loop-order-preserved-then-p c =
     )
 
 pub loop-order-smaller : goal.loop-order-smaller
-loop-order-smaller c = omega (arith, more-gates c)
+loop-order-smaller c = omega (arith, (let fact : (let d = c in let p = d.piece_at-p.result in (p.from < p.end) × (d.loop-order.at.gate + (p.end - p.from) ≤ 1000)) = let e = c in let d = e in let k = d in let s = k in let a = s.args in let S = piece_stands d.piece_at-p.ensures in let l = k.loop-order in let short = short_order 32 a.job.now a.table.now s.requires.0 l.order ((let fact : (k.loop-order.order < length k.args.job.now / 4) = omega (arith, k.loop-order-test.true, k.loop-order.invariant.0) in fact)) _ d.order_at-o.ensures in (S.some e.if-p.false, omega (arith, still_within 32 _ _ l.at.gate _ S e.if-p.false, short)) in fact))
 
 pub loop-order-preserved : goal.loop-order-preserved
 loop-order-preserved c =
@@ -195,14 +174,14 @@ loop-order-preserved c =
     let M = a.masks.now in
     let D = a.deals.now in
     let S = piece_stands d.piece_at-p.ensures in
-    let there = order_there 32 J T l.order (in_job k) _ d.order_at-o.ensures in
+    let there = order_there 32 J T l.order ((let fact : (k.loop-order.order < length k.args.job.now / 4) = omega (arith, k.loop-order-test.true, k.loop-order.invariant.0) in fact)) _ d.order_at-o.ensures in
     let r = q.walk_piece-stop.ensures in
     let f = few_used 32 (rows T) _ l.at.gate _ S _ _ _ _ _ _ _ _ r.0 in
     let next =
     next_piece 32 (rows T) _ l.at.gate _ S a.host M D (job_gates 32 J T) l.order l.turn l.at.a a.b l.at.deals
     (l.m, l.mask) there _ _ _ _ _ r.0 _ r.1 e.if-g-lt-PAST.false e.if-p.false in (
       l.invariant.0,
-      (more-gates c).1,
+      ((let fact : (let d = c in let p = d.piece_at-p.result in (p.from < p.end) × (d.loop-order.at.gate + (p.end - p.from) ≤ 1000)) = let e = c in let d = e in let k = d in let s = k in let a = s.args in let S = piece_stands d.piece_at-p.ensures in let l = k.loop-order in let short = short_order 32 a.job.now a.table.now s.requires.0 l.order ((let fact : (k.loop-order.order < length k.args.job.now / 4) = omega (arith, k.loop-order-test.true, k.loop-order.invariant.0) in fact)) _ d.order_at-o.ensures in (S.some e.if-p.false, omega (arith, still_within 32 _ _ l.at.gate _ S e.if-p.false, short)) in fact)).1,
       l.invariant.2,
       omega (arith, f, l.invariant.3),
       omega (arith, f, l.invariant.4),

@@ -22,13 +22,6 @@ returns-then-gate-ge-FIRST_EXCHANGE c =
     let f = c in
     (f.loop-at.invariant, f.gate_at-gate.ensures, c.if-gate-ge-FIRST_EXCHANGE.true)
 
--- the walk stands at a gate of the piece
-within : (c : goal.In-loop-at invariant-loop decreases-loop)
-    → let l = c in
-    let a = l.args in
-    l.loop-at.at.gate < length (piece_gates 32 (rows a.table.now) a.p)
-within c = omega (arith, c.loop-at-test.true, c.requires.0)
-
 pub behind-at-requires : goal.behind-at-requires
 behind-at-requires c =
     let f = c in
@@ -37,13 +30,13 @@ behind-at-requires c =
     let p = l.requires in
     let i = l.loop-at.invariant in
     let n = few_used (step_of 32 f.gate_at-gate.result) _ c.used_by.ensures in
-    let k = within t in
+    let k = (let fact : (let l = t in let a = l.args in l.loop-at.at.gate < length (piece_gates 32 (rows a.table.now) a.p)) = omega (arith, t.loop-at-test.true, t.requires.0) in fact) in
     (omega (arith, n), omega (arith, n), omega (arith, k, p), omega (arith, k, i.few_a, p), omega (arith, k, i.few_deals, p))
 
 pub loop-at-smaller : goal.loop-at-smaller
 loop-at-smaller c =
     let t = c in
-    omega (arith, c.behind-at.ensures.0, within t, t.requires)
+    omega (arith, c.behind-at.ensures.0, (let fact : (let l = t in let a = l.args in l.loop-at.at.gate < length (piece_gates 32 (rows a.table.now) a.p)) = omega (arith, t.loop-at-test.true, t.requires.0) in fact), t.requires)
 
 pub loop-at-preserved : goal.loop-at-preserved
 loop-at-preserved c =
@@ -58,7 +51,7 @@ loop-at-preserved c =
     let s = u.step.ensures in
     passed 32 a.host a.masks.now a.deals.now hs a.p.from a.from.a a.from.deals (a.m.now, a.mask.now)
     l.loop-at.at.gate l.loop-at.at.a l.loop-at.at.deals l.loop-at.m l.loop-at.mask l.loop-at.invariant f.gate_at-gate.result
-    e.if-gate-ge-FIRST_EXCHANGE.false (within t) (first_step 32 hs l.loop-at.at.gate _ f.gate_at-gate.ensures (within t)) _ u.used_by.ensures _ _
+    e.if-gate-ge-FIRST_EXCHANGE.false ((let fact : (let l = t in let a = l.args in l.loop-at.at.gate < length (piece_gates 32 (rows a.table.now) a.p)) = omega (arith, t.loop-at-test.true, t.requires.0) in fact)) (first_step 32 hs l.loop-at.at.gate _ f.gate_at-gate.ensures ((let fact : (let l = t in let a = l.args in l.loop-at.at.gate < length (piece_gates 32 (rows a.table.now) a.p)) = omega (arith, t.loop-at-test.true, t.requires.0) in fact))) _ u.used_by.ensures _ _
     s.0 s.1 _ _ _ b.0 b.1 b.2
 
 -- past its last gate
