@@ -9,6 +9,7 @@ use crate::output::{
 use crate::sums::{NO_TRIALS, Sums, print_rest, print_values};
 use crate::sweeps::{Readings, sweep};
 use crate::trials::{Trial, compared, opened, run_trial};
+use std::io;
 use std::num::wrapping_add_u32;
 
 // Where each of six tables begins here and how many words it has; then their words: four of two rows, sixteen rows that
@@ -33,14 +34,14 @@ const TABLES: [u32; 92] = [
 ];
 
 // Every count, then readings from -2^30 to 2^31 - 1.
-pub(crate) fn house(mode: u32) {
+pub(crate) fn house(rt: &impl Print, mode: u32) -> io::Result<()> {
     let name = wrapping_add_u32(EXACT_CURVE, mode);
     let rows: &[u32] = &tables::HOUSE;
     let counts = sweep(10, mode, Readings::Counts, 21, rows, 4096);
-    print_values(name, HOUSE_COUNTS, counts);
+    print_values(rt, name, HOUSE_COUNTS, counts)?;
     let range = sweep(10, mode, Readings::Upward, 22, rows, 1000);
-    print_values(name, HOUSE_RANGE, range);
-    print_rest(name, HOUSE_BOTH, counts.plus(range));
+    print_values(rt, name, HOUSE_RANGE, range)?;
+    print_rest(rt, name, HOUSE_BOTH, counts.plus(range))
 }
 
 // How many words one of fifteen drawn tables has: 2 to 16 rows.
@@ -86,13 +87,13 @@ fn on_tables(mode: u32, readings: Readings, n: u32) -> Sums {
 }
 
 // The same readings as on the house table.
-pub(crate) fn others(mode: u32) {
+pub(crate) fn others(rt: &impl Print, mode: u32) -> io::Result<()> {
     let name = wrapping_add_u32(EXACT_CURVE, mode);
     let counts = on_tables(mode, Readings::Counts, 4096);
-    print_values(name, TABLES_COUNTS, counts);
+    print_values(rt, name, TABLES_COUNTS, counts)?;
     let range = on_tables(mode, Readings::Upward, 300);
-    print_values(name, TABLES_RANGE, range);
-    print_rest(name, TABLES_BOTH, counts.plus(range));
+    print_values(rt, name, TABLES_RANGE, range)?;
+    print_rest(rt, name, TABLES_BOTH, counts.plus(range))
 }
 
 // The last row's count and three past it, then readings above every table. The last four cannot be split.

@@ -3,6 +3,7 @@ use crate::curve_cases::at_end;
 use crate::output::{NOTHING, print};
 use crate::rejected::{at_place, bad_table, faulty_order, ill_sized, no_host, short, unequal};
 use crate::unmarked::{disagreeing, slack, splitting};
+use std::io;
 use std::num::{wrapping_add_u32, wrapping_sub_u32};
 
 // 0 where a group's case goes right.
@@ -27,7 +28,7 @@ fn wrong_case(group: u32, i: u32) -> u32 {
 }
 
 // A group's cases from one to before another, and its line.
-pub(crate) fn group_line(group: u32, start: u32, end: u32) {
+pub(crate) fn group_line(rt: &impl Print, group: u32, start: u32, end: u32) -> io::Result<()> {
     let mut wrong: u32 = 0;
     let mut first = start;
     let mut i = start;
@@ -40,11 +41,12 @@ pub(crate) fn group_line(group: u32, start: u32, end: u32) {
         i += 1;
     }
     print(
+        rt,
         group,
         NOTHING,
         NOTHING,
         wrapping_sub_u32(i, start),
         wrong,
         first,
-    );
+    )
 }

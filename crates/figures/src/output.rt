@@ -1,4 +1,5 @@
 // The lines that the program writes. Their names are put together from the pieces below, numbered from 0.
+use std::io;
 use std::num::wrapping_add_u32;
 
 // 0 to 15 name the groups of cases (`groups`), 16 is empty.
@@ -80,7 +81,7 @@ const MISMATCHES: u32 = 34;
 const FIRST: u32 = 35;
 
 // Writes a piece, byte by byte.
-fn piece(number: u32) {
+fn piece(rt: &impl Print, number: u32) -> io::Result<()> {
     let pieces: &[u8] = &PIECES;
     let mut line: u32 = 0;
     let mut at: usize = 0;
@@ -88,31 +89,40 @@ fn piece(number: u32) {
         if pieces[at] == b'\n' {
             line = wrapping_add_u32(line, 1);
         } else if line == number {
-            io::write_all(1, &pieces[at..at + 1]);
+            rt.write_all(&pieces[at..at + 1])?;
         }
         at += 1;
     }
+    Ok(())
 }
 
 // A piece and a number.
-pub(crate) fn numbered(words: u32, n: u32) {
-    piece(words);
-    io::write_all(1, b" ");
-    io::print_decimal(1, n as u64);
+pub(crate) fn numbered(rt: &impl Print, words: u32, n: u32) -> io::Result<()> {
+    piece(rt, words)?;
+    rt.write_all(b" ")?;
+    rt.print(n)
 }
 
 // A line of which the name has three pieces: the cases, those that went wrong, and, where there are any, the input of
 // the first.
-pub(crate) fn print(head: u32, middle: u32, tail: u32, cases: u32, wrong: u32, first: u32) {
-    piece(head);
-    piece(middle);
-    piece(tail);
-    numbered(CASES, cases);
-    numbered(WRONG, wrong);
-    piece(MISMATCHES);
+pub(crate) fn print(
+    rt: &impl Print,
+    head: u32,
+    middle: u32,
+    tail: u32,
+    cases: u32,
+    wrong: u32,
+    first: u32,
+) -> io::Result<()> {
+    piece(rt, head)?;
+    piece(rt, middle)?;
+    piece(rt, tail)?;
+    numbered(rt, CASES, cases)?;
+    numbered(rt, WRONG, wrong)?;
+    piece(rt, MISMATCHES)?;
     match wrong {
         0 => {}
-        _ => numbered(FIRST, first),
+        _ => numbered(rt, FIRST, first)?,
     }
-    io::write_all(1, b"\n");
+    rt.write_all(b"\n")
 }

@@ -1,5 +1,6 @@
 // What a sweep of trials counted, and the lines that say so.
 use crate::output::{CLOSE_TO_LINE, COUNTS, NOTHING, OTHER_REGISTERS, print};
+use std::io;
 use std::num::wrapping_add_u32;
 
 // The trials, and of these the ones with a wrong value, those of a curve up to the last row, of these the ones too far
@@ -47,12 +48,12 @@ impl Sums {
 }
 
 // The lines of a curve's values, whose name has these two pieces.
-pub(crate) fn print_values(curve: u32, table: u32, t: Sums) {
-    print(curve, table, NOTHING, t.cases, t.value, t.first);
-    print(curve, table, CLOSE_TO_LINE, t.on_line, t.line, t.first);
+pub(crate) fn print_values(rt: &impl Print, curve: u32, table: u32, t: Sums) -> io::Result<()> {
+    print(rt, curve, table, NOTHING, t.cases, t.value, t.first)?;
+    print(rt, curve, table, CLOSE_TO_LINE, t.on_line, t.line, t.first)
 }
 
-pub(crate) fn print_rest(orders: u32, table: u32, t: Sums) {
-    print(orders, table, OTHER_REGISTERS, t.cases, t.kept, t.first);
-    print(orders, table, COUNTS, t.cases, t.counts, t.first);
+pub(crate) fn print_rest(rt: &impl Print, orders: u32, table: u32, t: Sums) -> io::Result<()> {
+    print(rt, orders, table, OTHER_REGISTERS, t.cases, t.kept, t.first)?;
+    print(rt, orders, table, COUNTS, t.cases, t.counts, t.first)
 }

@@ -4,6 +4,8 @@
 #![tactic(auto)]
 
 use rehearsal_answer::rehearsed;
+use std::io;
+use std::io::Read;
 use text_lines::{Line, blank, cut, front};
 use text_prints::Text;
 
@@ -14,58 +16,57 @@ struct Input {
     line: Line,
 }
 
-fn print(text: Text) {
+fn print(rt: &impl Print, text: Text) -> io::Result<()> {
     let bytes = text.bytes;
-    io::write_all(1, front(&bytes, text.len));
+    rt.write_all(front(&bytes, text.len))
 }
 
-fn answer(line: Line) {
+fn answer(rt: &impl Print, line: Line) -> io::Result<()> {
     let bytes = line.bytes;
-    print(rehearsed(front(&bytes, line.len)));
+    print(rt, rehearsed(front(&bytes, line.len)))
 }
 
 // Answers every line that ends in the chunk.
-fn take_in(chunk: &[u8], begun: Line) -> Line {
+fn take_in(rt: &impl Print, chunk: &[u8], begun: Line) -> io::Result<Line> {
     let mut piece = cut(chunk, 0, begun);
     while piece.ended {
-        answer(piece.line);
+        answer(rt, piece.line)?;
         piece = cut(chunk, piece.next, blank());
     }
-    piece.line
+    Ok(piece.line)
 }
 
-fn read_some(line: Line) -> Input {
-    let mut buffer = io::buffer();
-    let got = libc::read(0, &mut buffer);
-    if got <= 0 {
-        return Input { more: false, line };
+fn read_some(rt: &impl Print, input: &mut impl Read, line: Line) -> io::Result<Input> {
+    let mut buffer = [0u8; 4096];
+    let n = input.read(&mut buffer)?;
+    if n == 0 {
+        return Ok(Input { more: false, line });
     }
-    let n = io::count(got, &buffer);
-    let open = take_in(&buffer[..n], line);
-    Input {
+    let open = take_in(rt, &buffer[..n], line)?;
+    Ok(Input {
         more: true,
         line: open,
-    }
+    })
 }
 
-// The turns are counted down from a number that no input uses up, since a proved loop ends.
-fn read_all() -> Line {
-    let mut turns = u64::MAX;
-    let mut input = Input {
-        more: true,
-        line: blank(),
-    };
-    while turns > 0 && input.more {
-        input = read_some(input.line);
-        turns -= 1;
+// The turns are counted up to a number that no input uses up, since a proved loop ends.
+fn read_all(rt: &impl Print, input: &mut impl Read) -> io::Result<Line> {
+    let mut line = blank();
+    for _ in 0..u64::MAX {
+        let taken = read_some(rt, input, line)?;
+        line = taken.line;
+        if !taken.more {
+            break;
+        }
     }
-    input.line
+    Ok(line)
 }
 
 // "a last line may lack its newline"
-fn main() {
-    let last = read_all();
+fn main(rt: HostRuntime) -> io::Result<()> {
+    let last = read_all(&rt, &mut rt.stdin())?;
     if last.len > 0 {
-        answer(last);
+        answer(&rt, last)?;
     }
+    Ok(())
 }

@@ -1,5 +1,5 @@
 -- A list filled with multiples, word by word. Assumes nothing.
-use Rattle.std.proofs.Common.{◌≡◌, ℕ, zero, suc, ◌+◌, ◌*◌, ◌%◌, ◌^◌, ◌<◌, ◌≤◌, List, [], length, get_or, set, sym, refl, ap, ◌∙◌, append-nil, add-zero, mod-lt, mul-suc, arith, take_all, pow_pos}
+use Rattle.std.proofs.Common.{◌≡◌, ℕ, zero, suc, ◌+◌, ◌*◌, ◌%◌, ◌^◌, ◌<◌, ◌≤◌, List, length, get_or, set, sym, refl, ap, ◌∙◌, append-nil, add-zero, mod-lt, mul-suc, arith, take_all, pow_pos}
 use native.Mathlib.Nat.{mod-add-mod}
 use lib.Seq.{drop-length}
 use Rattle.words.proofs.Copying.{copied, copy_more}

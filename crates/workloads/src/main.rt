@@ -9,6 +9,8 @@ use calls::Stored;
 use day::summed_day;
 use dealer::{Masks, prepare};
 use sample_masks::fill;
+use std::io;
+use std::io::Read;
 use tables::HOUSE;
 use trio::{Shared, run};
 use words::wrapping_mul;
@@ -202,13 +204,12 @@ fn number(text: &[u8]) -> u32 {
     n
 }
 
-fn main() {
-    let mut bytes = io::buffer();
-    let got = libc::read(0, &mut bytes);
-    let n = io::count(got, &bytes);
+fn main(rt: HostRuntime) -> io::Result<()> {
+    let mut bytes = [0u8; 4096];
+    let n = rt.stdin().read(&mut bytes)?;
     if 5 <= n {
         let sum = summed(bytes[0], number(&bytes[1..4]), number(&bytes[4..n]));
-        io::print_decimal(1, sum as u64);
-        io::write_all(1, b"\n");
+        println!(rt; "{sum}")?;
     }
+    Ok(())
 }

@@ -14,7 +14,7 @@ returns-in_default c =
     let a = c.args in
     let k = ap (λ (y : ℤ). split 32 y first_a first_b) (to_z-of_z w64 a.reading c.ranges.reading) in
     out_of_range a.mode a.reading c.share.result (c.share.ensures ∙ k)
-    c.enum_told-1.given.1 _ c.refusal_text.ensures
+    c.in_default.is _ c.refusal_text.ensures
 
 pub returns-in_default-opened : goal.returns-in_default-opened
 returns-in_default-opened c =
@@ -22,8 +22,8 @@ returns-in_default-opened c =
     let s = o in
     let a = s.args in
     let k = ap (λ (y : ℤ). split 32 y first_a first_b) (to_z-of_z w64 a.reading s.ranges.reading) in
-    absurd (agreed a.mode a.reading s.share.result (s.share.ensures ∙ k) _ o.s-1.given.1
-    o.curve-done.result o.curve-done.ensures o.opened.result o.opened.ensures c.enum_told-in_default-opened-1.given.1)
+    absurd (agreed a.mode a.reading s.share.result (s.share.ensures ∙ k) _ c.in-Shared.is
+    o.curve-done.result o.curve-done.ensures o.opened.result o.opened.ensures c.in_default-opened.is)
 
 pub overflow_add-done : goal.overflow_add-done
 overflow_add-done c =
@@ -33,7 +33,7 @@ overflow_add-done c =
     let k = ap (λ (y : ℤ). split 32 y first_a first_b) (to_z-of_z w64 a.reading s.ranges.reading) in
     let few_words =
     few a.mode _ (words_is a.mode a.reading s.share.result (s.share.ensures ∙ k) _
-    o.s-1.given.1 o.curve-done.result o.curve-done.ensures) in
+    c.in-Shared.is o.curve-done.result o.curve-done.ensures) in
     omega (arith, few_words)
 
 pub returns : goal.returns
@@ -42,6 +42,6 @@ returns c =
     let s = o in
     let a = s.args in
     let k = ap (λ (y : ℤ). split 32 y first_a first_b) (to_z-of_z w64 a.reading s.ranges.reading) in
-    printed a.mode a.reading s.share.result (s.share.ensures ∙ k) _ o.s-1.given.1
+    printed a.mode a.reading s.share.result (s.share.ensures ∙ k) _ c.in-Shared.is
     o.curve-done.result o.curve-done.ensures o.opened.result o.opened.ensures _
-    c.value-1.given.1 _ (c.answer_text.ensures ∙ search rules)
+    c.in-Opened.is _ (c.answer_text.ensures ∙ search rules)

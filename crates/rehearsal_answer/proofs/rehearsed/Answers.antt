@@ -6,7 +6,7 @@ use Rattle.rehearsal_answer.proofs.rehearsed.Goals as goal
 pub returns-in-Reading : goal.returns-in-Reading
 returns-in-Reading c =
     reading_asked c.args.line.now c.parse.result
-    c.parse.ensures _ _ c.mode-1.given.1 _ (c.rehearse.ensures ∙ search rules)
+    c.parse.ensures _ _ c.in-Reading.is _ (c.rehearse.ensures ∙ search rules)
 
 pub returns-in-Malformed : goal.returns-in-Malformed
 returns-in-Malformed c =

@@ -1,7 +1,5 @@
-use Rattle.std.proofs.Common.{◌≡◌, ℕ, ◌+◌, ◌-◌, ◌*◌, ◌%◌, ◌^◌, ◌≤◌, List, length, set, refl, ap, ◌∙◌, arith, length-set, rules}
+use Rattle.std.proofs.Common.{ℕ, ◌+◌, ◌*◌, ◌%◌, ◌^◌, List, set, refl, ap, ◌∙◌, arith, length-set}
 use Rattle.words.specs.Words.{mul}
-use Rattle.words.proofs.Copying.{copied}
-use Rattle.sample_masks.specs.Masks.{multiples}
 use Rattle.sample_masks.proofs.Multiples.{next_multiple, fill_more, filled}
 use Rattle.sample_masks.proofs.fill.Goals as goal
 

@@ -1,8 +1,6 @@
-use Rattle.std.proofs.Common.{◌≡◌, ℕ, ◌+◌, ◌-◌, ◌*◌, ◌%◌, ◌^◌, ◌≤◌, List, length, set, refl, ap, ◌∙◌, arith, length-set, rules}
-use Rattle.words.specs.Words.{mul}
+use Rattle.std.proofs.Common.{◌≡◌, ◌+◌, ◌-◌, ◌*◌, ◌%◌, ◌^◌, ◌≤◌, length}
 use Rattle.words.proofs.Copying.{copied}
 use Rattle.sample_masks.specs.Masks.{multiples}
-use Rattle.sample_masks.proofs.Multiples.{next_multiple, fill_more, filled}
 use Rattle.sample_masks.proofs.fill.Given as goal
 
 abbrev pub invariant-loop-i : goal.invariant-loop-i

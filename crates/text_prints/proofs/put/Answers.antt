@@ -1,4 +1,3 @@
-use borrow.Author.Rules.{rules}
 use borrow.Author.Tests.{lt-ltb, le-ltb}
 use Rattle.text_lines.specs.Buffers.{with_byte, with_bytes}
 use Rattle.text_prints.proofs.put.Goals as goal

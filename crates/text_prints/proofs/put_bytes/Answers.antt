@@ -1,10 +1,7 @@
-use borrow.Author.Rules.{rules, zero≤}
 use borrow.Author.Count.{falls}
-use mathlib.Core.Path.{◌≡◌, refl, ap, ◌∙◌}
+use mathlib.Core.Path.{refl, ap, ◌∙◌}
 use native.Mathlib.Numerals.{add-one-le}
 use native.Mathlib.Omega.{arith}
-use Prim.Native.Nat.{◌-◌, ◌≤◌}
-use lib.ListN.{length, take}
 use lib.Seq.{take_all}
 use Rattle.text_lines.specs.Buffers.{with_bytes}
 use Rattle.text_lines.proofs.Buffers.{next_behind}
@@ -13,7 +10,7 @@ use Rattle.text_prints.proofs.put_bytes.Goals as goal
 
 pub loop-i-init : goal.loop-i-init
 unfolding with_bytes
-loop-i-init c = (zero≤, refl)
+loop-i-init c = (omega arith, refl)
 
 pub bounds-s-i : goal.bounds-s-i
 bounds-s-i c = c.loop-i-test.true

@@ -1,4 +1,3 @@
-use borrow.Author.Rules.{rules}
 use mathlib.Core.List.{[], ◌∷◌}
 use Rattle.text_lines.specs.Buffers.{Buffer}
 use Rattle.text_lines.proofs.Buffers.{behind}

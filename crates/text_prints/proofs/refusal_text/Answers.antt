@@ -1,4 +1,3 @@
-use borrow.Author.Rules.{rules}
 use mathlib.Core.Path.{ap, ◌∙◌}
 use Rattle.text_lines.specs.Buffers.{Buffer, with_bytes}
 use Rattle.text_prints.specs.Printed.{refused_word}

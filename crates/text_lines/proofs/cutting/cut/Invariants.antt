@@ -1,15 +1,10 @@
 -- The loop's invariant: a cut from here on, behind the line so far, gives what the whole cut does. The measure is what is
 -- left of the chunk.
-use borrow.Author.Rules.{rules}
-use mathlib.Core.Path.{◌≡◌, refl, sym, ap, ◌∙◌}
-use mathlib.Core.List.{List}
-use Prim.Native.Nat.{ℕ, ◌+◌, ◌-◌}
-use native.Mathlib.Omega.{arith}
+use mathlib.Core.Path.{◌≡◌}
+use Prim.Native.Nat.{◌-◌}
 use lib.ListN.{length, drop}
-use Rattle.text_lines.specs.Buffers.{Buffer}
 use Rattle.text_lines.specs.Input.{cut_from}
 use Rattle.text_lines.specs.Answers.{held}
-use Rattle.text_lines.proofs.Chunks.{newline, goes_on, chunk_ends}
 use Rattle.text_lines.proofs.cutting.cut.Given as goal
 
 -- The loop's invariant: a cut from here on, behind the line so far, gives what the whole cut does. The measure is what is

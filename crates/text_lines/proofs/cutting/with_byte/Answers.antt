@@ -1,4 +1,3 @@
-use borrow.Author.Rules.{rules}
 use borrow.Author.Tests.{lt-ltb, le-ltb}
 use Rattle.text_lines.specs.Buffers.{with_byte}
 use Rattle.text_lines.proofs.cutting.with_byte.Goals as goal

@@ -1,15 +1,14 @@
 use mathlib.Core.Path.{◌≡◌, refl, sym, ap, ◌∙◌}
 use mathlib.Core.List.{List}
-use Prim.Native.Nat.{ℕ, ◌-◌, ◌^◌, ◌≤◌, ◌<◌}
+use Prim.Native.Nat.{ℕ, ◌-◌}
 use native.Mathlib.Numerals.{add-one-le}
 use native.Mathlib.Omega.{arith}
-use borrow.Author.Rules.{rules, zero≤}
 use borrow.Author.Count.{falls}
 use lib.Dec.{lit<}
-use lib.ListN.{length, get_or, drop}
+use lib.ListN.{get_or}
 use mir.Syntax.{w64}
 use mir.ValLaws.{to_z-of_z}
-use Rattle.text_lines.specs.Lines.{asking, digits, after_sign}
+use Rattle.text_lines.specs.Lines.{asking, after_sign}
 use Rattle.text_lines.proofs.Reading.{too_many, below, above, digit, ended, all, below_ten, grown, bounded, times_fits, sum_fits}
 use Rattle.text_lines.proofs.parsing.read_digits.Goals as goal
 
@@ -21,7 +20,7 @@ pub returns-then-rest-gt10 : goal.returns-then-rest-gt10
 returns-then-rest-gt10 c = too_many _ _ _ c.if-rest-gt10.true
 
 pub loop-i-init : goal.loop-i-init
-loop-i-init c = (zero≤, lit< tt, refl)
+loop-i-init c = (omega arith, lit< tt, refl)
 
 pub bounds-rest-i : goal.bounds-rest-i
 bounds-rest-i c = c.loop-i-test.true

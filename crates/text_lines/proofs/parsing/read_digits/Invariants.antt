@@ -1,18 +1,9 @@
 -- The loop's invariant: the digits that are left, behind the number so far, read as all of them; the number has as many
 -- digits as were read. The measure is what is left.
-use mathlib.Core.Path.{◌≡◌, refl, sym, ap, ◌∙◌}
-use mathlib.Core.List.{List}
-use Prim.Native.Nat.{ℕ, ◌-◌, ◌^◌, ◌≤◌, ◌<◌}
-use native.Mathlib.Numerals.{add-one-le}
-use native.Mathlib.Omega.{arith}
-use borrow.Author.Rules.{rules, zero≤}
-use borrow.Author.Count.{falls}
-use lib.Dec.{lit<}
-use lib.ListN.{length, get_or, drop}
-use mir.Syntax.{w64}
-use mir.ValLaws.{to_z-of_z}
-use Rattle.text_lines.specs.Lines.{asking, digits, after_sign}
-use Rattle.text_lines.proofs.Reading.{too_many, below, above, digit, ended, all, below_ten, grown, bounded, times_fits, sum_fits}
+use mathlib.Core.Path.{◌≡◌}
+use Prim.Native.Nat.{◌-◌, ◌^◌, ◌≤◌, ◌<◌}
+use lib.ListN.{length, drop}
+use Rattle.text_lines.specs.Lines.{digits}
 use Rattle.text_lines.proofs.parsing.read_digits.Given as goal
 
 -- The loop's invariant: the digits that are left, behind the number so far, read as all of them; the number has as many

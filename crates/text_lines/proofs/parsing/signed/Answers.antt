@@ -1,4 +1,3 @@
-use borrow.Author.Rules.{rules}
 use Rattle.text_lines.proofs.Signs.{minus_fits, minus, plus}
 use Rattle.text_lines.proofs.parsing.signed.Goals as goal
 
