@@ -14,7 +14,7 @@ use Rattle.words.specs.Words.{add, numbers}
 use Rattle.words.specs.Signed.{floor, signed, wrap, in_range}
 use Rattle.truncations.specs.Truncation.{slip}
 use Rattle.words.proofs.Words.{add_lt, sub_lt}
-use Rattle.shares.specs.Gates.{value, mask}
+use Rattle.shares.specs.Gates.{value}
 use Rattle.tables.specs.Table.{rows, keeps_rules, house}
 use Rattle.curves.specs.Curve.{scaled, last_count}
 use Rattle.tables.proofs.HouseTable.{house_keeps_rules}

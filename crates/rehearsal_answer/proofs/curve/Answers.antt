@@ -1,7 +1,6 @@
 use mathlib.Core.Path.{◌∙◌}
 use Rattle.tables.specs.Table.{house}
 use Rattle.rehearsal_answer.specs.Trial.{trial}
-use borrow.Author.Rules.{rules}
 use Rattle.rehearsal_answer.proofs.curve.Goals as goal
 
 pub returns : goal.returns

@@ -2,7 +2,6 @@ use mathlib.Core.Path.{◌≡◌, refl}
 use mathlib.Core.Logic.{◌≢◌}
 use Prim.Native.Nat.{ℕ, zero, suc}
 use Rattle.rehearsal_answer.specs.Trial.{mode_word}
-use borrow.Author.Rules.{rules}
 use Rattle.rehearsal_answer.proofs.mode_word.Goals as goal
 
 other : (n : ℕ) → n ≢ 0 → 1 ≡ mode_word n
