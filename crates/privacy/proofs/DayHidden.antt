@@ -24,7 +24,7 @@ use Rattle.privacy.proofs.Walks.{All}
 use Rattle.privacy.proofs.Solving.{Sound}
 use Rattle.privacy.proofs.Registers.{move_none}
 use Rattle.privacy.proofs.Values.{masks_path, mask_none, moved_given, there_and_back, m1, not_given1, m2, not_given2}
-use Rattle.privacy.proofs.Hidden.{words1, beside1, back1, deals2, words2, beside2, back2}
+use Rattle.privacy.proofs.HiddenRuns.{words1, beside1, back1, deals2, words2, beside2, back2}
 use Rattle.privacy.proofs.Privacy.{steps_sound}
 use Rattle.privacy.proofs.DayWorlds.{day_deals}
 use Rattle.privacy.proofs.DayCounterparts.{day_sees0, day_sees1, day_sees2}

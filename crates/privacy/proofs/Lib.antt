@@ -11,7 +11,7 @@ pub mod Places
 pub mod Sides
 pub mod Worlds
 pub mod Counterparts
-pub mod Hidden
+pub mod HiddenRuns
 pub mod Privacy
 pub mod DayLevels
 pub mod DayWorlds

@@ -8,7 +8,7 @@ use Rattle.privacy.specs.Privacy.{NothingLearned, OfGates, Privacy}
 use Rattle.privacy.proofs.Walks.{All}
 use Rattle.privacy.proofs.Solving.{Sound}
 use Rattle.privacy.proofs.Steps.{gates_sound}
-use Rattle.privacy.proofs.Hidden.{hidden0, hidden1, hidden2}
+use Rattle.privacy.proofs.HiddenRuns.{hidden0, hidden1, hidden2}
 
 pub steps_sound : (w : ℕ) (σ : Script) → OfGates w σ → All (Sound w) σ.steps
 steps_sound w σ g = subst (All (Sound w)) (sym g.made) (gates_sound w g.gates)

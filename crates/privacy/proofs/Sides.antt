@@ -29,10 +29,12 @@ abbrev pub places : List Spoken → List (ℕ × ℕ)
 places l = map place l
 
 among_place : (p : Spoken) (l : List Spoken) → Among p l → Among (place p) (places l)
+among_place p [] m = elim m [ ]
 among_place p (q ∷ l) (inl e) = inl (ap place e)
 among_place p (q ∷ l) (inr m) = inr (among_place p l m)
 
 place_among : (q : ℕ × ℕ) (l : List Spoken) → Among q (places l) → (v : ℕ) × Among (q.0, q.1, v) l
+place_among q [] m = elim m [ ]
 place_among q (p ∷ l) (inl e) = (p.2, inl (λ i. ((e i).0, (e i).1, p.2)))
 place_among q (p ∷ l) (inr m) = let k = place_among q l m in (k.0, inr k.1)
 
@@ -50,6 +52,7 @@ apart p r (inl h) e f = omega (arith, h, e)
 apart p r (inr h) e f = omega (arith, h.1, f)
 
 one_word : (l : List Spoken) → Rising l → (p r : Spoken) → p.0 ≡ r.0 → p.1 ≡ r.1 → Among p l → Among r l → p.2 ≡ r.2
+one_word [] R p r e f a b = elim a [ ]
 one_word (q ∷ l) R p r e f (inl a) (inl b) = ap (λ (x : Spoken). x.2) (a ∙ sym b)
 one_word (q ∷ l) R p r e f (inl a) (inr b) = absurd (apart p r (subst (λ (x : Spoken). Before x r) (sym a) (R.0 r b)) e f)
 one_word (q ∷ l) R p r e f (inr a) (inl b) =

@@ -138,7 +138,8 @@ module _ (S : Stage) where
   abbrev pub with_event : (host : ℕ) → ℕ × Event → List Event → List Event
   with_event h e l = cond (eqb h e.0) (e.1 ∷ l) l
 
-  unfoldable pub calls_of : (host : ℕ) {E : List ℕ} {v v' : World} {h1 h2 u1 u2 : List Spoken} {cs : List Call}
+  unfoldable pub calls_of : (host : ℕ) {E : List ℕ} {v : World} {h1 h2 : List Spoken} {cs : List Call} {v' : World}
+      {u1 u2 : List Spoken}
       → Calls S E v h1 h2 cs v' u1 u2 → List Event
   calls_of h none = []
   calls_of h (completes r k n) = with_event h (event k) (calls_of h r)
