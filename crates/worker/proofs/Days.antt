@@ -1,6 +1,6 @@
 -- A day's order, begun or gone on with by the code of host 1 or 2 as its own order, gives what the day's walk gives; on plain values.
 -- Assumes nothing.
-use mathlib.Core.Path.{◌≡◌, refl, sym, ap, ap₂, ◌∙◌}
+use mathlib.Core.Path.{◌≡◌, refl, sym, ap, ap₂, subst, ◌∙◌}
 use mathlib.Core.Bool.{Bool, true, false, cond}
 use mathlib.Core.List.{List, [], ◌∷◌, ◌++◌, map}
 use Prim.Native.Nat.{ℕ, suc, ◌+◌, ◌*◌, ◌≤◌, ◌<◌}
@@ -47,11 +47,11 @@ use Rattle.days.proofs.Own.{own_job, own_at, own_length, own_spares}
 use Rattle.days.proofs.Heard as Heard
 use Rattle.days.proofs.Idle.{idle_walk}
 use Rattle.days.proofs.Places.{seek_far, used_before, found_in_day, nowhere_in_day, nowhere_left_out}
-use Rattle.worker.proofs.Places.{found_here}
+use Rattle.worker.proofs.Places.{found_here, stands_own}
 use Rattle.worker.specs.Answers.{state_with}
 use Rattle.worker.specs.declared.place.Stand.{Stand}
 use Rattle.worker.specs.Jobs.{Sized, StandIs}
-use Rattle.worker.specs.Days.{few_counts, used_until, sought_run, DayLent, DayPlace}
+use Rattle.worker.specs.Days.{few_counts, used_until, sought_run, DayLent, DayPlace, DayStandIs}
 
 -- one curve's counts
 pub lent_few : (T S : List ℕ) (k : Cost) (f : ℕ → Bool) (n : ℕ) → DayLent T S k f n → few_counts k
@@ -153,6 +153,16 @@ module _ (T : List ℕ) (f : ℕ → Bool) (o x : ℕ) (in_day : o ≤ 96) (g : 
 pub place_at : (T : List ℕ) (f : ℕ → Bool) (o x i a b n : ℕ) → DayPlace T f o x i a b n → (ord : Order) (z : Stand)
     → StandIs 32 (rows T) ord i a b n z → DayPlace T f o x z.at.gate z.at.a z.b z.at.deals
 place_at T f o x i a b n p ord z S = rw (S.gate, S.a_used, S.b_used, S.deals_used) p
+
+-- and what the gate there is, where the code has the order alone
+pub stands_in : (T : List ℕ) (f : ℕ → Bool) (o x i a b n : ℕ) → DayPlace T f o x i a b n → (J : List ℕ) → J ≡ order_words o
+    → (ord : Order) → ord ≡ order_at J 0 → (z : Stand) → StandIs 32 (rows T) ord i a b n z
+    → DayPlace T f o x z.at.gate z.at.a z.b z.at.deals × DayStandIs T o z
+stands_in T f o x i a b n p J eJ ord eo z S = (
+  place_at T f o x i a b n p ord z S,
+  subst (λ (q : Order). StandIs 32 (rows T) q z.at.gate z.at.a z.b z.at.deals z)
+      (eo ∙ ap (λ (j : List ℕ). order_at j 0) eJ ∙ own_at o) (stands_own 32 T ord i a b n z S),
+)
 
 -- ---- an order begun
 

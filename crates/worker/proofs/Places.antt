@@ -138,6 +138,17 @@ module _ (w : ℕ) (job table : List ℕ) where
           eu ∙ ap (λ (m : ℕ). passed m (job_cost w (take (o * 4) job) table)) z ∙ cost_before w job table o (omega arith) in
           subst (λ (r : Cost). There w job table o x g (r.a + a) (r.b + x) (r.deals + dealt)) (sym b) H
 
+      -- the same by the code's own numbers, with what it works out of the gate there
+      pub stands_by : Sized w job table → (g a dealt : ℕ) → f ≡ Sought.Found g a dealt
+          → (u : Cost) → u ≡ passed n (job_cost w (take (o * 4) job) table)
+          → (r : Stand) → StandIs w (rows table) ord g (u.a + a) (u.b + x) (u.deals + dealt) r
+          → There w job table o x r.at.gate r.at.a r.b r.at.deals
+          × StandIs w (rows table) (order_at job o) r.at.gate r.at.a r.b r.at.deals r
+      stands_by Z g a dealt p u eu r S = (
+        there_at w job table o x _ _ _ _ (found_there Z g a dealt p u eu) ord r S,
+        subst (λ (q : Order). StandIs w (rows table) q r.at.gate r.at.a r.b r.at.deals r) eo (stands_own w table ord _ _ _ _ r S),
+      )
+
     -- past the last order all of the job is counted
     pub whole_job : Sized w job table → (o : ℕ) → length job / 4 ≤ o → (u : Cost) → u ≡ passed n (job_cost w (take (o * 4) job) table)
         → u ≡ cost (job_steps w (job_gates w job table))

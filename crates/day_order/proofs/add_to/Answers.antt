@@ -1,4 +1,4 @@
-use Rattle.std.proofs.Common.{set, ap, ◌∙◌, ap₂, rules}
+use Rattle.std.proofs.Common.{set, ap, ◌∙◌, ap₂}
 use Rattle.words.specs.Words.{add}
 use Rattle.day_order.proofs.add_to.Goals as goal
 

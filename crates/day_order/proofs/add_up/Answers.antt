@@ -1,4 +1,4 @@
-use Rattle.std.proofs.Common.{ap, ◌∙◌, rules}
+use Rattle.std.proofs.Common.{ap, ◌∙◌}
 use Rattle.days.specs.Orders.{counted}
 use Rattle.day_order.proofs.add_up.Goals as goal
 

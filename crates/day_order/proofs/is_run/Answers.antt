@@ -1,4 +1,4 @@
-use Rattle.std.proofs.Common.{◌∙◌, rules, le-ltb, lt-ltb}
+use Rattle.std.proofs.Common.{le-ltb, lt-ltb}
 use Rattle.days.specs.Orders.{is_run}
 use Rattle.day_order.proofs.is_run.Goals as goal
 

@@ -1,4 +1,4 @@
-use Rattle.std.proofs.Common.{refl, rules, le-ltb, lt-ltb}
+use Rattle.std.proofs.Common.{refl, le-ltb, lt-ltb}
 use Rattle.days.specs.Orders.{left}
 use Rattle.day_order.proofs.leave.Goals as goal
 

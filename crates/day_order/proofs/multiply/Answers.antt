@@ -1,4 +1,4 @@
-use Rattle.std.proofs.Common.{ℕ, set, ap, ◌∙◌, rules}
+use Rattle.std.proofs.Common.{ℕ, set, ap, ◌∙◌}
 use Rattle.words.specs.Words.{mul}
 use Rattle.days.specs.Orders.{entered}
 use Rattle.day_order.proofs.multiply.Goals as goal

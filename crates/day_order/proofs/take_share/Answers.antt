@@ -1,4 +1,4 @@
-use Rattle.std.proofs.Common.{set, ap, ◌∙◌, rules}
+use Rattle.std.proofs.Common.{set, ap, ◌∙◌}
 use Rattle.day_order.proofs.take_share.Goals as goal
 
 pub returns : goal.returns

@@ -2,7 +2,6 @@ use mathlib.Core.Logic.{⊎_elim}
 use mathlib.Core.Path.{sym, ◌∙◌}
 use native.Mathlib.Omega.{arith}
 use Rattle.walks.proofs.Dealers.{holds_local, holds_deal, holds_product, holds_undealt}
-use borrow.Author.Rules.{rules}
 use Rattle.dealer_gate.proofs.deal_gate.Goals as goal
 
 pub returns-in-Local : goal.returns-in-Local

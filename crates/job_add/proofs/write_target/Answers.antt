@@ -1,4 +1,4 @@
-use Rattle.std.proofs.Common.{arith, rules}
+use Rattle.std.proofs.Common.{arith}
 use Rattle.words.specs.Words.{add}
 use Rattle.words.proofs.Words.{sub_of}
 use Rattle.job_add.proofs.Written.{sum, difference}

@@ -1,5 +1,4 @@
 use Rattle.jobs.proofs.Turns.{as_refusal, as_counts}
-use borrow.Author.Rules.{rules}
 use Rattle.job_check.proofs.check.Goals as goal
 
 pub returns-then-found-ne0 : goal.returns-then-found-ne0

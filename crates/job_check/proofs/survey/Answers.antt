@@ -1,13 +1,12 @@
 use mathlib.Core.Path.{sym, ap, ◌∙◌}
-use mathlib.Core.Logic.{inl, inr, ⊎_elim}
+use mathlib.Core.Logic.{inl, inr}
 use Prim.Native.Nat.{◌*◌, ◌-◌, ◌+◌, ◌≤◌}
 use native.Mathlib.Omega.{arith}
-use borrow.Author.Rules.{rules}
 use lib.ListN.{length}
-use Rattle.jobs.proofs.Sums.{job_counts, row_count, rows_few}
-use Rattle.jobs.proofs.Turns.{Given, given, Going, refused, accepted, ill, starts, done, faulty, few_so_far, turn}
-use Rattle.jobs.proofs.Marks.{Marked, unmarked, next_mark, all_marked}
-use Rattle.job_check.specs.Tally.{tallied, CurveTallied}
+use Rattle.jobs.proofs.Sums.{job_counts, rows_few}
+use Rattle.jobs.proofs.Turns.{given, refused, accepted, ill, starts, done, faulty, few_so_far, turn}
+use Rattle.jobs.proofs.Marks.{unmarked, next_mark, all_marked}
+use Rattle.job_check.specs.Tally.{tallied}
 use Rattle.job_check.proofs.Tallies.{nothing, sum_fits, tallied_sum}
 use Rattle.job_check.proofs.survey.Goals as goal
 use Rattle.job_check.proofs.survey.Goals.{then-i-place, else-i-place}

@@ -1,6 +1,5 @@
 use mathlib.Core.Path.{◌∙◌}
 use Rattle.job_check.proofs.Tallies.{nothing}
-use borrow.Author.Rules.{rules}
 use Rattle.job_check.proofs.turned_down.Goals as goal
 
 pub returns : goal.returns

@@ -2,7 +2,6 @@
 use mathlib.Core.Path.{sym, ap, ◌∙◌}
 use Rattle.jobs.specs.Answers.{verdict}
 use Rattle.jobs.proofs.Unused.{after_refusal, too_short, long_enough}
-use borrow.Author.Rules.{rules}
 use Rattle.job_leftover.proofs.leftover.Goals as goal
 
 pub returns-then-list-first : goal.returns-then-list-first

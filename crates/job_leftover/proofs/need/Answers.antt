@@ -1,5 +1,4 @@
 use Rattle.jobs.specs.Answers.{need}
-use borrow.Author.Rules.{rules}
 use Rattle.job_leftover.proofs.need.Goals as goal
 
 pub returns-in-ListA : goal.returns-in-ListA

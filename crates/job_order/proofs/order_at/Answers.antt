@@ -1,4 +1,3 @@
-use borrow.Author.Rules.{rules}
 use Rattle.jobs.proofs.Orders.{words_of, past_end}
 use Rattle.job_order.proofs.order_at.Goals as goal
 

@@ -1,5 +1,4 @@
 use mathlib.Core.Path.{◌∙◌}
-use borrow.Author.Rules.{rules}
 use Rattle.program_seek.proofs.Products.{adder_first, adder_later, rounds_32}
 use Rattle.program_seek.proofs.adder_place.Goals as goal
 

@@ -4,7 +4,6 @@ use Rattle.curves.specs.Curve.{last_count}
 use Rattle.programs.specs.Sizes.{row_gates, row_deals, row_words_a, row_exchanges}
 use Rattle.programs.proofs.Sizes.{row_32}
 use Rattle.program_seek.proofs.Places.{curve_row_place, rest_place}
-use borrow.Author.Rules.{rules}
 use Rattle.program_seek.proofs.curve_place.Goals as goal
 
 pub returns-then-row-count : goal.returns-then-row-count

@@ -1,7 +1,6 @@
 use mathlib.Core.Path.{◌∙◌}
 use Rattle.programs.specs.Programs.{acc_slot, saturation}
 use Rattle.program_seek.proofs.Products.{in_exact, after_exact, in_refreshed, after_refreshed}
-use borrow.Author.Rules.{rules}
 use Rattle.program_seek.proofs.end_place.Goals as goal
 
 pub returns-then-n-lt-EXACT_EXCHANGES : goal.returns-then-n-lt-EXACT_EXCHANGES

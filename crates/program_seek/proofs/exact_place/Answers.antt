@@ -1,6 +1,5 @@
 use mathlib.Core.Path.{◌∙◌}
 use native.Mathlib.Omega.{arith}
-use borrow.Author.Rules.{rules}
 use Rattle.programs.specs.Programs.{y_slot}
 use Rattle.programs.proofs.AdderParts.{exact_rest}
 use Rattle.program_seek.proofs.Products.{exact_adder, exact_low, exact_high, exact_past}

@@ -1,4 +1,3 @@
-use borrow.Author.Rules.{rules}
 use Rattle.program_seek.proofs.Products.{one_bit_place, one_bit_past}
 use Rattle.program_seek.proofs.one_bit_place.Goals as goal
 

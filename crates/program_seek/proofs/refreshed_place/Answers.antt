@@ -1,5 +1,4 @@
 use mathlib.Core.Path.{◌∙◌}
-use borrow.Author.Rules.{rules}
 use Rattle.gates.specs.Speech.{shape}
 use Rattle.gates.specs.Meaning.{meaning}
 use Rattle.programs.specs.Seek.{sought, sought_at}

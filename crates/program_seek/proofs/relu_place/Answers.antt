@@ -1,7 +1,6 @@
 use mathlib.Core.Path.{◌∙◌}
 use Rattle.programs.specs.Programs.{s_slot, relu_program}
 use Rattle.program_seek.proofs.Products.{relu_last}
-use borrow.Author.Rules.{rules}
 use Rattle.program_seek.proofs.relu_place.Goals as goal
 
 pub returns-then-n-lt-SIGN_EXCHANGES : goal.returns-then-n-lt-SIGN_EXCHANGES

@@ -1,7 +1,6 @@
 use mathlib.Core.Path.{◌∙◌}
 use Rattle.programs.specs.Programs.{t_slot, y_slot, res_slot}
 use Rattle.program_seek.proofs.Products.{saturation_sign, saturation_last}
-use borrow.Author.Rules.{rules}
 use Rattle.program_seek.proofs.saturation_place.Goals as goal
 
 pub returns-then-n-lt-SIGN_EXCHANGES : goal.returns-then-n-lt-SIGN_EXCHANGES

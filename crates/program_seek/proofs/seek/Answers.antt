@@ -1,4 +1,3 @@
-use borrow.Author.Rules.{rules}
 use Rattle.program_seek.proofs.ByKind.{no_exchange}
 use Rattle.program_seek.proofs.Placing.{told}
 use Rattle.programs.specs.Orders.{program, kinds}

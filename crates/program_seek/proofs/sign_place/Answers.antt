@@ -3,7 +3,6 @@ use mathlib.Core.List.{◌++◌}
 use native.Mathlib.Omega.{arith}
 use Rattle.programs.proofs.AdderParts.{sign_rest}
 use Rattle.program_seek.proofs.Products.{sign_adder, sign_number}
-use borrow.Author.Rules.{rules}
 use Rattle.program_seek.proofs.sign_place.Goals as goal
 
 pub returns-then-n-lt-ADDER_EXCHANGES : goal.returns-then-n-lt-ADDER_EXCHANGES

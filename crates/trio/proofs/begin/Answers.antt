@@ -2,7 +2,6 @@ use mathlib.Core.Path.{refl}
 use native.Mathlib.Omega.{arith}
 use Rattle.calls.specs.Scripts.{job_script}
 use Rattle.trio.proofs.Turns.{begins}
-use borrow.Author.Rules.{rules}
 use Rattle.trio.proofs.begin.Goals as goal
 
 pub returns : goal.returns

@@ -1,5 +1,4 @@
 use Rattle.trio.specs.Together.{heard}
-use borrow.Author.Rules.{rules}
 use Rattle.trio.proofs.exchange.Goals as goal
 
 pub returns : goal.returns

@@ -1,4 +1,4 @@
-use mathlib.Core.Path.{sym, ◌∙◌}
+use mathlib.Core.Path.{◌∙◌}
 use Rattle.calls.proofs.Lists.{given_registers}
 use Rattle.trio.proofs.Turns.{first_started, first_refused}
 use borrow.Author.Rules.{rules}

@@ -1,14 +1,11 @@
-use mathlib.Core.Path.{◌≡◌, refl}
-use native.Mathlib.Omega.{arith}
-use Prim.Native.Nat.{◌/◌, ◌≤◌}
+use mathlib.Core.Path.{◌≡◌}
+use Prim.Native.Nat.{◌/◌}
 use lib.ListN.{length}
-use borrow.Author.Rules.{rules}
 use Rattle.calls.specs.Scripts.{job_script}
 use Rattle.worker.specs.Answers.{state_of}
-use Rattle.runs.proofs.Chain.{job_closed}
-use Rattle.trio.specs.Together.{trio_of, shared}
+use Rattle.trio.specs.Together.{trio_of}
 use Rattle.trio.proofs.Ends.{ahead}
-use Rattle.trio.proofs.Turns.{Going, few_words, order_number, going_in, going_on, nearer, arrived, refused_together}
+use Rattle.trio.proofs.Turns.{Going}
 use Rattle.trio.proofs.run.Given as goal
 
 abbrev pub invariant-loop-s : goal.invariant-loop-s

@@ -1,5 +1,4 @@
 use mathlib.Core.Path.{◌∙◌}
-use borrow.Author.Rules.{rules}
 use Rattle.trio_open.proofs.opened.Goals as goal
 
 pub returns : goal.returns

@@ -1,6 +1,5 @@
 use borrow.Author.Tests.{eq-eqb, ne_eqb}
 use Rattle.walks.specs.Workers.{deal_taken}
-use borrow.Author.Rules.{rules}
 use Rattle.worker_gate.proofs.deal_taken.Goals as goal
 
 pub returns-then-host-eq1 : goal.returns-then-host-eq1

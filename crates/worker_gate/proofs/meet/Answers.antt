@@ -1,11 +1,7 @@
-use mathlib.Core.Path.{◌≡◌, ◌∙◌}
+use mathlib.Core.Path.{◌∙◌}
 use Rattle.gates.specs.Codes.{step_of}
-use Rattle.gates.specs.declared.Shape.{Shape}
 use Rattle.gates.specs.declared.Shape.TheVariants.{Local, Dealing, Product, Undealt}
-use Rattle.walks.specs.Workers.{cursor, heard_at}
-use Rattle.walks.proofs.Workers.{heard_by, hears}
-use borrow.Author.Rules.{rules}
-use Rattle.calls.specs.Lent.{worker_with}
+use Rattle.walks.proofs.Workers.{hears}
 use Rattle.worker_gate.proofs.meet.Goals as goal
 
 pub returns-in-Product : goal.returns-in-Product

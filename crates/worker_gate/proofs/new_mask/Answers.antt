@@ -1,6 +1,5 @@
 use mathlib.Core.Path.{◌∙◌}
 use Rattle.walks.proofs.Workers.{mask_after, mask_next, mask_of_b}
-use borrow.Author.Rules.{rules}
 use Rattle.worker_gate.proofs.new_mask.Goals as goal
 
 pub returns-in-2 : goal.returns-in-2

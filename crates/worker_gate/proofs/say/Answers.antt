@@ -1,7 +1,6 @@
 use mathlib.Core.Path.{◌∙◌}
 use Rattle.gates.specs.Codes.{step_of}
 use Rattle.walks.proofs.Workers.{says_1, says_2}
-use borrow.Author.Rules.{rules}
 use Rattle.worker_gate.proofs.say.Goals as goal
 
 pub returns-then-host-eq1 : goal.returns-then-host-eq1

@@ -5,7 +5,6 @@ use Rattle.gates.specs.Codes.{step_of}
 use Rattle.gates.specs.Hosts.{on_mask}
 use Rattle.gates.specs.Steps.{Lane}
 use Rattle.gates.proofs.Codes.{local_code}
-use borrow.Author.Rules.{rules}
 use Rattle.worker_gate.proofs.step.Goals as goal
 
 -- a local gate takes no word of a deal

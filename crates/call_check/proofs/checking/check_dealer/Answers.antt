@@ -1,5 +1,4 @@
 use mathlib.Core.Path.{◌∙◌}
-use borrow.Author.Rules.{rules}
 use Rattle.jobs.specs.Job.{job_cost}
 use Rattle.calls.specs.Lent.{dealer_fault}
 use Rattle.call_check.specs.Faults.{needs_of}

@@ -1,6 +1,5 @@
 use mathlib.Core.Path.{sym, ap, ◌∙◌}
 use Prim.Native.Nat.{ℕ}
-use borrow.Author.Rules.{rules}
 use Rattle.jobs.specs.Job.{Fault}
 use Rattle.jobs.proofs.Turns.{as_refusal, as_counts}
 use Rattle.calls.proofs.Faults.{or_refused, all_passed, counts_passed}

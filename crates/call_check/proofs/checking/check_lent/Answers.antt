@@ -1,7 +1,5 @@
 use mathlib.Core.Path.{◌∙◌}
-use mathlib.Core.Logic.{⊎_elim}
 use native.Mathlib.Omega.{arith}
-use borrow.Author.Rules.{rules}
 use Rattle.jobs.specs.Job.{job_cost}
 use Rattle.call_check.proofs.Hosts.{of_host, other_host, none_counted}
 use Rattle.call_check.proofs.checking.check_lent.Goals as goal

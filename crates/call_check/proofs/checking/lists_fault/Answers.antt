@@ -1,4 +1,3 @@
-use borrow.Author.Rules.{rules}
 use Rattle.calls.proofs.Faults.{short_list_a, short_list_b, short_buffer, long_enough}
 use Rattle.call_check.proofs.checking.lists_fault.Goals as goal
 

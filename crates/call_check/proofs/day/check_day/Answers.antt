@@ -1,18 +1,12 @@
-use mathlib.Core.Path.{◌≡◌, refl, sym, ap, ◌∙◌}
+use mathlib.Core.Path.{refl, sym, ap, ◌∙◌}
 use mathlib.Core.Bool.{true}
 use Prim.Native.Nat.{ℕ}
 use native.Mathlib.Omega.{arith}
 use borrow.Author.Tests.{not-true, not-false}
-use lib.ListN.{length}
-use Rattle.tables.specs.Table.{rows, keeps_rules}
+use Rattle.tables.specs.Table.{keeps_rules}
 use Rattle.jobs.specs.Job.{Fault}
-use Rattle.jobs.specs.CostTable.{curve_cost}
-use Rattle.calls.specs.Lent.{or_else, dealer_lists_fault}
-use Rattle.calendars.specs.Calendar.{counted_quarters}
-use Rattle.days.specs.Day.{hours, day_fault, day_of}
 use Rattle.call_check.specs.Faults.{needs_of}
 use Rattle.call_check.proofs.Days.{nothing_found, no_day, bad_hours, few_quarters, no_rules, few_rows, few_counts, lists_day, day_found}
-use borrow.Author.Rules.{rules}
 use Rattle.call_check.proofs.day.check_day.Goals as goal
 
 pub returns-then-shares-ne-DAY_WORDS : goal.returns-then-shares-ne-DAY_WORDS

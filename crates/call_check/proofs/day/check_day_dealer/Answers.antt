@@ -3,7 +3,6 @@ use Rattle.calls.specs.Lent.{dealer_fault}
 use Rattle.days.specs.Day.{hours}
 use Rattle.call_check.specs.Faults.{needs_of}
 use Rattle.call_check.proofs.Days.{by_script}
-use borrow.Author.Rules.{rules}
 use Rattle.call_check.proofs.day.check_day_dealer.Goals as goal
 
 pub returns : goal.returns

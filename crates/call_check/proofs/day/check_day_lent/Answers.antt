@@ -1,5 +1,4 @@
 use mathlib.Core.Path.{ap, ◌∙◌}
-use mathlib.Core.Logic.{⊎_elim}
 use Prim.Native.Nat.{ℕ}
 use native.Mathlib.Omega.{arith}
 use lib.ListN.{length}
@@ -7,7 +6,6 @@ use Rattle.jobs.specs.Job.{Fault}
 use Rattle.days.specs.Day.{hours, day_script}
 use Rattle.call_check.proofs.Hosts.{of_host, other_host}
 use Rattle.call_check.proofs.Days.{nothing_found, by_script}
-use borrow.Author.Rules.{rules}
 use Rattle.call_check.proofs.day.check_day_lent.Goals as goal
 
 pub returns-in-1 : goal.returns-in-1

@@ -1,7 +1,6 @@
 use native.Mathlib.Omega.{arith}
 use Rattle.gates.proofs.Needs.{cost_path}
 use Rattle.jobs.specs.CostTable.{curve_cost}
-use borrow.Author.Rules.{rules}
 use Rattle.call_check.proofs.day.curve_counts.Goals as goal
 
 pub returns : goal.returns

@@ -5,7 +5,6 @@ use Rattle.programs.specs.Sizes.{times_cost}
 use Rattle.jobs.specs.CostTable.{kind_costs, kind_cost}
 use Rattle.days.specs.Day.{day_of}
 use Rattle.days.proofs.Counts.{few_words}
-use borrow.Author.Rules.{rules}
 use Rattle.call_check.proofs.day.day_counts.Goals as goal
 
 pub overflow_mul-result : goal.overflow_mul-result

@@ -1,14 +1,7 @@
-use mathlib.Core.Path.{sym, ap₂, ◌∙◌}
-use Prim.Native.Nat.{ℕ, ◌-◌, ◌≤◌, ◌<◌}
-use native.Mathlib.Omega.{arith}
-use borrow.Author.Rules.{rules}
-use borrow.Author.Tests.{not-true, not-false}
-use Rattle.gates.specs.Steps.{Lane}
+use Prim.Native.Nat.{◌-◌}
 use Rattle.walks.specs.Dealers.{dealer, outset}
 use Rattle.calendars.specs.Quarters.{held}
-use Rattle.days.specs.Orders.{entered}
-use Rattle.days.proofs.Quarters.{factor_tabled}
-use Rattle.days.proofs.Dealt.{Reached, day_begins, day_done, order_idle, order_room, order_done}
+use Rattle.days.proofs.Dealt.{Reached}
 use Rattle.dealer.proofs.day.deal_day.Given as goal
 
 abbrev pub invariant-loop-o : goal.invariant-loop-o

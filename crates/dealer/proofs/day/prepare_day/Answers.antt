@@ -1,13 +1,11 @@
-use mathlib.Core.Path.{◌≡◌, refl, sym, ap, subst, ◌∙◌}
+use mathlib.Core.Path.{refl, sym, ap, subst, ◌∙◌}
 use Prim.Native.Nat.{ℕ}
 use native.Mathlib.Omega.{arith}
-use lib.ListN.{length, take}
+use lib.ListN.{take}
 use Rattle.jobs.specs.Job.{Fault}
-use Rattle.calls.specs.Lent.{dealer_fault}
-use Rattle.days.specs.Day.{hours, day_script}
+use Rattle.days.specs.Day.{hours}
 use Rattle.call_check.specs.Days.{DayIs}
 use Rattle.dealer.proofs.Days.{day_refused, day_lent, n_is, day_room, few_dealt, day_answer}
-use borrow.Author.Rules.{rules}
 use Rattle.dealer.proofs.day.prepare_day.Goals as goal
 
 pub returns-then-found-ne0 : goal.returns-then-found-ne0

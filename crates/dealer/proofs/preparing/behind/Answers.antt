@@ -2,7 +2,6 @@ use native.Mathlib.Omega.{arith}
 use Rattle.gates.specs.Codes.{step_of}
 use Rattle.gates.proofs.Uses.{few_used}
 use Rattle.walks.proofs.Dealers.{counts_behind}
-use borrow.Author.Rules.{rules}
 use Rattle.dealer.proofs.preparing.behind.Goals as goal
 
 pub overflow_add-result : goal.overflow_add-result

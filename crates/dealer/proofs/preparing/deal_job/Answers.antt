@@ -1,15 +1,12 @@
-use mathlib.Core.Path.{◌≡◌, refl, sym, ◌∙◌}
+use mathlib.Core.Path.{refl, sym, ◌∙◌}
 use Prim.Native.Nat.{◌/◌, ◌<◌}
 use native.Mathlib.Omega.{arith}
-use borrow.Author.Rules.{rules}
 use lib.ListN.{length}
-use Rattle.jobs.specs.Job.{steps_of}
 use Rattle.walks.specs.Dealers.{dealer}
-use Rattle.walks.proofs.Preparing.{Midway}
 use Rattle.job_add.proofs.Here.{here}
 use Rattle.program_fetch.proofs.Stands.{piece_stands}
 use Rattle.program_fetch.proofs.PieceSteps.{still_within}
-use Rattle.dealer.proofs.Orders.{left, job_begins, job_done, fewer_orders, fewer_gates, piece_room, order_done, piece_done}
+use Rattle.dealer.proofs.Orders.{job_begins, job_done, fewer_orders, fewer_gates, piece_room, order_done, piece_done}
 use Rattle.dealer.proofs.Orders.{few_gates, fewer_left, added_done}
 use Rattle.dealer.proofs.preparing.deal_job.Goals as goal
 

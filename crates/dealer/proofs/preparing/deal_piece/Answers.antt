@@ -1,7 +1,6 @@
 use mathlib.Core.List.{map}
 use Prim.Native.Nat.{◌-◌, ◌≤◌, ◌<◌}
 use native.Mathlib.Omega.{arith}
-use borrow.Author.Rules.{rules}
 use lib.ListN.{length, drop}
 use Rattle.tables.specs.Table.{rows}
 use Rattle.gates.specs.Meaning.{meaning}
@@ -9,7 +8,7 @@ use Rattle.gates.specs.Codes.{step_of}
 use Rattle.program_fetch.specs.Pieces.{piece_gates}
 use Rattle.walks.specs.Dealers.{dealer, dealing}
 use Rattle.walks.proofs.Dealers.{joined}
-use Rattle.walks.proofs.Preparing.{Midway, begins}
+use Rattle.walks.proofs.Preparing.{begins}
 use Rattle.dealer.proofs.Pieces.{gate_room, gate_done, gates_done}
 use Rattle.dealer.proofs.preparing.deal_piece.Goals as goal
 

@@ -1,4 +1,4 @@
-use mathlib.Core.Path.{◌≡◌, sym, ◌∙◌}
+use mathlib.Core.Path.{◌∙◌}
 use borrow.Author.Rules.{rules}
 use Rattle.calls.proofs.Lists.{taken_registers}
 use Rattle.dealer.proofs.preparing.registers.Goals as goal

@@ -1,6 +1,5 @@
 use mathlib.Core.Path.{refl}
 use Rattle.job_check.specs.Tally.{tallied}
-use borrow.Author.Rules.{rules}
 use Rattle.job_check.proofs.cost.counts_of.Goals as goal
 
 pub returns : goal.returns

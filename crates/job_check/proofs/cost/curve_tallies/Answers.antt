@@ -1,5 +1,4 @@
 use Rattle.job_check.proofs.Tallies.{exact_tally, one_bit_tally}
-use borrow.Author.Rules.{rules}
 use Rattle.job_check.proofs.cost.curve_tallies.Goals as goal
 
 pub returns : goal.returns

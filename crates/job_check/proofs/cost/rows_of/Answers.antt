@@ -1,5 +1,4 @@
 use Rattle.jobs.proofs.Sums.{rows_counted}
-use borrow.Author.Rules.{rules}
 use Rattle.job_check.proofs.cost.rows_of.Goals as goal
 
 pub returns-then-ruled : goal.returns-then-ruled

@@ -2,7 +2,6 @@ use lib.Dec.{ltb}
 use Rattle.jobs.proofs.Conditions.{or_none, or_all}
 use Rattle.jobs.proofs.Conditions.{any_fourth}
 use Rattle.jobs.specs.Job.{ill_fourths, ill_fourth}
-use borrow.Author.Rules.{rules}
 use Rattle.job_order.proofs.faults.ill_fourth.Goals as goal
 
 pub returns-in-5 : goal.returns-in-5

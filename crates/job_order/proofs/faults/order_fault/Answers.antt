@@ -1,5 +1,4 @@
 use Rattle.jobs.proofs.Conditions.{fault_3, fault_4, fault_5, no_fault}
-use borrow.Author.Rules.{rules}
 use Rattle.job_order.proofs.faults.order_fault.Goals as goal
 
 pub returns-then-o-gt10 : goal.returns-then-o-gt10

@@ -1,7 +1,6 @@
 use mathlib.Core.Path.{sym, ap, ◌∙◌}
 use Rattle.jobs.specs.Answers.{verdict}
 use Rattle.lamphiek.proofs.Told.{check_refused, check_accepted}
-use borrow.Author.Rules.{rules}
 use Rattle.lamphiek.proofs.checking.lamphiek_check.Goals as goal
 
 pub returns-in-Refused : goal.returns-in-Refused

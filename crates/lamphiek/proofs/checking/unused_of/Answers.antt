@@ -1,5 +1,4 @@
 use Rattle.lamphiek.proofs.Told.{left_over}
-use borrow.Author.Rules.{rules}
 use Rattle.lamphiek.proofs.checking.unused_of.Goals as goal
 
 pub returns : goal.returns

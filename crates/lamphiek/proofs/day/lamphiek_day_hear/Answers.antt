@@ -3,7 +3,6 @@ use Rattle.calls.specs.Calls as Calls
 use Rattle.days.specs.Day.{hours}
 use Rattle.days.specs.DayCalls.{day_hear}
 use Rattle.lamphiek.specs.Stepping.{spoken, state_left}
-use borrow.Author.Rules.{rules}
 use Rattle.lamphiek.proofs.day.lamphiek_day_hear.Goals as goal
 
 pub returns : goal.returns

@@ -1,6 +1,5 @@
 use mathlib.Core.List.{[]}
 use Rattle.lamphiek.proofs.Told.{from_dealer}
-use borrow.Author.Rules.{rules}
 use Rattle.lamphiek.proofs.day.lamphiek_day_prepare.Goals as goal
 
 pub returns : goal.returns

@@ -2,7 +2,6 @@ use mathlib.Core.Path.{ap, ◌∙◌}
 use Rattle.calendars.specs.declared.answers.Counted.{Counted}
 use Rattle.lamphiek.specs.Hours.{counted_told, quarters_left}
 use Rattle.lamphiek.proofs.Told.{not_written, is_written}
-use borrow.Author.Rules.{rules}
 use Rattle.lamphiek.proofs.day.lamphiek_day_quarters.Goals as goal
 
 pub returns-then-found-ne0 : goal.returns-then-found-ne0

@@ -1,7 +1,6 @@
 use mathlib.Core.Path.{ap, ◌∙◌}
 use Rattle.calls.specs.Calls as Calls
 use Rattle.lamphiek.specs.Stepping.{spoken, state_left}
-use borrow.Author.Rules.{rules}
 use Rattle.lamphiek.proofs.day.lamphiek_day_start.Goals as goal
 
 pub returns : goal.returns

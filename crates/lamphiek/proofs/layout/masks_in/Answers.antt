@@ -1,4 +1,3 @@
-use borrow.Author.Rules.{rules}
 use Rattle.lamphiek.proofs.layout.masks_in.Goals as goal
 
 pub returns : goal.returns

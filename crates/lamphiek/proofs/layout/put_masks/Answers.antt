@@ -1,6 +1,5 @@
 use native.Mathlib.Omega.{arith}
 use Rattle.lamphiek.proofs.Packing.{masks_put}
-use borrow.Author.Rules.{rules}
 use Rattle.lamphiek.proofs.layout.put_masks.Goals as goal
 
 pub returns : goal.returns

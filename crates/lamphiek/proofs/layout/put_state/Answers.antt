@@ -1,6 +1,5 @@
 use native.Mathlib.Omega.{arith}
 use Rattle.lamphiek.proofs.Packing.{state_put}
-use borrow.Author.Rules.{rules}
 use Rattle.lamphiek.proofs.layout.put_state.Goals as goal
 
 pub returns : goal.returns

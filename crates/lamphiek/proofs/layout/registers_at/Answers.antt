@@ -1,6 +1,5 @@
 use lib.ListN.{drop}
 use Rattle.lamphiek.proofs.Packing.{cut}
-use borrow.Author.Rules.{rules}
 use Rattle.lamphiek.proofs.layout.registers_at.Goals as goal
 
 pub returns : goal.returns

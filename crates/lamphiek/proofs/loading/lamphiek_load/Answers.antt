@@ -1,7 +1,6 @@
 use mathlib.Core.Path.{sym, ap, ◌∙◌, subst}
 use Prim.Native.Nat.{◌≤◌}
 use native.Mathlib.Omega.{arith}
-use borrow.Author.Rules.{rules}
 use Rattle.table_load.specs.declared.Loaded.{Loaded}
 use Rattle.table_load.proofs.Loads.{loads}
 use Rattle.lamphiek.specs.Loading.{told, table_left}

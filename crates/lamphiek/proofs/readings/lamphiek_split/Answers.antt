@@ -1,13 +1,11 @@
-use mathlib.Core.Path.{◌≡◌, sym, ap, ◌∙◌}
+use mathlib.Core.Path.{sym, ap, ◌∙◌}
 use lib.IntN.{ℤ}
 use mir.Syntax.{w64}
-use mir.Val.{to_z, of_z}
 use mir.Facts.{to_z-of_z}
 use Rattle.shares.specs.Sharing.{split, nothing}
 use Rattle.shares.specs.Answers.{words, sharing}
 use Rattle.lamphiek.specs.Layout.{written, six_out}
 use Rattle.lamphiek.proofs.Told.{told}
-use borrow.Author.Rules.{rules}
 use Rattle.lamphiek.proofs.readings.lamphiek_split.Goals as goal
 
 pub returns-in_default : goal.returns-in_default

@@ -3,7 +3,6 @@ use Rattle.calls.specs.Scripts.{job_script}
 use Rattle.calls.specs.Lent.{lent}
 use Rattle.calls.specs.Calls as Calls
 use Rattle.lamphiek.specs.Stepping.{spoken, state_left}
-use borrow.Author.Rules.{rules}
 use Rattle.lamphiek.proofs.stepping.lamphiek_hear.Goals as goal
 
 pub returns : goal.returns

@@ -3,7 +3,6 @@ use mathlib.Core.Path.{ap, ◌∙◌}
 use Rattle.calls.specs.Calls as Calls
 use Rattle.calls.specs.Scripts.{job_script}
 use Rattle.lamphiek.proofs.Told.{from_dealer}
-use borrow.Author.Rules.{rules}
 use Rattle.lamphiek.proofs.stepping.lamphiek_prepare.Goals as goal
 
 pub returns : goal.returns

@@ -1,6 +1,5 @@
 use mathlib.Core.Path.{refl, ◌∙◌}
 use Rattle.lamphiek.proofs.Told.{not_written, is_written}
-use borrow.Author.Rules.{rules}
 use Rattle.lamphiek.proofs.stepping.put_prepared.Goals as goal
 
 pub returns-then-p-ne0 : goal.returns-then-p-ne0

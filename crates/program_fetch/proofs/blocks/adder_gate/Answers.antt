@@ -1,4 +1,4 @@
-use Rattle.std.proofs.Common.{take, ◌∙◌, arith, rules}
+use Rattle.std.proofs.Common.{take, ◌∙◌, arith}
 use Rattle.truncations.specs.Adder.{distances, updates}
 use Rattle.gates.specs.Codes.{fetched, gates_with}
 use Rattle.programs.specs.Programs.{rounds, adder}

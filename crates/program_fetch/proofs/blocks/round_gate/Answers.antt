@@ -1,4 +1,4 @@
-use Rattle.std.proofs.Common.{sym, refl, ◌∙◌, arith, rules}
+use Rattle.std.proofs.Common.{sym, refl, ◌∙◌, arith}
 use Rattle.truncations.specs.Adder.{doubled, distances, updates}
 use Rattle.gates.specs.Codes.{fetched, gates_with}
 use Rattle.gates.proofs.Fetched.{beyond}

@@ -1,4 +1,4 @@
-use Rattle.std.proofs.Common.{◌-◌, take, drop, ◌∙◌, arith, rules}
+use Rattle.std.proofs.Common.{◌-◌, take, drop, ◌∙◌, arith}
 use Rattle.truncations.specs.Adder.{doubled, distances, updates}
 use Rattle.gates.specs.Codes.{fetched, gates_with}
 use Rattle.programs.specs.Programs.{update_gates, rounds, adder, to_number, sign_program}

@@ -1,4 +1,3 @@
-use Rattle.std.proofs.Common.{rules}
 use Rattle.gates.specs.Codes.{gates_with, fetched}
 use Rattle.program_fetch.proofs.codes.past.Goals as goal
 

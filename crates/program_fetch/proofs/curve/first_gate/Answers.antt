@@ -1,4 +1,4 @@
-use Rattle.std.proofs.Common.{ℕ, sym, ap, ◌∙◌, arith, rules}
+use Rattle.std.proofs.Common.{ℕ, sym, ap, ◌∙◌, arith}
 use Rattle.gates.specs.Gates.{Const}
 use Rattle.gates.specs.Codes.{At, fetched, gates_with}
 use Rattle.gates.proofs.Fetched.{beyond}

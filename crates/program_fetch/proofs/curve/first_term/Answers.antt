@@ -1,4 +1,4 @@
-use Rattle.std.proofs.Common.{◌∙◌, arith, rules}
+use Rattle.std.proofs.Common.{◌∙◌, arith}
 use Rattle.program_fetch.proofs.Indices.{no_first_term, some_first_term}
 use Rattle.program_fetch.proofs.curve.first_term.Goals as goal
 

@@ -1,4 +1,4 @@
-use Rattle.std.proofs.Common.{refl, arith, rules}
+use Rattle.std.proofs.Common.{refl, arith}
 use Rattle.program_fetch.proofs.Indices.{no_count, last_counted}
 use Rattle.program_fetch.proofs.curve.last_count.Goals as goal
 

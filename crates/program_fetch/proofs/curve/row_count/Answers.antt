@@ -1,4 +1,3 @@
-use Rattle.std.proofs.Common.{rules}
 use Rattle.program_fetch.proofs.Indices.{count_at, no_count}
 use Rattle.program_fetch.proofs.curve.row_count.Goals as goal
 

@@ -1,4 +1,4 @@
-use Rattle.std.proofs.Common.{ℕ, sym, ap, ◌∙◌, arith, rules}
+use Rattle.std.proofs.Common.{ℕ, sym, ap, ◌∙◌, arith}
 use Rattle.words.specs.Words.{neg}
 use Rattle.gates.specs.Gates.{Plus}
 use Rattle.gates.specs.Codes.{At, fetched, gates_with}

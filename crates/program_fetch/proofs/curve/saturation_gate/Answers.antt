@@ -1,4 +1,4 @@
-use Rattle.std.proofs.Common.{ℕ, List, take, drop, sym, ap, ◌∙◌, arith, rules}
+use Rattle.std.proofs.Common.{ℕ, List, take, drop, sym, ap, ◌∙◌, arith}
 use Rattle.truncations.specs.Adder.{doubled, distances, updates}
 use Rattle.gates.specs.Gates.{Gate, Const}
 use Rattle.gates.specs.Codes.{At, fetched, gates_with}

@@ -1,4 +1,4 @@
-use Rattle.std.proofs.Common.{◌∙◌, arith, to_z-of_z, rules, w64}
+use Rattle.std.proofs.Common.{◌∙◌, arith, to_z-of_z, w64}
 use Rattle.program_fetch.proofs.Indices.{no_slope_after, some_slope_after}
 use Rattle.program_fetch.proofs.curve.slope_after.Goals as goal
 

@@ -1,4 +1,4 @@
-use Rattle.std.proofs.Common.{◌∙◌, to_z-of_z, rules, w64}
+use Rattle.std.proofs.Common.{◌∙◌, to_z-of_z, w64}
 use Rattle.tables.specs.Table.{rows, slopes}
 use Rattle.program_fetch.proofs.Indices.{some_slope_before}
 use Rattle.program_fetch.proofs.curve.slope_before.Goals as goal

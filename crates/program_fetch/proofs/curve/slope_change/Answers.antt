@@ -1,4 +1,4 @@
-use Rattle.std.proofs.Common.{arith, rules}
+use Rattle.std.proofs.Common.{arith}
 use Rattle.tables.specs.Table.{rows}
 use Rattle.program_fetch.proofs.Indices.{changed}
 use Rattle.program_fetch.proofs.curve.slope_change.Goals as goal

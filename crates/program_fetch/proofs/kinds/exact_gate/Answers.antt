@@ -1,10 +1,10 @@
-use Rattle.std.proofs.Common.{◌≤◌, List, take, drop, sym, ◌∙◌, arith, rules}
+use Rattle.std.proofs.Common.{◌≤◌, List, take, drop, sym, ◌∙◌, arith}
 use Rattle.truncations.specs.Adder.{doubled, distances, updates}
 use Rattle.gates.specs.Gates.{Gate}
 use Rattle.gates.specs.Codes.{fetched, gates_with}
 use Rattle.gates.proofs.Fetched.{beyond}
 use Rattle.programs.specs.Programs.{y_slot, update_gates, rounds, adder, to_number, exact_program}
-use Rattle.program_fetch.proofs.Fetched.{within, none_below, above}
+use Rattle.program_fetch.proofs.Fetched.{within}
 use Rattle.program_fetch.proofs.kinds.exact_gate.Goals as goal
 
 pub returns-in-0 : goal.returns-in-0

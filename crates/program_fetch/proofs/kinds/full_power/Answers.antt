@@ -1,4 +1,4 @@
-use Rattle.std.proofs.Common.{◌∙◌, arith, rules}
+use Rattle.std.proofs.Common.{◌∙◌, arith}
 use Rattle.program_fetch.proofs.Powers.{full}
 use Rattle.program_fetch.proofs.kinds.full_power.Goals as goal
 

@@ -1,4 +1,4 @@
-use Rattle.std.proofs.Common.{sym, ◌∙◌, rules}
+use Rattle.std.proofs.Common.{sym, ◌∙◌}
 use Rattle.gates.specs.Codes.{fetched, gates_with}
 use Rattle.gates.proofs.Fetched.{beyond}
 use Rattle.programs.specs.Programs.{one_bit_program}

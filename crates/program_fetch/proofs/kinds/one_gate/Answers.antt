@@ -1,4 +1,4 @@
-use Rattle.std.proofs.Common.{◌≡◌, sym, ◌∙◌, arith, rules}
+use Rattle.std.proofs.Common.{◌≡◌, sym, ◌∙◌, arith}
 use Rattle.gates.specs.Codes.{fetched, gates_with}
 use Rattle.programs.specs.Orders.{program, kinds}
 use Rattle.program_fetch.proofs.OneGate.{one_past}

@@ -1,4 +1,4 @@
-use Rattle.std.proofs.Common.{ℕ, ◌*◌, ◌%◌, ◌^◌, ap, ◌∙◌, arith, rules}
+use Rattle.std.proofs.Common.{ℕ, ◌*◌, ◌%◌, ◌^◌, ap, ◌∙◌, arith}
 use Rattle.program_fetch.proofs.Powers.{shifted}
 use Rattle.program_fetch.proofs.kinds.power.Goals as goal
 

@@ -1,4 +1,4 @@
-use Rattle.std.proofs.Common.{ap, ◌∙◌, rules}
+use Rattle.std.proofs.Common.{ap, ◌∙◌}
 use Rattle.programs.specs.declared.Order.{Order}
 use Rattle.program_fetch.specs.Pieces.{part}
 use Rattle.program_fetch.proofs.Cases.{curve_first, curve_row, curve_ends}

@@ -1,10 +1,9 @@
-use Rattle.std.proofs.Common.{arith, List, sym, ap, ◌∙◌, rules}
+use Rattle.std.proofs.Common.{arith, List, sym, ap, ◌∙◌}
 use Rattle.gates.specs.Gates.{Gate}
 use Rattle.gates.specs.Codes.{fetched}
 use Rattle.tables.specs.Table.{rows}
 use Rattle.programs.specs.Orders.{kinds}
 use Rattle.program_fetch.specs.Pieces.{piece_kinds, piece_gates}
-use Rattle.program_fetch.proofs.Fetched.{none_from}
 use Rattle.program_fetch.proofs.Stands.{one_gated, nothing}
 use Rattle.program_fetch.proofs.pieces.gate_at.Goals as goal
 

@@ -1,4 +1,4 @@
-use Rattle.std.proofs.Common.{ap, ◌∙◌, rules}
+use Rattle.std.proofs.Common.{ap, ◌∙◌}
 use Rattle.programs.specs.declared.Order.{Order}
 use Rattle.program_fetch.specs.Pieces.{last_part}
 use Rattle.program_fetch.proofs.Cases.{end_last}

@@ -1,4 +1,4 @@
-use Rattle.std.proofs.Common.{ap, ◌∙◌, rules}
+use Rattle.std.proofs.Common.{ap, ◌∙◌}
 use Rattle.tables.specs.Table.{rows}
 use Rattle.programs.specs.declared.Order.{Order}
 use Rattle.programs.proofs.CurveGates.{rows_count}

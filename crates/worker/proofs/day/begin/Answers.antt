@@ -12,7 +12,6 @@ use Rattle.calendars.proofs.Counting.{number_le}
 use Rattle.days.proofs.Counts.{few_words}
 use Rattle.worker.specs.Days.{used_until}
 use Rattle.worker.proofs.Days.{lent_few, sized_own, begun_as}
-use borrow.Author.Rules.{rules}
 use Rattle.worker.proofs.day.begin.Goals as goal
 
 pub used_before-used-requires : goal.used_before-used-requires

@@ -15,7 +15,6 @@ use Rattle.days.proofs.Idle.{next_run}
 use Rattle.days.proofs.Own.{own_at}
 use Rattle.worker.specs.Jobs.{Sized, Standing, StandIs}
 use Rattle.worker.proofs.Days.{sized_own, halts_in, long_left, ends_day, next_order}
-use borrow.Author.Rules.{rules}
 use Rattle.worker.proofs.day.go_on.Goals as goal
 
 pub resume-h-requires : goal.resume-h-requires

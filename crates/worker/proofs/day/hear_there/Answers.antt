@@ -4,7 +4,6 @@ use Rattle.calendars.specs.Quarters.{held}
 use Rattle.days.specs.Day.{hours}
 use Rattle.worker.specs.Answers.{state_with}
 use Rattle.worker.proofs.DayCalls.{hear_done}
-use borrow.Author.Rules.{rules}
 use Rattle.worker.proofs.day.hear_there.Goals as goal
 
 pub returns : goal.returns

@@ -6,7 +6,6 @@ use Rattle.calendars.specs.Quarters.{held}
 use Rattle.days.specs.Day.{hours}
 use Rattle.days.proofs.Idle.{next_run}
 use Rattle.worker.proofs.DayCalls.{same_day, day_lent, start_turned, start_done}
-use borrow.Author.Rules.{rules}
 use Rattle.worker.proofs.day.start_day.Goals as goal
 
 pub returns-then-lent-ne0 : goal.returns-then-lent-ne0

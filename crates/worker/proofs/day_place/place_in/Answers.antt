@@ -2,7 +2,6 @@ use mathlib.Core.Path.{sym, ◌∙◌}
 use borrow.Author.Tests.{not-true, not-false}
 use Rattle.worker.specs.Days.{sought_run}
 use Rattle.worker.proofs.Days.{own_sought}
-use borrow.Author.Rules.{rules}
 use Rattle.worker.proofs.day_place.place_in.Goals as goal
 
 pub returns-then-not-is_run : goal.returns-then-not-is_run

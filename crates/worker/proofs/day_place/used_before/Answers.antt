@@ -6,7 +6,6 @@ use Rattle.jobs.specs.Counts.{counted}
 use Rattle.calendars.specs.Quarters.{held}
 use Rattle.calendars.proofs.Counting.{number_le}
 use Rattle.worker.specs.Days.{used_until}
-use borrow.Author.Rules.{rules}
 use Rattle.worker.proofs.day_place.used_before.Goals as goal
 
 pub used_by-requires : goal.used_by-requires

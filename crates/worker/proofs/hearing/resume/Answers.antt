@@ -6,7 +6,6 @@ use Rattle.jobs.specs.Job.{job_gates}
 use Rattle.worker.specs.Answers.{state_with}
 use Rattle.walks.proofs.Programs.{resumed}
 use Rattle.worker.proofs.Places.{steps_here, speaks_here, behind_a, behind_deals, few_behind}
-use borrow.Author.Rules.{rules}
 use Rattle.worker.proofs.hearing.resume.Goals as goal
 
 pub advance-requires : goal.advance-requires

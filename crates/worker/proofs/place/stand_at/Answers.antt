@@ -9,7 +9,6 @@ use Rattle.gates.proofs.Uses.{few_used}
 use Rattle.program_fetch.proofs.Stands.{piece_stands}
 use Rattle.calls.specs.Calls.{stored_places}
 use Rattle.worker.proofs.Pieces.{gate_there}
-use borrow.Author.Rules.{rules}
 use Rattle.worker.proofs.place.stand_at.Goals as goal
 
 pub places_with-requires : goal.places_with-requires

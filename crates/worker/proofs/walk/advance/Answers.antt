@@ -1,15 +1,13 @@
-use mathlib.Core.Path.{◌≡◌, refl, sym, ap, ◌∙◌}
-use borrow.Author.Rules.{rules}
+use mathlib.Core.Path.{refl, sym, ap, ◌∙◌}
 use native.Mathlib.Omega.{arith}
-use Prim.Native.Nat.{◌*◌, ◌/◌, ◌+◌, ◌-◌, ◌^◌, ◌<◌, ◌≤◌}
-use lib.ListN.{length, drop}
+use Prim.Native.Nat.{◌/◌, ◌+◌, ◌-◌, ◌<◌, ◌≤◌}
+use lib.ListN.{length}
 use Rattle.gates.specs.Codes.{step_of}
 use Rattle.gates.proofs.Uses as Uses
 use Rattle.tables.specs.Table.{rows}
 use Rattle.jobs.specs.Job.{job_gates}
 use Rattle.calls.specs.declared.Stored.{Stored}
-use Rattle.walks.specs.Workers.{cursor}
-use Rattle.walks.specs.Halts.{going_on, steps_from, reported}
+use Rattle.walks.specs.Halts.{going_on}
 use Rattle.walks.proofs.Programs.{finished, at_once}
 use Rattle.job_add.proofs.Here.{here}
 use Rattle.program_fetch.proofs.Stands.{piece_stands}
@@ -18,7 +16,6 @@ use Rattle.jobs.proofs.Additions.{additive_steps}
 use Rattle.jobs.proofs.Indices.{order_there, gates_over}
 use Rattle.worker.proofs.Jobs.{short_order}
 use Rattle.worker.proofs.Pieces.{few_used, at_exchange, next_piece, next_order}
-use Rattle.calls.specs.Lent.{worker_with}
 use Rattle.worker.proofs.walk.advance.Goals as goal
 
 pub loop-order-init : goal.loop-order-init

@@ -1,23 +1,9 @@
-use mathlib.Core.Path.{◌≡◌, refl, sym, ap, ◌∙◌}
-use borrow.Author.Rules.{rules}
-use native.Mathlib.Omega.{arith}
+use mathlib.Core.Path.{◌≡◌}
 use Prim.Native.Nat.{◌*◌, ◌/◌, ◌+◌, ◌-◌, ◌^◌, ◌<◌, ◌≤◌}
 use lib.ListN.{length, drop}
-use Rattle.gates.specs.Codes.{step_of}
-use Rattle.gates.proofs.Uses as Uses
-use Rattle.tables.specs.Table.{rows}
 use Rattle.jobs.specs.Job.{job_gates}
-use Rattle.calls.specs.declared.Stored.{Stored}
 use Rattle.walks.specs.Workers.{cursor}
-use Rattle.walks.specs.Halts.{going_on, steps_from, reported}
-use Rattle.walks.proofs.Programs.{finished, at_once}
-use Rattle.job_add.proofs.Here.{here}
-use Rattle.program_fetch.proofs.Stands.{piece_stands}
-use Rattle.program_fetch.proofs.PieceSteps.{still_within}
-use Rattle.jobs.proofs.Additions.{additive_steps}
-use Rattle.jobs.proofs.Indices.{order_there, gates_over}
-use Rattle.worker.proofs.Jobs.{short_order}
-use Rattle.worker.proofs.Pieces.{few_used, at_exchange, next_piece, next_order}
+use Rattle.walks.specs.Halts.{steps_from, reported}
 use Rattle.calls.specs.Lent.{worker_with}
 use Rattle.worker.proofs.walk.advance.Given as goal
 

@@ -1,5 +1,4 @@
 use mathlib.Core.Path.{sym}
-use borrow.Author.Rules.{rules}
 use native.Mathlib.Omega.{arith}
 use Prim.Native.Nat.{◌-◌, ◌<◌}
 use lib.ListN.{length}
@@ -9,9 +8,7 @@ use Rattle.gates.proofs.Fetched.{beyond}
 use Rattle.gates.proofs.Uses.{few_used}
 use Rattle.program_fetch.specs.Pieces.{piece_gates}
 use Rattle.program_fetch.proofs.PieceSteps.{first_step}
-use Rattle.walks.specs.Halts.{Going}
 use Rattle.walks.proofs.Within.{going_from, passed}
-use Rattle.calls.specs.Lent.{worker_with}
 use Rattle.worker.proofs.walk.walk_piece.Goals as goal
 
 pub loop-at-init : goal.loop-at-init
