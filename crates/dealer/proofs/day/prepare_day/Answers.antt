@@ -10,42 +10,44 @@ use Rattle.dealer.proofs.day.prepare_day.Goals as goal
 
 pub returns-then-found-ne0 : goal.returns-then-found-ne0
 returns-then-found-ne0 c =
-    let d = c in
-    let s = d.args in
+    let s = c.args in
     day_refused s.table.now s.shares.now (hours s.calendar.now s.weekday) s.a.now s.b.now s.deals.now _
-    d.check_day_dealer-found.ensures.fault c.if-found-ne0.true
+    c.check_day_dealer-found.ensures.fault c.if-found-ne0.true
 
 pub deal_day-used-requires : goal.deal_day-used-requires
 deal_day-used-requires c =
-    let f = c in
-    let d = f in
-    let s = d.args in
-    let H = hours s.calendar.now s.weekday in (
-      (day_lent s.table.now s.shares.now H s.a.now s.b.now s.deals.now ((sym (ap (λ (f : Fault). f.0) f.check_day_dealer-found.ensures.fault) ∙ f.if-found-ne0.false))).0,
+    let H = hours c.args.calendar.now c.args.weekday in
+    let found = c.check_day_dealer-found in
+    let none = sym (ap (λ (f : Fault). f.0) found.ensures.fault) ∙ c.if-found-ne0.false in
+    let day = subst (λ (n : ℕ). DayIs n c.args.table.now H found.result.day found.result.whole) c.if-found-ne0.false found.ensures.day in
+    let s = c.args in (
+      (day_lent s.table.now s.shares.now H s.a.now s.b.now s.deals.now none).0,
       refl,
       refl,
-      n_is s.table.now s.shares.now H s.a.now s.b.now s.deals.now ((sym (ap (λ (f : Fault). f.0) f.check_day_dealer-found.ensures.fault) ∙ f.if-found-ne0.false)) _ ((let d = f in let s = d.args in subst (λ (n : ℕ). DayIs n s.table.now (hours s.calendar.now s.weekday) d.check_day_dealer-found.result.day d.check_day_dealer-found.result.whole) f.if-found-ne0.false d.check_day_dealer-found.ensures.day)),
-      day_room s.table.now s.shares.now H s.a.now s.b.now s.deals.now ((sym (ap (λ (f : Fault). f.0) f.check_day_dealer-found.ensures.fault) ∙ f.if-found-ne0.false)) _ ((let d = f in let s = d.args in subst (λ (n : ℕ). DayIs n s.table.now (hours s.calendar.now s.weekday) d.check_day_dealer-found.result.day d.check_day_dealer-found.result.whole) f.if-found-ne0.false d.check_day_dealer-found.ensures.day)) _ _,
+      n_is s.table.now s.shares.now H s.a.now s.b.now s.deals.now none _ day,
+      day_room s.table.now s.shares.now H s.a.now s.b.now s.deals.now none _ day _ _,
     )
 
 pub overflow_cast-result : goal.overflow_cast-result
 overflow_cast-result c =
-    let j = c in
-    let f = j in
-    let s = f.args in
+    let H = hours c.args.calendar.now c.args.weekday in
+    let found = c.check_day_dealer-found in
+    let none = sym (ap (λ (f : Fault). f.0) found.ensures.fault) ∙ c.if-found-ne0.false in
+    let day = subst (λ (n : ℕ). DayIs n c.args.table.now H found.result.day found.result.whole) c.if-found-ne0.false found.ensures.day in
+    let s = c.args in
     omega (
       arith,
-      few_dealt s.table.now s.shares.now (hours s.calendar.now s.weekday) s.a.now s.b.now s.deals.now ((sym (ap (λ (f : Fault). f.0) f.check_day_dealer-found.ensures.fault) ∙ f.if-found-ne0.false)) _
-          ((let d = f in let s = d.args in subst (λ (n : ℕ). DayIs n s.table.now (hours s.calendar.now s.weekday) d.check_day_dealer-found.result.day d.check_day_dealer-found.result.whole) f.if-found-ne0.false d.check_day_dealer-found.ensures.day)) _ _ _ _ j.deal_day-used.ensures.dealt,
+      few_dealt s.table.now s.shares.now H s.a.now s.b.now s.deals.now none _
+          day _ _ _ _ c.deal_day-used.ensures.dealt,
     )
 
 pub returns : goal.returns
 returns c =
-    let r = c in
-    let p = r in
-    let j = p in
-    let f = j in
-    let s = f.args in
-    day_answer s.table.now s.shares.now (hours s.calendar.now s.weekday) s.a.now s.b.now s.deals.now ((sym (ap (λ (f : Fault). f.0) f.check_day_dealer-found.ensures.fault) ∙ f.if-found-ne0.false)) _
-    ((let d = f in let s = d.args in subst (λ (n : ℕ). DayIs n s.table.now (hours s.calendar.now s.weekday) d.check_day_dealer-found.result.day d.check_day_dealer-found.result.whole) f.if-found-ne0.false d.check_day_dealer-found.ensures.day)) _ _ _ _ j.deal_day-used.ensures.dealt j.deal_day-used.ensures.long.0 j.deal_day-used.ensures.long.1
-    _ _ (r.registers-kept1.ensures ∙ ap (take 16) p.put.ensures) (c.registers-kept2.ensures ∙ ap (take 16) r.put-2.ensures)
+    let H = hours c.args.calendar.now c.args.weekday in
+    let found = c.check_day_dealer-found in
+    let none = sym (ap (λ (f : Fault). f.0) found.ensures.fault) ∙ c.if-found-ne0.false in
+    let day = subst (λ (n : ℕ). DayIs n c.args.table.now H found.result.day found.result.whole) c.if-found-ne0.false found.ensures.day in
+    let s = c.args in
+    day_answer s.table.now s.shares.now H s.a.now s.b.now s.deals.now none _
+    day _ _ _ _ c.deal_day-used.ensures.dealt c.deal_day-used.ensures.long.0 c.deal_day-used.ensures.long.1
+    _ _ (c.registers-kept1.ensures ∙ ap (take 16) c.put.ensures) (c.registers-kept2.ensures ∙ ap (take 16) c.put-2.ensures)

@@ -99,10 +99,8 @@ hear_there-requires c =
 
 pub returns : goal.returns
 returns c =
-    let el = c in
-    let sa = el in
-    let a = sa.args in
+    let a = c.args in
     c.hear_there.ensures
     ∙ ap (λ (u : Stored). day_hear 32 a.host a.table.now a.shares.now (hours a.calendar.now a.weekday) a.masks.now
     a.deals.now (state_with a.m a.mask a.order a.turn u) a.heard)
-    (sym (are_equal a.stored _ _ refl _ el.are_same.ensures el.if-not-are_same.false-raw))
+    (sym (are_equal a.stored _ _ refl _ c.are_same.ensures c.if-not-are_same.false-raw))

@@ -11,10 +11,6 @@ returns-then-not-is_run c = rw (sym c.is_run.ensures ∙ not-true _ c.if-not-is_
 pub returns : goal.returns
 unfolding sought_run
 returns c =
-    let oa = c in
-    let ow = oa in
-    let e = ow in
-    let ir = e in
-    let a = ir.args in
-    rw (sym ir.is_run.ensures ∙ not-false _ e.if-not-is_run.false-raw)
-    (c.seek.ensures.is ∙ own_sought a.table.now a.order a.turn _ ow.order_words-job.ensures _ oa.order_at.ensures)
+    let a = c.args in
+    rw (sym c.is_run.ensures ∙ not-false _ c.if-not-is_run.false-raw)
+    (c.seek.ensures.is ∙ own_sought a.table.now a.order a.turn _ c.order_words-job.ensures _ c.order_at.ensures)

@@ -10,12 +10,9 @@ use Rattle.worker.proofs.day_place.used_before.Goals as goal
 
 pub used_by-requires : goal.used_by-requires
 used_by-requires c =
-    let s = c in
-    (s.requires.0, omega (arith, c.counted_before.ensures, number_le (held s.args.day.quarters) 0 s.args.order, s.requires.1))
+    (c.requires.0, omega (arith, c.counted_before.ensures, number_le (held c.args.day.quarters) 0 c.args.order, c.requires.1))
 
 pub returns : goal.returns
 unfolding used_until
 returns c =
-    let b = c in
-    let s = b in
-    c.used_by.ensures ∙ ap (λ (n : ℕ). times_cost n (counted s.args.day.curve)) b.counted_before.ensures
+    c.used_by.ensures ∙ ap (λ (n : ℕ). times_cost n (counted c.args.day.curve)) c.counted_before.ensures

@@ -9,5 +9,4 @@ returns-then-u-v-2 c = rw (eq-eqb _ _ c.if-u-v.false, ne_eqb _ _ c.if-u-v-2.true
 
 pub returns : goal.returns
 returns c =
-    let t = c in
-    rw (eq-eqb _ _ t.if-u-v.false, eq-eqb _ _ t.if-u-v-2.false)
+    rw (eq-eqb _ _ c.if-u-v.false, eq-eqb _ _ c.if-u-v-2.false)

@@ -10,10 +10,8 @@ returns-then-turn-ne0 c = rw (eq-eqb _ _ c.if-order-n.false, ne_eqb _ _ c.if-tur
 
 pub returns-then-are_same : goal.returns-then-are_same
 returns-then-are_same c =
-    let t = c in
-    rw (eq-eqb _ _ t.if-order-n.false, eq-eqb _ _ t.if-turn-ne0.false, sym c.are_same.ensures ∙ c.if-are_same.true)
+    rw (eq-eqb _ _ c.if-order-n.false, eq-eqb _ _ c.if-turn-ne0.false, sym c.are_same.ensures ∙ c.if-are_same.true)
 
 pub returns : goal.returns
 returns c =
-    let t = c in
-    rw (eq-eqb _ _ t.if-order-n.false, eq-eqb _ _ t.if-turn-ne0.false, sym c.are_same.ensures ∙ c.if-are_same.false)
+    rw (eq-eqb _ _ c.if-order-n.false, eq-eqb _ _ c.if-turn-ne0.false, sym c.are_same.ensures ∙ c.if-are_same.false)

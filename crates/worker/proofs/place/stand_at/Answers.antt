@@ -19,18 +19,15 @@ places_with-requires c =
 
 pub returns : goal.returns
 returns c =
-    let u = c in
-    let g = u in
-    let f = g in
-    let a = f.args in
+    let a = c.args in
     record {
       gate = refl;
       a_used = refl;
       b_used = refl;
       deals_used = refl;
       fetches = λ h e. read_at 32 _ h
-          (g.gate_at-g.ensures ∙ gate_there 32 (rows a.table.now) a.o a.gate _ (piece_stands f.piece_at-p.ensures) h e);
+          (c.gate_at-g.ensures ∙ gate_there 32 (rows a.table.now) a.o a.gate _ (piece_stands c.piece_at-p.ensures) h e);
       places = c.places_with.ensures
           ∙ ap (λ (y : Used). stored_places (a.used.a + a.a + y.a) (a.used.b + a.turn + 1) (a.used.deals + a.dealt + y.deals))
-          u.used_by.ensures;
+          c.used_by.ensures;
     }

@@ -14,25 +14,18 @@ use Rattle.worker.proofs.starting.start.Goals as goal
 
 pub returns-then-lent-ne0 : goal.returns-then-lent-ne0
 returns-then-lent-ne0 c =
-    let k = c in
-    let x = k in
-    let e₀ = x in
-    let a = e₀.args in
+    let a = c.args in
     c.refused.ensures
     ∙ ap (refused _) c.first_state.ensures
     ∙ start_refused a.host (job_script 32 a.job.now a.table.now) a.masks.now a.deals.now _ _
-    k.check_lent-lent.ensures.fault
-    (lanes_of a.registers) _ _ (x.copy_front.ensures ∙ given_registers a.registers.m (search rules))
-    (k.copy_front-2.ensures ∙ given_registers a.registers.mask (search rules)) c.if-lent-ne0.true
+    c.check_lent-lent.ensures.fault
+    (lanes_of a.registers) _ _ (c.copy_front.ensures ∙ given_registers a.registers.m (search rules))
+    (c.copy_front-2.ensures ∙ given_registers a.registers.mask (search rules)) c.if-lent-ne0.true
 
 pub advance-h-requires : goal.advance-h-requires
 advance-h-requires c =
-    let e = c in
-    let k = e in
-    let x = k in
-    let e₀ = x in
-    let a = e₀.args in
-    let none = ap (λ (f : Fault). f.0) (sym k.check_lent-lent.ensures.fault) ∙ e.if-lent-ne0.false in (
+    let a = c.args in
+    let none = ap (λ (f : Fault). f.0) (sym c.check_lent-lent.ensures.fault) ∙ c.if-lent-ne0.false in (
       sized a.job.now a.table.now (no_fault _ (job_script 32 a.job.now a.table.now) _ _ none),
       omega arith,
       omega arith,
@@ -42,15 +35,11 @@ advance-h-requires c =
 
 pub returns : goal.returns
 returns c =
-    let e = c in
-    let k = e in
-    let x = k in
-    let e₀ = x in
-    let a = e₀.args in
+    let a = c.args in
     let J = a.job.now in
     let T = a.table.now in
     c.answered.ensures
     ∙ c.advance-h.ensures
-    ∙ started a.host (job_script 32 J T) a.masks.now a.deals.now _ _ k.check_lent-lent.ensures.fault (lanes_of a.registers) _ _
-    (x.copy_front.ensures ∙ given_registers a.registers.m (search rules))
-    (k.copy_front-2.ensures ∙ given_registers a.registers.mask (search rules)) 32 (job_gates 32 J T) (job_made 32 J T) e.if-lent-ne0.false
+    ∙ started a.host (job_script 32 J T) a.masks.now a.deals.now _ _ c.check_lent-lent.ensures.fault (lanes_of a.registers) _ _
+    (c.copy_front.ensures ∙ given_registers a.registers.m (search rules))
+    (c.copy_front-2.ensures ∙ given_registers a.registers.mask (search rules)) 32 (job_gates 32 J T) (job_made 32 J T) c.if-lent-ne0.false

@@ -20,95 +20,75 @@ use Rattle.worker.proofs.walk.advance.Goals as goal
 
 pub loop-order-init : goal.loop-order-init
 loop-order-init c =
-    let s = c in
-    let p = s.requires in
-    (refl, p.1, omega (arith, s.ranges.order), omega (arith, p), omega (arith, p), omega arith, refl)
+    let p = c.requires in
+    (refl, p.1, omega (arith, c.ranges.order), omega (arith, p), omega (arith, p), omega arith, refl)
 
 pub overflow_add-order : goal.overflow_add-order
 overflow_add-order c = omega arith
 
 pub loop-order-smaller-then-adds_here : goal.loop-order-smaller-then-adds_here
 loop-order-smaller-then-adds_here c =
-    let k = c in
-    omega (arith, k.loop-order-test.true)
+    omega (arith, c.loop-order-test.true)
 
 pub loop-order-preserved-then-adds_here : goal.loop-order-preserved-then-adds_here
 loop-order-preserved-then-adds_here c =
-    let t = c in
-    let q = t in
-    let k = q in
-    let l = k.loop-order in
-    let s = k in
-    let a = s.args in
+    let l = c.loop-order in
+    let a = c.args in
     let J = a.job.now in
     let T = a.table.now in
-    let h = (let fact : (k.loop-order.order < length k.args.job.now / 4) = omega (arith, k.loop-order-test.true, k.loop-order.invariant.0) in fact) in
-    let first = here _ _ (sym t.if-adds_here.true ∙ t.adds_here.ensures) in
+    let h : c.loop-order.order < length c.args.job.now / 4 = omega (arith, c.loop-order-test.true, c.loop-order.invariant.0) in
+    let first = here _ _ (sym c.if-adds_here.true ∙ c.adds_here.ensures) in
     let next =
     at_once 32 a.host a.masks.now a.deals.now (job_gates 32 J T) l.order l.turn l.at.gate l.at.a a.b
-    l.at.deals (l.m, l.mask) _ (order_there 32 J T l.order h _ q.order_at-o.ensures) first.0 _ _
+    l.at.deals (l.m, l.mask) _ (order_there 32 J T l.order h _ c.order_at-o.ensures) first.0 _ _
     (additive_steps 32 (rows T) _ first.1) _ _ c.add_in_place.ensures.0 c.add_in_place.ensures.1 in (
       l.invariant.0,
       l.invariant.1,
-      omega (arith, h, s.requires.0.few_words),
+      omega (arith, h, c.requires.0.few_words),
       omega (arith, l.invariant.3),
       omega (arith, l.invariant.4),
-      omega (arith, h, s.requires.0.few_words),
+      omega (arith, h, c.requires.0.few_words),
       sym next ∙ l.invariant.6,
     )
 
 pub walk_piece-stop-requires : goal.walk_piece-stop-requires
 walk_piece-stop-requires c =
-    let d = c in
-    let k = d in
-    let l = k.loop-order.invariant in
-    let p = k.requires in
-    let S = piece_stands d.piece_at-p.ensures in
-    let h = (let fact : (k.loop-order.order < length k.args.job.now / 4) = omega (arith, k.loop-order-test.true, k.loop-order.invariant.0) in fact) in
+    let l = c.loop-order.invariant in
+    let p = c.requires in
+    let S = piece_stands c.piece_at-p.ensures in
+    let h : c.loop-order.order < length c.args.job.now / 4 = omega (arith, c.loop-order-test.true, c.loop-order.invariant.0) in
     (S.end, S.few, omega (arith, l.1, l.3, h, p.0.few_words), omega (arith, l.1, l.4, h, p.0.few_words))
 
 pub places_with-stored-requires : goal.places_with-stored-requires
 places_with-stored-requires c =
-    let q = c in
-    let d = q in
-    let k = d in
-    let l = k.loop-order in
-    let s = k in
-    let S = piece_stands d.piece_at-p.ensures in
-    let h = (let fact : (k.loop-order.order < length k.args.job.now / 4) = omega (arith, k.loop-order-test.true, k.loop-order.invariant.0) in fact) in
-    let f = few_used 32 (rows s.args.table.now) _ l.at.gate _ S _ _ _ _ _ _ _ _ q.walk_piece-stop.ensures.0 in
-    let g = Uses.few_used (step_of 32 q.walk_piece-stop.result.gate) _ c.used_by.ensures in (
+    let l = c.loop-order in
+    let S = piece_stands c.piece_at-p.ensures in
+    let h : c.loop-order.order < length c.args.job.now / 4 = omega (arith, c.loop-order-test.true, c.loop-order.invariant.0) in
+    let f = few_used 32 (rows c.args.table.now) _ l.at.gate _ S _ _ _ _ _ _ _ _ c.walk_piece-stop.ensures.0 in
+    let g = Uses.few_used (step_of 32 c.walk_piece-stop.result.gate) _ c.used_by.ensures in (
       omega (arith, g),
       omega (arith, g),
-      omega (arith, f, S.few, l.invariant.1, l.invariant.3, h, s.requires.0.few_words),
-      omega (arith, f, S.few, l.invariant.1, l.invariant.4, h, s.requires.0.few_words),
-      omega (arith, s.requires.4),
+      omega (arith, f, S.few, l.invariant.1, l.invariant.3, h, c.requires.0.few_words),
+      omega (arith, f, S.few, l.invariant.1, l.invariant.4, h, c.requires.0.few_words),
+      omega (arith, c.requires.4),
     )
 
 pub overflow_cast-order-then-g-lt-PAST : goal.overflow_cast-order-then-g-lt-PAST
 overflow_cast-order-then-g-lt-PAST c =
-    let t = c in
-    let l = t in
-    omega (arith, l.loop-order.invariant.2)
+    omega (arith, c.loop-order.invariant.2)
 
 pub returns-then-g-lt-PAST : goal.returns-then-g-lt-PAST
 returns-then-g-lt-PAST c =
-    let w = c in
-    let y = w in
-    let t = y in
-    let q = t in
-    let d = q in
-    let k = d in
-    let l = k.loop-order in
-    let a = k.args in
+    let l = c.loop-order in
+    let a = c.args in
     let J = a.job.now in
     let T = a.table.now in
-    let there = order_there 32 J T l.order ((let fact : (k.loop-order.order < length k.args.job.now / 4) = omega (arith, k.loop-order-test.true, k.loop-order.invariant.0) in fact)) _ d.order_at-o.ensures in
-    let r = q.walk_piece-stop.ensures in
+    let there = order_there 32 J T l.order (omega (arith, c.loop-order-test.true, c.loop-order.invariant.0)) _ c.order_at-o.ensures in
+    let r = c.walk_piece-stop.ensures in
     c.halted.ensures _ _
-    ∙ sym (at_exchange 32 (rows T) _ l.at.gate _ (piece_stands d.piece_at-p.ensures) a.host a.masks.now a.deals.now
+    ∙ sym (at_exchange 32 (rows T) _ l.at.gate _ (piece_stands c.piece_at-p.ensures) a.host a.masks.now a.deals.now
     (job_gates 32 J T) l.order l.turn l.at.a a.b l.at.deals (l.m, l.mask) there _ _ _ _ _ r.0 _ r.1 r.2
-    t.if-g-lt-PAST.true _ y.say-word.ensures _ w.used_by.ensures _ w.places_with-stored.ensures)
+    c.if-g-lt-PAST.true _ c.say-word.ensures _ c.used_by.ensures _ c.places_with-stored.ensures)
     ∙ l.invariant.6
 
 pub overflow_add-order-then-p : goal.overflow_add-order-then-p
@@ -116,69 +96,72 @@ overflow_add-order-then-p c = omega arith
 
 pub overflow_sub-gate : goal.overflow_sub-gate
 overflow_sub-gate c =
-    let d = c in
-    omega (arith, (piece_stands d.piece_at-p.ensures).some c.if-p.false)
+    omega (arith, (piece_stands c.piece_at-p.ensures).some c.if-p.false)
 
 pub overflow_add-gate : goal.overflow_add-gate
-overflow_add-gate c = omega (arith, ((let fact : (let d = c in let p = d.piece_at-p.result in (p.from < p.end) × (d.loop-order.at.gate + (p.end - p.from) ≤ 1000)) = let e = c in let d = e in let k = d in let s = k in let a = s.args in let S = piece_stands d.piece_at-p.ensures in let l = k.loop-order in let short = short_order 32 a.job.now a.table.now s.requires.0 l.order ((let fact : (k.loop-order.order < length k.args.job.now / 4) = omega (arith, k.loop-order-test.true, k.loop-order.invariant.0) in fact)) _ d.order_at-o.ensures in (S.some e.if-p.false, omega (arith, still_within 32 _ _ l.at.gate _ S e.if-p.false, short)) in fact)).1)
+overflow_add-gate c =
+    let S = piece_stands c.piece_at-p.ensures in
+    let short = short_order 32 c.args.job.now c.args.table.now c.requires.0 c.loop-order.order
+    (omega (arith, c.loop-order-test.true, c.loop-order.invariant.0)) _ c.order_at-o.ensures in
+    omega (arith, still_within 32 _ _ c.loop-order.at.gate _ S c.if-p.false, short)
 
 pub loop-order-smaller-then-p : goal.loop-order-smaller-then-p
 loop-order-smaller-then-p c = omega arith
 
 pub loop-order-preserved-then-p : goal.loop-order-preserved-then-p
 loop-order-preserved-then-p c =
-    let q = c in
-    let d = q in
-    let k = d in
-    let l = k.loop-order in
-    let s = k in
-    let a = s.args in
+    let l = c.loop-order in
+    let a = c.args in
     let J = a.job.now in
     let T = a.table.now in
     let M = a.masks.now in
     let D = a.deals.now in
-    let S = piece_stands d.piece_at-p.ensures in
-    let h = (let fact : (k.loop-order.order < length k.args.job.now / 4) = omega (arith, k.loop-order-test.true, k.loop-order.invariant.0) in fact) in
-    let there = order_there 32 J T l.order h _ d.order_at-o.ensures in
-    let r = q.walk_piece-stop.ensures in
+    let S = piece_stands c.piece_at-p.ensures in
+    let h : c.loop-order.order < length c.args.job.now / 4 = omega (arith, c.loop-order-test.true, c.loop-order.invariant.0) in
+    let there = order_there 32 J T l.order h _ c.order_at-o.ensures in
+    let r = c.walk_piece-stop.ensures in
     let f = few_used 32 (rows T) _ l.at.gate _ S _ _ _ _ _ _ _ _ r.0 in
     let next =
     next_order 32 (rows T) _ l.at.gate _ S a.host M D (job_gates 32 J T) l.order l.turn l.at.a a.b l.at.deals
     (l.m, l.mask) there _ _ _ _ _ r.0 _ r.1 c.if-g-lt-PAST.false c.if-p.true in (
       l.invariant.0,
       omega arith,
-      omega (arith, h, s.requires.0.few_words),
+      omega (arith, h, c.requires.0.few_words),
       omega (arith, f, S.few, l.invariant.1, l.invariant.3),
       omega (arith, f, S.few, l.invariant.1, l.invariant.4),
-      omega (arith, h, s.requires.0.few_words),
+      omega (arith, h, c.requires.0.few_words),
       sym next ∙ l.invariant.6,
     )
 
 pub loop-order-smaller : goal.loop-order-smaller
-loop-order-smaller c = omega (arith, (let fact : (let d = c in let p = d.piece_at-p.result in (p.from < p.end) × (d.loop-order.at.gate + (p.end - p.from) ≤ 1000)) = let e = c in let d = e in let k = d in let s = k in let a = s.args in let S = piece_stands d.piece_at-p.ensures in let l = k.loop-order in let short = short_order 32 a.job.now a.table.now s.requires.0 l.order ((let fact : (k.loop-order.order < length k.args.job.now / 4) = omega (arith, k.loop-order-test.true, k.loop-order.invariant.0) in fact)) _ d.order_at-o.ensures in (S.some e.if-p.false, omega (arith, still_within 32 _ _ l.at.gate _ S e.if-p.false, short)) in fact))
+loop-order-smaller c =
+    let S = piece_stands c.piece_at-p.ensures in
+    let short = short_order 32 c.args.job.now c.args.table.now c.requires.0 c.loop-order.order
+    (omega (arith, c.loop-order-test.true, c.loop-order.invariant.0)) _ c.order_at-o.ensures in
+    omega (arith, S.some c.if-p.false, still_within 32 _ _ c.loop-order.at.gate _ S c.if-p.false, short)
 
 pub loop-order-preserved : goal.loop-order-preserved
 loop-order-preserved c =
-    let e = c in
-    let q = e in
-    let d = q in
-    let k = d in
-    let l = k.loop-order in
-    let s = k in
-    let a = s.args in
+    let l = c.loop-order in
+    let a = c.args in
     let J = a.job.now in
     let T = a.table.now in
     let M = a.masks.now in
     let D = a.deals.now in
-    let S = piece_stands d.piece_at-p.ensures in
-    let there = order_there 32 J T l.order ((let fact : (k.loop-order.order < length k.args.job.now / 4) = omega (arith, k.loop-order-test.true, k.loop-order.invariant.0) in fact)) _ d.order_at-o.ensures in
-    let r = q.walk_piece-stop.ensures in
+    let S = piece_stands c.piece_at-p.ensures in
+    let there = order_there 32 J T l.order (omega (arith, c.loop-order-test.true, c.loop-order.invariant.0)) _ c.order_at-o.ensures in
+    let r = c.walk_piece-stop.ensures in
     let f = few_used 32 (rows T) _ l.at.gate _ S _ _ _ _ _ _ _ _ r.0 in
     let next =
     next_piece 32 (rows T) _ l.at.gate _ S a.host M D (job_gates 32 J T) l.order l.turn l.at.a a.b l.at.deals
-    (l.m, l.mask) there _ _ _ _ _ r.0 _ r.1 e.if-g-lt-PAST.false e.if-p.false in (
+    (l.m, l.mask) there _ _ _ _ _ r.0 _ r.1 c.if-g-lt-PAST.false c.if-p.false in (
       l.invariant.0,
-      ((let fact : (let d = c in let p = d.piece_at-p.result in (p.from < p.end) × (d.loop-order.at.gate + (p.end - p.from) ≤ 1000)) = let e = c in let d = e in let k = d in let s = k in let a = s.args in let S = piece_stands d.piece_at-p.ensures in let l = k.loop-order in let short = short_order 32 a.job.now a.table.now s.requires.0 l.order ((let fact : (k.loop-order.order < length k.args.job.now / 4) = omega (arith, k.loop-order-test.true, k.loop-order.invariant.0) in fact)) _ d.order_at-o.ensures in (S.some e.if-p.false, omega (arith, still_within 32 _ _ l.at.gate _ S e.if-p.false, short)) in fact)).1,
+      omega (
+        arith,
+        still_within 32 _ _ l.at.gate _ S c.if-p.false,
+        short_order 32 J T c.requires.0 l.order
+            (omega (arith, c.loop-order-test.true, c.loop-order.invariant.0)) _ c.order_at-o.ensures,
+      ),
       l.invariant.2,
       omega (arith, f, l.invariant.3),
       omega (arith, f, l.invariant.4),
@@ -192,17 +175,15 @@ overflow_cast-order-2 c = omega (arith, c.loop-order.invariant.2)
 pub places_at-requires : goal.places_at-requires
 places_at-requires c =
     let v = c.loop-order.invariant in
-    let s = c in
-    (omega (arith, v.1, v.3, v.5), omega (arith, v.1, v.4, v.5), omega (arith, s.requires.4))
+    (omega (arith, v.1, v.3, v.5), omega (arith, v.1, v.4, v.5), omega (arith, c.requires.4))
 
 pub returns : goal.returns
 returns c =
-    let y = c in
-    let l = y.loop-order in
-    let a = y.args in
+    let l = c.loop-order in
+    let a = c.args in
     let J = a.job.now in
     let T = a.table.now in
-    let over = gates_over 32 J T l.order (omega (arith, y.loop-order-test.false, l.invariant.0)) in
+    let over = gates_over 32 J T l.order (omega (arith, c.loop-order-test.false, l.invariant.0)) in
     c.halted-2.ensures _ _
     ∙ ap (λ (u : Stored). going_on u.b 0 l.m l.mask l.order l.turn u) c.places_at.ensures
     ∙ sym (finished 32 a.host a.masks.now a.deals.now (job_gates 32 J T) l.order l.turn l.at.gate l.at.a a.b
