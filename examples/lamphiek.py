@@ -121,7 +121,7 @@ def curve(library, mode, reading, factor_a=2654435769, factor_b=2246822519):
     one.m[0], one.mask[0] = shares.host1.m, shares.host1.l
     two.m[0], two.mask[0] = shares.host2.m, shares.host2.l
     prepared = completed(library.lamphiek_prepare(masks, *job, *lent(a, b, deals)))
-    lent1, lent2 = job + lent(a) + [None, 0], job + lent(b, deals)  # the deals are host 2's alone
+    lent1, lent2 = job + lent(a) + [None, 0], job + lent(b, deals)
     from1 = completed(library.lamphiek_start(one, 1, *lent1))
     from2 = completed(library.lamphiek_start(two, 2, *lent2))
     while one.order < 1:

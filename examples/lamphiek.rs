@@ -110,13 +110,13 @@ pub struct Job<'a> {
     pub table: &'a [u32],
 }
 
-/// A worker with its mask list, made by `one` or `two`; the deals are host 2's alone.
+/// A worker with its mask list; host 1 has no deals.
 #[derive(Clone, Copy)]
 pub struct Worker<'a> {
-    host: u32,
-    job: Job<'a>,
-    masks: &'a [u32],
-    deals: &'a [u32],
+    pub host: u32,
+    pub job: Job<'a>,
+    pub masks: &'a [u32],
+    pub deals: &'a [u32],
 }
 
 pub fn split(reading: i64, l1: u32, l2: u32) -> Result<Shares, Refused> {
@@ -170,17 +170,7 @@ impl Job<'_> {
     }
 }
 
-impl<'a> Worker<'a> {
-    /// Host 1, which is lent no deals: with them and list A it could learn what it is not to know.
-    pub fn one(job: Job<'a>, a: &'a [u32]) -> Self {
-        Worker { host: 1, job, masks: a, deals: &[] }
-    }
-
-    /// Host 2, with the deals that host 0 prepared.
-    pub fn two(job: Job<'a>, b: &'a [u32], deals: &'a [u32]) -> Self {
-        Worker { host: 2, job, masks: b, deals }
-    }
-
+impl Worker<'_> {
     pub fn start(&self, state: &mut State) -> Result<Answer, Refused> {
         let Worker { host, job: Job { orders, table }, masks, deals } = *self;
         let answer = unsafe {
@@ -223,7 +213,8 @@ fn curve(mode: u32, reading: i64) -> Result<(i64, u32, u32), Refused> {
     (one.m[0], one.mask[0]) = (shares.host1.m, shares.host1.l);
     (two.m[0], two.mask[0]) = (shares.host2.m, shares.host2.l);
     let prepared = job.prepare(&mut masks, &a, &b, &mut deals)?;
-    let (host1, host2) = (Worker::one(job, &a), Worker::two(job, &b, &deals));
+    let host1 = Worker { host: 1, job, masks: &a, deals: &[] };
+    let host2 = Worker { host: 2, job, masks: &b, deals: &deals };
     let (mut from1, mut from2) = (host1.start(&mut one)?, host2.start(&mut two)?);
     while one.order < 1 {
         (from1, from2) = (host1.hear(&mut one, from2.word)?, host2.hear(&mut two, from1.word)?);

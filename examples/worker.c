@@ -18,7 +18,7 @@ enum { HOTEL, OTHER, DEALER, PEERS }; /* the other worker; the dealer calls host
 struct worker {
     uint32_t host; /* 1 or 2 */
     struct wire peer[PEERS];
-    struct word_list masks, deals; /* host 1: no deals, NULL and 0; host 0 sends them to host 2 alone */
+    struct word_list masks, deals;
     lamphiek_state state;
     uint32_t job[LAMPHIEK_JOB_WORDS], job_words, table[LAMPHIEK_HOUSE_WORDS];
 };

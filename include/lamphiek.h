@@ -36,8 +36,7 @@
  * job's or a day's, nor on which calendar: it goes on with the calls that began it.
  *
  * What they owe for nobody to learn a reading: every mask word is drawn at random and used once, for one split, one job
- * or one day, also where a job or a day broke off; and the deals go from host 0 to host 2 alone: host 1, which has list
- * A, is lent none.
+ * or one day, also where a job or a day broke off.
  *
  * The library is built for x86-64 Linux. Its calls need less than 2,048 bytes of stack, beside what memcpy needs; where
  * that is bound lazily, the call that first comes to it needs more.
@@ -244,13 +243,9 @@ lamphiek_answer lamphiek_prepare(lamphiek_masks *masks, const uint32_t *job, siz
                                  size_t table_words, const uint32_t *a, size_t a_words, const uint32_t *b,
                                  size_t b_words, uint32_t *deals, size_t deals_words);
 
-/* ---- host 1 (masks: list A; deals: NULL and 0) and host 2 (masks: list B; deals: those of host 0).
+/* ---- host 1 (masks: list A; deals: may be NULL and 0) and host 2 (masks: list B; deals: those of host 0).
  * word: the word to speak, which may be 0 too. At the end (order is job_words / 4) there is none, and 0 is given.
- * count: how many words this host has spoken, the one to speak now included.
- *
- * Host 1 is lent NULL and 0 for the deals, in every call: it sees list A, its shares and host 2's words (R-8). The
- * deals are host 2's alone, since a host that had list A and the deals could learn what the masks hide. No call can
- * check this: for host 1 it looks neither at deals nor at their count. */
+ * count: how many words this host has spoken, the one to speak now included. */
 
 /* Starts a job from the registers in the state, whatever its kept words, place and stored places are. Writes the state.
  * Numbers 1 to 7. */
@@ -293,8 +288,7 @@ lamphiek_answer lamphiek_day_prepare(lamphiek_masks *masks, const uint32_t *tabl
                                      const uint32_t *b, size_t b_words, uint32_t *deals, size_t deals_words);
 
 /* Hosts 1 and 2: as lamphiek_start and lamphiek_hear, word and count too; the end is order 97. Starting only writes the
- * state. deals: host 2 is lent those of host 0, host 1 NULL and 0 here too, since it may not see them. Numbers 1, 12,
- * 16, 17, then 5 to 7; hearing then 8, in a quarter that is left out too, 18, 9. */
+ * state. Numbers 1, 12, 16, 17, then 5 to 7; hearing then 8, in a quarter that is left out too, 18, 9. */
 lamphiek_answer lamphiek_day_start(lamphiek_state *state, uint32_t host, const uint32_t *table, size_t table_words,
                                    const uint32_t *shares, size_t shares_words, const uint32_t *calendar,
                                    size_t calendar_words, uint32_t weekday, const uint32_t *masks, size_t masks_words,
