@@ -1,5 +1,6 @@
 -- R-3: what a day opens, in every run of it; R-6: by the quarters that count. Assumes nothing.
-use Rattle.std.specs.Prelude.{◌≡◌, cond, ◌↔◌, List, ℕ, zero, suc, ◌+◌, ◌*◌, ◌^◌, ◌≤◌, ◌<◌, T, ℤ, pos, neg_ℤ, ◌+ℤ◌, ◌*ℤ◌, length, ◌≤ℤ◌, ◌<ℤ◌}
+use Rattle.std.specs.Prelude.{◌≡◌, cond, ◌↔◌, List, ℕ, zero, suc, ◌+◌, ◌*◌, ◌^◌, ◌≤◌, ◌<◌}
+use Rattle.std.specs.Prelude.{T, ℤ, pos, neg_ℤ, ◌+ℤ◌, ◌*ℤ◌, length, ◌≤ℤ◌, ◌<ℤ◌}
 use Rattle.std.specs.Int.Signed.{lt_z}
 use Rattle.words.specs.Signed.{floor, in_range}
 use Rattle.shares.specs.Sharing.{hand_out, split}

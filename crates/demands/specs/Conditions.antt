@@ -1,6 +1,7 @@
 -- Document 01, "Turned down, in checking order": conditions 1 to 9 of preparation, starting and hearing, and R-7's 18,
 -- in the document's words: what number a call has, and which index. Assumes nothing.
-use Rattle.std.specs.Prelude.{◌≡◌, ◌≢◌, ◌⊎◌, Bool, true, false, cond, List, [], ◌∷◌, ◌++◌, ℕ, zero, suc, ◌≤◌, ◌<◌, eqb, length, get_or, take}
+use Rattle.std.specs.Prelude.{◌≡◌, ◌≢◌, ◌⊎◌, Bool, true, false, cond, List, [], ◌∷◌, ◌++◌}
+use Rattle.std.specs.Prelude.{ℕ, zero, suc, ◌≤◌, ◌<◌, eqb, length, get_or, take}
 use Rattle.gates.specs.Steps.{Step, local, deal, exchange, end}
 use Rattle.gates.specs.Costs.{Cost, cost}
 use Rattle.gates.specs.Meaning.{job_steps}

@@ -1,5 +1,6 @@
 -- Document 01, "Orders" and "Turned down": a job's orders, conditions 2 to 7, and the job's counts. Assumes nothing.
-use Rattle.std.specs.Prelude.{Bool, false, not, ◌&&◌, ◌||◌, cond, List, [], ◌∷◌, map, ℕ, zero, suc, ◌+◌, ◌-◌, ◌*◌, ◌%◌, eqb, ltb, length, get_or}
+use Rattle.std.specs.Prelude.{Bool, false, not, ◌&&◌, ◌||◌, cond, List, [], ◌∷◌, map, ℕ, zero}
+use Rattle.std.specs.Prelude.{suc, ◌+◌, ◌-◌, ◌*◌, ◌%◌, eqb, ltb, length, get_or}
 use Rattle.tables.specs.Table.{rows, keeps_rules}
 use Rattle.gates.specs.Gates.{Gate}
 use Rattle.gates.specs.Steps.{at, Step}

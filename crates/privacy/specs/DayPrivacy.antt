@@ -26,8 +26,8 @@ day_has zero S = S.A ∷ S.B ∷ S.l1 ∷ S.l2 ∷ []
 day_has (suc zero) S = S.A ∷ S.m ∷ S.l1 ∷ []
 day_has (suc (suc h)) S = S.B ∷ S.m ∷ S.l2 ∷ []
 
--- a call, as the host that makes it sees it: all that it is lent and given, and the whole answer; a job's too, which may
--- stand refused in a day
+-- a call, as the host that makes it sees it: all that it is lent and given, and the whole answer; a job's too, which
+-- may stand refused in a day
 pub data DayEvent : Type 0 where
   prepared : (table shares : List ℕ) → Hours → (A B buffer : List ℕ) → Prepared → DayEvent
   started : (host : ℕ) (table shares : List ℕ) → Hours → (masks deals : List ℕ) → Answer → DayEvent
@@ -85,8 +85,8 @@ module _ (w : ℕ) (S : DaySetting) where
   AllRightlyLent (day_complete r c) = AllRightlyLent r × RightlyLent c
   AllRightlyLent (day_refuse r f) = AllRightlyLent r
 
--- beside the run r on S, one on S': the hosts make the same calls, refused ones too, and this host is lent and given the
--- same in each of its own, and answers the same
+-- beside the run r on S, one on S': the hosts make the same calls, refused ones too, and this host is lent and given
+-- the same in each of its own, and answers the same
 pub record DaySeenBeside (w host : ℕ) (S S' : DaySetting) (cs : List Call) (u : DayWorld) (r : DayRun w S cs u)
     : Type 0 where
   pub calls : List Call

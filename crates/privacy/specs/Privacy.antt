@@ -154,8 +154,8 @@ silent turned_down = turned_down
 silent (hearing1 v) = hearing1 0
 silent (hearing2 v) = hearing2 0
 
--- Document 01's runs, in which host 1 is lent no deals. Beside the run r on S, one on S': the hosts make the same calls,
--- refused ones too, and this host is lent and given the same in each of its own, and answers the same
+-- Document 01's runs, in which host 1 is lent no deals. Beside the run r on S, one on S': the hosts make the same
+-- calls, refused ones too, and this host is lent and given the same in each of its own, and answers the same
 pub record SeenBeside (host : ℕ) (S S' : Stage) (cs : List Call) (v : World) (h1 h2 : List Spoken)
     (r : StrictRun S [] cs v h1 h2) : Type 0 where
   pub calls : List Call

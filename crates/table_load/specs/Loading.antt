@@ -1,5 +1,6 @@
 -- Document 02, R-5: what loading a table from bytes gives. A text is its list of bytes. Assumes nothing.
-use Rattle.std.specs.Prelude.{Bool, true, ◌&&◌, not, cond, List, [], ◌∷◌, ◌++◌, ℕ, zero, suc, ◌+◌, ◌-◌, ◌*◌, ◌/◌, ◌%◌, eqb, leb, length, get_or, take, replicate}
+use Rattle.std.specs.Prelude.{Bool, true, ◌&&◌, not, cond, List, [], ◌∷◌, ◌++◌, ℕ, zero, suc, ◌+◌}
+use Rattle.std.specs.Prelude.{◌-◌, ◌*◌, ◌/◌, ◌%◌, eqb, leb, length, get_or, take, replicate}
 use Rattle.tables.specs.Table.{rows, rises}
 use Rattle.table_load.specs.declared.Loaded.{Loaded}
 

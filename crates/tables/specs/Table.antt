@@ -1,5 +1,6 @@
 -- Document 01, "The curve": what a calibration table is, its rules, and the slopes of its segments. Assumes nothing.
-use Rattle.std.specs.Prelude.{Bool, true, false, ◌&&◌, cond, List, [], ◌∷◌, ◌≡◌, ℕ, suc, ◌-◌, ◌*◌, ◌≤◌, ◌<◌, leb, ltb, ℤ, pos, length, get_or}
+use Rattle.std.specs.Prelude.{Bool, true, false, ◌&&◌, cond, List, [], ◌∷◌, ◌≡◌, ℕ, suc}
+use Rattle.std.specs.Prelude.{◌-◌, ◌*◌, ◌≤◌, ◌<◌, leb, ltb, ℤ, pos, length, get_or}
 use Rattle.std.proofs.Math.IntN.{sub_ℕ}
 use Rattle.words.specs.Signed.{floor}
 

@@ -1,5 +1,6 @@
 -- Document 01, "House table by hand": the input's lines, and how a chunk of it is cut into them. Assumes nothing.
-use Rattle.std.specs.Prelude.{Bool, true, false, cond, List, [], ◌∷◌, ◌++◌, map, ℕ, zero, suc, ◌+◌, eqb, length, take, drop}
+use Rattle.std.specs.Prelude.{Bool, true, false, cond, List, [], ◌∷◌, ◌++◌, map}
+use Rattle.std.specs.Prelude.{ℕ, zero, suc, ◌+◌, eqb, length, take, drop}
 use Rattle.text_lines.specs.Buffers.{Buffer, filled, with_byte}
 
 -- ---- the lines of the input

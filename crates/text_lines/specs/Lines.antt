@@ -1,6 +1,7 @@
 -- Document 01, "House table by hand": the lines that rehearsal reads, without their newline; bytes as numbers.
 -- Assumes nothing.
-use Rattle.std.specs.Prelude.{Bool, true, false, ◌&&◌, cond, List, [], ◌∷◌, ℕ, ◌+◌, ◌-◌, ◌*◌, eqb, leb, ltb, ℤ, pos, neg_ℤ, length}
+use Rattle.std.specs.Prelude.{Bool, true, false, ◌&&◌, cond, List, [], ◌∷◌, ℕ, ◌+◌}
+use Rattle.std.specs.Prelude.{◌-◌, ◌*◌, eqb, leb, ltb, ℤ, pos, neg_ℤ, length}
 
 -- what a line asks for: the mode (0 exact, 1 one-bit) and the reading; or the number that it is refused with
 pub data Parsed : Type 0 where

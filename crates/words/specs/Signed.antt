@@ -1,5 +1,6 @@
 -- Whole numbers and words: a word's signed reading, the word of a number, and floors. Assumes nothing.
-use Rattle.std.specs.Prelude.{ℕ, suc, ◌-◌, ◌/◌, ◌%◌, ◌^◌, Bool, cond, ◌&&◌, ℤ, pos, negsuc, neg_ℤ, int_le, int_lt, nat_lt}
+use Rattle.std.specs.Prelude.{ℕ, suc, ◌-◌, ◌/◌, ◌%◌, ◌^◌, Bool, cond, ◌&&◌, ℤ}
+use Rattle.std.specs.Prelude.{pos, negsuc, neg_ℤ, int_le, int_lt, nat_lt}
 use Rattle.std.proofs.Math.IntN.{sub_ℕ}
 
 -- floor(z / m): "floor goes towards minus infinity" (`negsuc n` is -(n + 1))
