@@ -4,7 +4,7 @@ ghost use Rattle.shares.specs.Sharing.{split, reconstruction};
 ghost use Rattle.lamphiek.specs.Layout.{six_in};
 ghost use Rattle.lamphiek.specs.Readings.{shares_left, value_left};
 
-use shares::{DealerShare, Opening, Shares, Sharing, WorkerShare, reconstruct, share};
+use shares::{DealerShare, Disagree, OutOfRange, Shares, WorkerShare, reconstruct, share};
 
 // The shares of a reading under two mask words. Number 11.
 #[unsafe(no_mangle)]
@@ -13,8 +13,8 @@ pub extern "C" fn lamphiek_split(reading: i64, l1: u32, l2: u32, shares: &mut [u
     ensures words { shares.new
         ≡ shares_left (split 32 reading l1 l2) shares.old }
 {
-    let Sharing::Shared(s) = share(reading, l1, l2) else {
-        return 11;
+    let Ok(s) = share(reading, l1, l2) else {
+        return OutOfRange::NUMBER;
     };
     *shares = [s.p0.l1, s.p0.l2, s.p1.m, s.p1.l, s.p2.m, s.p2.l];
     0
@@ -41,8 +41,8 @@ pub extern "C" fn lamphiek_open(shares: &[u32; 6], value: &mut i64) -> u32
             l: shares[5],
         },
     };
-    let Opening::Opened(x) = reconstruct(s) else {
-        return 10;
+    let Ok(x) = reconstruct(s) else {
+        return Disagree::NUMBER;
     };
     *value = x;
     0

@@ -1,10 +1,8 @@
 -- The paper's number and values for each answer of the calls. Assumes nothing.
-use Rattle.std.specs.Prelude.{ℕ, ℤ, pos}
+use Rattle.std.specs.Prelude.{ℕ, ℤ, pos, Result, Ok, Err}
 use Rattle.shares.specs.declared.Shares.{Shares}
-use Rattle.shares.specs.declared.Sharing.{Sharing}
-use Rattle.shares.specs.declared.Sharing.TheVariants.{Shared, OutOfRange}
-use Rattle.shares.specs.declared.Opening.{Opening}
-use Rattle.shares.specs.declared.Opening.TheVariants.{Opened, Disagree}
+use Rattle.shares.specs.declared.OutOfRange.{OutOfRange}
+use Rattle.shares.specs.declared.Disagree.{Disagree}
 use Rattle.shares.specs.Sharing.{Six, nothing}
 
 abbrev pub words : Shares → Six
@@ -18,10 +16,10 @@ words s =
       l2_of_2 = s.p2.l;
     }
 
-abbrev pub sharing : Sharing → ℕ × Six
-sharing (Shared s) = (0, words s)
-sharing OutOfRange = (11, nothing)
+abbrev pub sharing : Result Shares OutOfRange → ℕ × Six
+sharing (Ok s) = (0, words s)
+sharing (Err e) = (11, nothing)
 
-abbrev pub opening : Opening → ℕ × ℤ
-opening (Opened x) = (0, x)
-opening Disagree = (10, pos 0)
+abbrev pub opening : Result ℤ Disagree → ℕ × ℤ
+opening (Ok x) = (0, x)
+opening (Err e) = (10, pos 0)

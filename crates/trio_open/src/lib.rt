@@ -7,7 +7,7 @@ ghost use Rattle.shares.specs.Answers.{opening};
 ghost use Rattle.runs.specs.Runs.{opened_slot};
 
 use dealer::Masks;
-use shares::{DealerShare, Opening, Shares, WorkerShare, reconstruct};
+use shares::{DealerShare, Disagree, Shares, WorkerShare, reconstruct};
 use word_lists::word_at;
 use worker::State;
 
@@ -24,7 +24,7 @@ fn held(s: State, register: usize) -> WorkerShare
 }
 
 // What a register, 0 to 15, opens: host 0 gives its masks, hosts 1 and 2 their states.
-pub fn opened(masks: Masks, one: State, two: State, register: usize) -> Opening
+pub fn opened(masks: Masks, one: State, two: State, register: usize) -> Result<i64, Disagree>
     ensures { opening result
         ≡ opened_slot 32 (masks.l1, masks.l2) (one.m, one.mask) (two.m, two.mask) register }
 {

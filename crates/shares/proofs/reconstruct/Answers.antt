@@ -10,13 +10,11 @@ returns-then-s-2 c = not_l2 32 (words c.args.s) c.if-s.false c.if-s-2.true
 
 pub returns-then-s-3 : goal.returns-then-s-3
 returns-then-s-3 c =
-    let e = c in
-    not_m 32 (words e.args.s) e.if-s.false e.if-s-2.false c.if-s-3.true
+    not_m 32 (words c.args.s) c.if-s.false c.if-s-2.false c.if-s-3.true
 
 pub returns : goal.returns
 returns c =
-    let e = c in
-    opened 32 (words e.args.s) e.if-s.false
-    e.if-s-2.false e.if-s-3.false
+    opened 32 (words c.args.s) c.if-s.false
+    c.if-s-2.false c.if-s-3.false
     _ _ _ c.wrapping_sub_u32-x.type_inv (record { sfits = c.signed_reading.type_inv })
     c.wrapping_add_u32-mask.ensures.value c.wrapping_sub_u32-x.ensures.value c.signed_reading.ensures

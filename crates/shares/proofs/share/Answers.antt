@@ -6,12 +6,10 @@ returns-then-reading-ltminus1073741824 c = too_low c.args.reading c.ranges.readi
 
 pub returns-then-reading-ge1073741824 : goal.returns-then-reading-ge1073741824
 returns-then-reading-ge1073741824 c =
-    let s = c in
-    too_high s.args.reading s.ranges.reading s.args.l1 s.args.l2 c.if-reading-ltminus1073741824.false c.if-reading-ge1073741824.true
+    too_high c.args.reading c.ranges.reading c.args.l1 c.args.l2 c.if-reading-ltminus1073741824.false c.if-reading-ge1073741824.true
 
 pub returns : goal.returns
 returns c =
-    let s = c in
-    accepted s.args.reading s.ranges.reading s.args.l1 s.args.l2 c.if-reading-ltminus1073741824.false
+    accepted c.args.reading c.ranges.reading c.args.l1 c.args.l2 c.if-reading-ltminus1073741824.false
     c.if-reading-ge1073741824.false
     _ _ _ c.wrapping_add_u32-mask.ensures.value c.word_of.ensures c.wrapping_add_u32-m.ensures.value

@@ -11,15 +11,12 @@ use Rattle.lamphiek.proofs.readings.lamphiek_open.Goals as goal
 pub returns-in_default : goal.returns-in_default
 unfolding written
 returns-in_default c =
-    let s = c in
-    let answered = told (λ (x : ℤ). x) 10 (pos 0) s.args.value.now (sym (ap opening c.in_default.is) ∙ s.reconstruct.ensures) in
+    let answered = told (λ (x : ℤ). x) 10 (pos 0) c.args.value.now (sym (ap opening c.in_default.is) ∙ c.reconstruct.ensures) in
     record { number = answered.0; value = answered.1 }
 
 pub returns : goal.returns
 unfolding written
 returns c =
-    let k = c in
-    let s = k in
-    let e = told (λ (x : ℤ). x) 0 k.in-Opened.x s.args.value.now (sym (ap opening k.in-Opened.is) ∙ s.reconstruct.ensures) in
-    let same : to_z w64 (of_z w64 k.in-Opened.x) ≡ k.in-Opened.x = search rules in
+    let e = told (λ (x : ℤ). x) 0 c.in-Ok.x c.args.value.now (sym (ap opening c.in-Ok.is) ∙ c.reconstruct.ensures) in
+    let same : to_z w64 (of_z w64 c.in-Ok.x) ≡ c.in-Ok.x = search rules in
     record { number = e.0; value = same ∙ e.1 }

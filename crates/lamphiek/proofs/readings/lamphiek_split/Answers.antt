@@ -17,6 +17,5 @@ returns-in_default c =
 pub returns : goal.returns
 unfolding written
 returns c =
-    let s = c in
-    let answered = told six_out 0 (words s.in-Shared.s) s.args.shares.now (sym (ap sharing s.in-Shared.is) ∙ s.share.ensures ∙ ap (λ (x : ℤ). split 32 x s.args.l1 s.args.l2) (to_z-of_z {w = w64} s.ranges.reading)) in
+    let answered = told six_out 0 (words c.in-Ok.s) c.args.shares.now (sym (ap sharing c.in-Ok.is) ∙ c.share.ensures ∙ ap (λ (x : ℤ). split 32 x c.args.l1 c.args.l2) (to_z-of_z {w = w64} c.ranges.reading)) in
     record { number = answered.0; words = answered.1 }
