@@ -7,6 +7,7 @@ use native.Mathlib.Numerals.{add-one, one-add}
 use native.Mathlib.Omega.{arith}
 use lib.IntN.{ℤ, pos}
 use lib.ListN.{length}
+use Rattle.std.specs.Prelude.{Option}
 use Rattle.gates.specs.Gates.{Gate, Add, Refresh, Scale}
 use Rattle.gates.specs.Steps.{product, refresh, known_product, Step, local, deal, exchange, end}
 use Rattle.gates.specs.Meaning.{meaning, order_steps}
@@ -14,7 +15,7 @@ use Rattle.gates.specs.Speech.{shape}
 use Rattle.gates.specs.Costs.{Cost, plus, step_cost, cost}
 use Rattle.tables.specs.Table.{Row, rows}
 use Rattle.curves.specs.Curve.{last_count, slope_after, coefficient}
-use Rattle.programs.specs.declared.Sought.{Sought}
+use Rattle.programs.specs.declared.GatePlace.{GatePlace}
 use Rattle.programs.specs.Programs.{y_slot, acc_slot, res_slot, relu_program}
 use Rattle.programs.specs.Programs.{row_program, rows_program, sum_program, truncation, saturation}
 use Rattle.programs.specs.Orders.{curve_program}
@@ -27,7 +28,7 @@ use Rattle.programs.proofs.Sizes.{relu_sized, row_sized, row_number, row_speaks}
 -- ---- one program after another
 
 -- past a step, where what is behind it finds the same
-same_step : (b : ℕ) (go go' : ℕ → ℕ → ℕ → ℕ → Sought) (h : (n i a deals : ℕ) → n < b → go n i a deals ≡ go' n i a deals)
+same_step : (b : ℕ) (go go' : ℕ → ℕ → ℕ → ℕ → Option GatePlace) (h : (n i a deals : ℕ) → n < b → go n i a deals ≡ go' n i a deals)
     (y : Step) (n i a deals : ℕ) → n < (step_cost y).b + b
     → sought_at (shape y) n i a deals go ≡ sought_at (shape y) n i a deals go'
 unfolding sought_at shape step_cost
@@ -50,7 +51,7 @@ sought_first w (g ∷ gs) hs n i a deals q =
     same_step (program_cost w gs).b (sought w gs) (sought w (gs ++ hs)) (sought_first w gs hs) (meaning w g) n i a deals q
 
 -- past a step's own exchange, if it has one
-step_over : (go : ℕ → ℕ → ℕ → ℕ → Sought) (y : Step) (n i a deals : ℕ)
+step_over : (go : ℕ → ℕ → ℕ → ℕ → Option GatePlace) (y : Step) (n i a deals : ℕ)
     → go n (suc i) ((step_cost y).a + a) ((step_cost y).deals + deals) ≡ sought_at (shape y) ((step_cost y).b + n) i a deals go
 unfolding sought_at shape step_cost
 step_over go (local d m l) n i a deals = rw (zero-add a, zero-add deals, zero-add n)

@@ -1,65 +1,64 @@
 // The place of an order's n-th product or refresh, in constant time: from the sizes of the blocks before it.
 #![tactic(auto)]
 
-ghost use Rattle.std.specs.Prelude.{◌≡◌, List, [], ◌∷◌, ◌++◌, ℕ, ◌+◌, ◌^◌, ◌≤◌, ◌<◌};
+ghost use Rattle.std.specs.Prelude.{◌≡◌, Some, List, [], ◌∷◌, ◌++◌, ℕ, ◌+◌, ◌^◌, ◌≤◌, ◌<◌};
 ghost use Rattle.gates.specs.Gates.{Gate, Mul, Refresh};
 ghost use Rattle.tables.specs.Table.{rows};
 ghost use Rattle.programs.specs.Programs.{adder, sign_program, relu_program, one_bit_program};
 ghost use Rattle.programs.specs.Programs.{exact_program, truncation, saturation};
 ghost use Rattle.programs.specs.Orders.{curve_program, program};
-ghost use Rattle.programs.specs.declared.Sought.TheVariants.{Found};
-ghost use Rattle.programs.specs.Seek.{sought, Seeks};
+ghost use Rattle.programs.specs.Seek.{gate_place, sought, Seeks};
 
 use programs::{
     ADDER_DEALS, ADDER_EXCHANGES, ADDER_GATES, ADDER_HEAD, ADDER_WORDS_A, EXACT_DEALS,
-    EXACT_EXCHANGES, EXACT_GATES, EXACT_HEAD, EXACT_WORDS_A, NUMBER_DEALS, NUMBER_GATES,
+    EXACT_EXCHANGES, EXACT_GATES, EXACT_HEAD, EXACT_WORDS_A, GatePlace, NUMBER_DEALS, NUMBER_GATES,
     NUMBER_WORDS_A, ONE_BIT_DEALS, Order, REFRESHED_EXCHANGES, REFRESHED_GATES, REFRESHED_WORDS_A,
     RELU_LAST, ROUND_GATES, ROW_DEALS, ROW_EXCHANGES, ROW_GATES, ROW_WORDS_A, SATURATION_HEAD,
-    SATURATION_PRODUCT, SIGN_DEALS, SIGN_EXCHANGES, SIGN_NUMBER, SIGN_WORDS_A, Sought,
+    SATURATION_PRODUCT, SIGN_DEALS, SIGN_EXCHANGES, SIGN_NUMBER, SIGN_WORDS_A,
 };
 
 // The product of a block that starts with a deal and a known word: its gate 2.
-fn dealt_place(gate: usize, a: usize, deals: usize) -> Sought
+fn dealt_place(gate: usize, a: usize, deals: usize) -> Option<GatePlace>
     requires { (gate ≤ 2 ^ 63) × (a ≤ 2 ^ 63) × (deals ≤ 2 ^ 63) }
-    ensures { result ≡ Found (gate + 2) (a + 1) (deals + 1) }
+    ensures { result ≡ Some (gate_place (gate + 2) (a + 1) (deals + 1)) }
 {
-    Sought::Found {
+    Some(GatePlace {
         gate: gate + 2,
         a: a + 1,
         deals: deals + 1,
-    }
+    })
 }
 
 // The adder's n-th product, whatever gates are behind it. After the first one, the even ones end a round each and the
 // odd ones stand three gates before; the first one is with a known value, and has no deal.
-fn adder_place(n: usize, gate: usize, a: usize, deals: usize) -> Sought
+fn adder_place(n: usize, gate: usize, a: usize, deals: usize) -> Option<GatePlace>
     requires { (n < 10) × (gate ≤ 2 ^ 62) × (a ≤ 2 ^ 62) × (deals ≤ 2 ^ 62) }
     ensures { (x : ℕ) (gs : List Gate) → result ≡ sought 32 (adder 32 x ++ gs) n gate a deals }
 {
     if n == 0 {
         return dealt_place(gate, a, deals);
     }
-    Sought::Found {
+    Some(GatePlace {
         gate: gate + ADDER_HEAD - 1 + ROUND_GATES * n / 2,
         a: a + 2 * n,
         deals: deals + n,
-    }
+    })
 }
 
 // A program whose first gate is its one exchange.
-fn at_once(n: usize, gate: usize, a: usize, deals: usize) -> Sought
+fn at_once(n: usize, gate: usize, a: usize, deals: usize) -> Option<GatePlace>
     ensures { ((d x y : ℕ) → result ≡ sought 32 (Mul d x y ∷ []) n gate a deals)
         × ((d x : ℕ) → result ≡ sought 32 (Refresh d x ∷ []) n gate a deals) }
 {
     if n == 0 {
-        Sought::Found { gate, a, deals }
+        Some(GatePlace { gate, a, deals })
     } else {
-        Sought::Nowhere
+        None
     }
 }
 
 // The sign's n-th product, whatever gates are behind it: the adder's, and that of the sign bit made a number.
-fn sign_place(n: usize, gate: usize, a: usize, deals: usize) -> Sought
+fn sign_place(n: usize, gate: usize, a: usize, deals: usize) -> Option<GatePlace>
     requires { (n < 11) × (gate ≤ 2 ^ 62) × (a ≤ 2 ^ 62) × (deals ≤ 2 ^ 62) }
     ensures { (x : ℕ) (gs : List Gate) → result ≡ sought 32 (sign_program 32 x ++ gs) n gate a deals }
 {
@@ -70,7 +69,7 @@ fn sign_place(n: usize, gate: usize, a: usize, deals: usize) -> Sought
 }
 
 // The sign, and the product that ends the program.
-fn relu_place(n: usize, gate: usize, a: usize, deals: usize) -> Sought
+fn relu_place(n: usize, gate: usize, a: usize, deals: usize) -> Option<GatePlace>
     requires { (gate ≤ 2 ^ 62) × (a ≤ 2 ^ 62) × (deals ≤ 2 ^ 62) }
     ensures { (x d : ℕ) → result ≡ sought 32 (relu_program 32 x d) n gate a deals }
 {
@@ -86,7 +85,7 @@ fn relu_place(n: usize, gate: usize, a: usize, deals: usize) -> Sought
 }
 
 // Two gates, the sign, and behind it a product between two gates.
-fn saturation_place(n: usize, gate: usize, a: usize, deals: usize) -> Sought
+fn saturation_place(n: usize, gate: usize, a: usize, deals: usize) -> Option<GatePlace>
     requires { (gate ≤ 2 ^ 61) × (a ≤ 2 ^ 61) × (deals ≤ 2 ^ 61) }
     ensures { (r x d : ℕ) → result ≡ sought 32 (saturation 32 r x d) n gate a deals }
 {
@@ -102,7 +101,7 @@ fn saturation_place(n: usize, gate: usize, a: usize, deals: usize) -> Sought
 }
 
 // A head with a deal, the adder, a gate, a bit made a number, two gates, and another one.
-fn exact_place(n: usize, gate: usize, a: usize, deals: usize) -> Sought
+fn exact_place(n: usize, gate: usize, a: usize, deals: usize) -> Option<GatePlace>
     requires { (gate ≤ 2 ^ 61) × (a ≤ 2 ^ 61) × (deals ≤ 2 ^ 61) }
     ensures { (k x d : ℕ) → result ≡ sought 32 (exact_program 32 k x d) n gate a deals }
 {
@@ -122,39 +121,39 @@ fn exact_place(n: usize, gate: usize, a: usize, deals: usize) -> Sought
             a + NUMBER_WORDS_A,
             deals + NUMBER_DEALS,
         ),
-        _ => Sought::Nowhere,
+        _ => None,
     }
 }
 
 // The product follows both deals and what is known of the source.
-fn one_bit_place(n: usize, gate: usize, a: usize, deals: usize) -> Sought
+fn one_bit_place(n: usize, gate: usize, a: usize, deals: usize) -> Option<GatePlace>
     requires { (gate ≤ 2 ^ 62) × (a ≤ 2 ^ 62) × (deals ≤ 2 ^ 62) }
     ensures { (k x d : ℕ) → result ≡ sought 32 (one_bit_program 32 k x d) n gate a deals }
 {
     if n == 0 {
-        Sought::Found {
+        Some(GatePlace {
             gate: gate + 5,
             a: a + 2,
             deals: deals + 2,
-        }
+        })
     } else {
-        Sought::Nowhere
+        None
     }
 }
 
 // A refresh, which uses a word of A and no deal, and then the one-bit truncation.
-fn refreshed_place(n: usize, gate: usize, a: usize, deals: usize) -> Sought
+fn refreshed_place(n: usize, gate: usize, a: usize, deals: usize) -> Option<GatePlace>
     requires { (gate < 2 ^ 62) × (a < 2 ^ 62) × (deals ≤ 2 ^ 62) }
     ensures { result ≡ sought 32 (Refresh 22 22 ∷ one_bit_program 32 12 22 22) n gate a deals }
 {
     if n == 0 {
-        return Sought::Found { gate, a, deals };
+        return Some(GatePlace { gate, a, deals });
     }
     one_bit_place(n - 1, gate + 1, a + 1, deals)
 }
 
 // Behind a curve's rows: the truncation of its mode, and then R-1's last steps.
-fn end_place(mode: u32, n: usize, gate: usize, a: usize, deals: usize) -> Sought
+fn end_place(mode: u32, n: usize, gate: usize, a: usize, deals: usize) -> Option<GatePlace>
     requires { (gate ≤ 2 ^ 60) × (a ≤ 2 ^ 60) × (deals ≤ 2 ^ 60) }
     ensures { (r x d : ℕ) →
         result ≡ sought 32 (truncation 32 mode ++ saturation 32 r x d) n gate a deals }
@@ -182,7 +181,7 @@ fn end_place(mode: u32, n: usize, gate: usize, a: usize, deals: usize) -> Sought
 }
 
 // One gate stands before the rows, and one in each row before its ReLU, whose exchanges are the row's.
-fn curve_place(mode: u32, table: &[u32], n: u32) -> Sought
+fn curve_place(mode: u32, table: &[u32], n: u32) -> Option<GatePlace>
     ensures { (x d : ℕ) →
         result ≡ sought 32 (curve_program 32 x d (rows table.now) mode) n 0 0 0 }
 {
@@ -207,7 +206,7 @@ fn curve_place(mode: u32, table: &[u32], n: u32) -> Sought
 }
 
 // A turn is a u32, so that a curve's place fits its type whatever the table's length.
-pub fn seek(o: Order, table: &[u32], turn: u32) -> Sought
+pub fn seek(o: Order, table: &[u32], turn: u32) -> Option<GatePlace>
     ensures { Seeks 32 (program 32 (rows table.now) o) turn result }
 {
     let kind = o.kind;
@@ -220,6 +219,6 @@ pub fn seek(o: Order, table: &[u32], turn: u32) -> Sought
         8 => exact_place(n, 0, 0, 0),
         9 => relu_place(n, 0, 0, 0),
         10 => curve_place(c, table, turn),
-        _ => Sought::Nowhere,
+        _ => None,
     }
 }

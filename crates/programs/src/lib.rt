@@ -11,12 +11,12 @@ pub struct Order {
     pub fourth: u32,
 }
 
-// Where a program's n-th product or refresh stands: the gate's index, and the words of A and the deals that the program
-// uses before it.
-#[derive(Clone, Copy)]
-pub enum Sought {
-    Found { gate: usize, a: usize, deals: usize },
-    Nowhere,
+// The place of a gate in its program: its index, and the words of A and the deals that the program uses before it.
+#[derive(Clone, Copy, Debug, PartialEq, Eq)]
+pub struct GatePlace {
+    pub gate: usize,
+    pub a: usize,
+    pub deals: usize,
 }
 
 // The temporaries by the letters of document 01: n, P and G of the adder, a shifted word s and a product t, the source
