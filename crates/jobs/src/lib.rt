@@ -48,6 +48,15 @@ pub struct Refusal {
     pub index: u32,
 }
 
+// Where a call gives no index.
+impl From<Refusal> for Condition {
+    ghost from_gives = { λ refusal condition. condition ≡ refusal.condition };
+
+    fn from(refusal: Refusal) -> Condition {
+        refusal.condition
+    }
+}
+
 // What the walk over a job's orders finds: the counts of the job, and of the orders before a place in it.
 #[derive(Clone, Copy, Debug, PartialEq, Eq)]
 pub struct Survey {
