@@ -2,24 +2,47 @@
 #![tactic(auto)]
 
 ghost use Rattle.std.specs.Prelude.{◌≡◌};
-ghost use Rattle.gates.specs.Costs.{cost_of};
+ghost use Rattle.jobs.specs.Counts.{counted};
 ghost use Rattle.jobs.specs.Answers.{need, leftover_number, leftover_part};
+ghost use Rattle.jobs.specs.Refusals.{number_found};
+ghost use Rattle.job_leftover.specs.Unused.{part_of};
 
 use job_check::check;
-use jobs::{Checked, Which};
+use jobs::{Condition, Counts, Which};
 
-// What a job with these counts of A and B needs of the one list.
-fn need(which: Which, a: u32, b: u32) -> u32
-    ensures { result ≡ need which (cost_of 0 0 a b) }
+// What a job with these counts needs of the one list.
+fn need(which: Which, counts: Counts) -> u32
+    ensures { result ≡ need which (counted counts) }
 {
     match which {
-        Which::ListA => a,
-        Which::ListB => b,
+        Which::ListA => counts.a,
+        Which::ListB => counts.b,
     }
 }
 
-// The part of a mask list after the job's need; the whole list where refused. Its number, or 0, goes into the lent
-// word.
+// The part of a mask list after the job's need.
+pub fn unused<'a>(
+    job: &[u32],
+    table: &[u32],
+    which: Which,
+    list: &'a [u32],
+) -> Result<&'a [u32], Condition>
+    ensures part { part_of result list.now
+        ≡ leftover_part (leftover_number 32 job.now table.now which list.now)
+        32 job.now table.now which list.now }
+    ensures said { number_found result
+        ≡ leftover_number 32 job.now table.now which list.now }
+{
+    let counts = check(job, table)?;
+    let first = need(which, counts) as usize;
+    if list.len() < first {
+        return Err(Condition::ShortMasks);
+    }
+    Ok(&list[first..])
+}
+
+// The same as document 01 gives it: "the whole list if refused", and the "number, or 0 for none, goes into one word
+// lent for that alone", in place of a Result.
 pub fn leftover<'a>(
     job: &[u32],
     table: &[u32],
@@ -33,27 +56,14 @@ pub fn leftover<'a>(
     ensures said { number.new
         ≡ leftover_number 32 job.now table.now which list.now }
 {
-    match check(job, table) {
-        Checked::Refused {
-            number: found,
-            index: _,
-        } => {
-            *number = found;
-            list
-        }
-        Checked::Accepted {
-            deals: _,
-            words: _,
-            a,
-            b,
-        } => {
-            let first = need(which, a, b) as usize;
-            if list.len() < first {
-                *number = 6;
-                return list;
-            }
+    match unused(job, table, which, list) {
+        Ok(part) => {
             *number = 0;
-            &list[first..]
+            part
+        }
+        Err(condition) => {
+            *number = condition.number();
+            list
         }
     }
 }

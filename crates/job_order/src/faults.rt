@@ -1,7 +1,9 @@
 // The faults of one order: conditions 3, 4 and 5 of document 01, "Turned down".
 ghost use Rattle.std.specs.Prelude.{◌≡◌};
 ghost use Rattle.jobs.specs.Job.{no_shift, unknown_register, ill_fourth, order_fault};
+ghost use Rattle.jobs.specs.Refusals.{number_met};
 
+use jobs::Condition;
 use programs::Order;
 
 fn no_shift(k: u32, most: u32) -> bool
@@ -47,18 +49,18 @@ fn ill_fourth(o: Order, ruled: bool) -> bool
     }
 }
 
-// The first condition that the order meets, or 0.
-pub fn order_fault(o: Order, ruled: bool) -> u32
-    ensures { result ≡ order_fault 32 ruled o }
+// The first condition that the order meets.
+pub fn order_fault(o: Order, ruled: bool) -> Option<Condition>
+    ensures { number_met result ≡ order_fault 32 ruled o }
 {
     if 10 < o.kind {
-        return 3;
+        return Some(Condition::UnknownKind);
     }
     if unknown_register(o) {
-        return 4;
+        return Some(Condition::UnknownRegister);
     }
     if ill_fourth(o, ruled) {
-        return 5;
+        return Some(Condition::IllFourth);
     }
-    0
+    None
 }

@@ -4,6 +4,7 @@ pub mod Orders
 pub mod Indices
 pub mod Sums
 pub mod CostTable
+pub mod Refusals
 pub mod Turns
 pub mod Marks
 pub mod Unused

@@ -5,8 +5,6 @@ use mathlib.Core.List.{List, ◌∷◌}
 use Prim.Native.Nat.{ℕ, zero, suc, ◌+◌, ◌*◌, ◌/◌, ◌%◌, ◌≤◌}
 use native.Mathlib.Numerals.{add-one}
 use native.Mathlib.Omega.{arith}
-use borrow.Author.Tests.{ne_eqb, eqb-false}
-use lib.Dec.{eqb}
 use lib.ListN.{length, take, drop}
 use Rattle.tables.specs.Table.{rows, keeps_rules}
 use Rattle.gates.specs.Costs.{Cost, cost_of, plus}
@@ -14,7 +12,7 @@ use Rattle.gates.proofs.Needs.{cost_path}
 use Rattle.programs.specs.declared.Order.{Order}
 use Rattle.jobs.specs.Job.{Fault, orders, ill_sized, order_fault, fault_at, orders_fault, job_fault, job_cost, order_at}
 use Rattle.jobs.specs.CostTable.{table_counts, kind_cost}
-use Rattle.jobs.specs.Answers.{Verdict, refusal, judged, check_job, numbered, counts_before}
+use Rattle.jobs.specs.Answers.{refusal, acceptance, judged, check_job, counts_before}
 use Rattle.jobs.proofs.Orders.{orders_from, no_more}
 use Rattle.jobs.proofs.Sums.{Tabled, rows_right, Below, few, row_count, rows_few}
 use Rattle.jobs.proofs.Conditions.{sized}
@@ -32,40 +30,15 @@ module _ (w : ℕ) (job table : List ℕ) (place : ℕ) where
   marked p e = ap (λ (q : Fault). (judged q.0 q (job_cost w (take (place * 4) job) table)).counts) e
 
   pub refused : (n i : ℕ) → job_fault w job table ≡ (n, i) → (n ≡ 0 → ⊥)
-      → (numbered n i ≡ check_job w job table) × (cost_of 0 0 0 0 ≡ counts_before w job table place)
+      → (refusal (n, i) ≡ check_job w job table) × (cost_of 0 0 0 0 ≡ counts_before w job table place)
   unfolding judged
   refused zero i e ne = absurd (ne refl)
-  refused (suc n) i e ne = (
-    ap (λ (b : Bool). record { accepted = b; number = suc n; index = i; counts = cost_of 0 0 0 0 }) (ne_eqb (suc n) 0 ne)
-        ∙ sym (answered (suc n, i) e),
-    sym (marked (suc n, i) e),
-  )
+  refused (suc n) i e ne = (sym (answered (suc n, i) e), sym (marked (suc n, i) e))
 
   pub accepted : (k b : Cost) → job_fault w job table ≡ (0, 0) → job_cost w job table ≡ k → b ≡ job_cost w (take (place * 4) job) table
-      → (record { accepted = true; number = 0; index = 0; counts = k } ≡ check_job w job table) × (b ≡ counts_before w job table place)
+      → (acceptance k ≡ check_job w job table) × (b ≡ counts_before w job table place)
   unfolding judged
   accepted k b e c m = (sym (answered (0, 0) e ∙ ap (judged 0 (0, 0)) c), m ∙ sym (marked (0, 0) e))
-
--- a verdict in numbers, as the variants say it
-module _ (n i : ℕ) (k : Cost) (w : ℕ) (job table : List ℕ)
-    (e : record { accepted = eqb n 0; number = n; index = i; counts = k } ≡ check_job w job table) where
-  pub as_refusal : (n ≡ 0 → ⊥) → refusal (n, i) ≡ check_job w job table
-  unfolding check_job judged
-  as_refusal ne = go (job_fault w job table).0 (job_fault w job table) (job_cost w job table) e
-    where
-      go : (m : ℕ) (f : Fault) (c : Cost) → record { accepted = eqb n 0; number = n; index = i; counts = k } ≡ judged m f c
-          → refusal (n, i) ≡ judged m f c
-      go zero f c p = absurd (ne (ap (λ (v : Verdict). v.number) p))
-      go (suc m) f c p = ap refusal (λ j. ((p j).number, (p j).index))
-
-  pub as_counts : n ≡ 0 → record { accepted = true; number = 0; index = 0; counts = k } ≡ check_job w job table
-  unfolding check_job judged
-  as_counts z = go (job_fault w job table).0 (job_fault w job table) (job_cost w job table) e
-    where
-      go : (m : ℕ) (f : Fault) (c : Cost) → record { accepted = eqb n 0; number = n; index = i; counts = k } ≡ judged m f c
-          → record { accepted = true; number = 0; index = 0; counts = k } ≡ judged m f c
-      go zero f c p = ap (λ (x : Cost). record { accepted = true; number = 0; index = 0; counts = x }) (ap (λ (v : Verdict). v.counts) p)
-      go (suc m) f c p = let a : eqb n 0 ≡ false = ap (λ (v : Verdict). v.accepted) p in absurd (eqb-false n 0 a z)
 
 sized_fault : (w : ℕ) (job table : List ℕ) → ill_sized job ≡ false
     → job_fault w job table ≡ orders_fault w (keeps_rules table) (orders job) 0

@@ -12,7 +12,7 @@ use Rattle.gates.specs.Costs.{Cost, cost_of}
 use Rattle.jobs.specs.declared.Which.{Which}
 use Rattle.jobs.specs.declared.Which.TheVariants.{ListA, ListB}
 use Rattle.jobs.specs.Job.{Fault, job_fault, job_cost, short_a, short_b}
-use Rattle.jobs.specs.Answers.{Verdict, refusal, judged, check_job, need, short, or_short, leftover_number, leftover_part}
+use Rattle.jobs.specs.Answers.{Verdict, refusal, acceptance, judged, check_job, need, short, or_short, leftover_number, leftover_part}
 
 -- ---- what an answer tells of the fault and of the counts
 
@@ -22,7 +22,7 @@ unfolding judged
 refusal_tells zero n i f k q e = (ap (λ (v : Verdict). v.number) e, λ z. sym (ap (λ (v : Verdict). v.counts) e))
 refusal_tells (suc p) n i f k q e = (ap (λ (v : Verdict). v.number) e ∙ q, λ z. absurd (omega arith))
 
-counts_tell : (p : ℕ) (f : Fault) (k c : Cost) → f.0 ≡ p → record { accepted = true; number = 0; index = 0; counts = c } ≡ judged p f k
+counts_tell : (p : ℕ) (f : Fault) (k c : Cost) → f.0 ≡ p → acceptance c ≡ judged p f k
     → (p ≡ 0) × (k ≡ c)
 unfolding judged
 counts_tell zero f k c q e = (refl, sym (ap (λ (v : Verdict). v.counts) e))
@@ -34,12 +34,6 @@ short_by_need : (x : Which) (k : Cost) (l : List ℕ) → short x k l ≡ ltb (l
 unfolding short need short_a short_b
 short_by_need ListA k l = refl
 short_by_need ListB k l = refl
-
--- a need is a count of one list alone
-need_of : (x : Which) (n m a b : ℕ) → need x (cost_of 0 0 a b) ≡ need x (cost_of n m a b)
-unfolding need
-need_of ListA n m a b = refl
-need_of ListB n m a b = refl
 
 needs_none : (x : Which) → need x (cost_of 0 0 0 0) ≡ 0
 unfolding need
@@ -66,13 +60,12 @@ module _ (w : ℕ) (job table : List ℕ) (x : Which) (l : List ℕ) where
           (rw (enough, none), rw enough q)
       go (suc p) q h = (refl, q)
 
-  module _ (n m a b r : ℕ) (e : record { accepted = true; number = 0; index = 0; counts = cost_of n m a b } ≡ check_job w job table)
-      (er : r ≡ need x (cost_of 0 0 a b)) where
+  module _ (c : Cost) (r : ℕ) (e : acceptance c ≡ check_job w job table) (er : r ≡ need x c) where
     told : ((job_fault w job table).0 ≡ 0) × (need x (job_cost w job table) ≡ r)
     unfolding check_job
     told =
-        let t = counts_tell (job_fault w job table).0 (job_fault w job table) (job_cost w job table) (cost_of n m a b) refl e in
-        (t.0, ap (need x) t.1 ∙ sym (need_of x n m a b) ∙ sym er)
+        let t = counts_tell (job_fault w job table).0 (job_fault w job table) (job_cost w job table) c refl e in
+        (t.0, ap (need x) t.1 ∙ sym er)
 
     pub too_short : length l < r
         → (l ≡ leftover_part (leftover_number w job table x l) w job table x l) × (6 ≡ leftover_number w job table x l)

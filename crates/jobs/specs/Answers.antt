@@ -1,13 +1,14 @@
 -- The answers of checking a job and of asking for unused masks: whole, as functions of every input. Assumes nothing.
-use Rattle.std.specs.Prelude.{Bool, true, false, cond, List, ℕ, zero, suc, ◌*◌, eqb, take, drop}
+use Rattle.std.specs.Prelude.{Bool, true, false, cond, List, ℕ, zero, suc, ◌*◌, take, drop, Result, Ok, Err}
 use Rattle.gates.specs.Costs.{Cost, cost_of}
-use Rattle.jobs.specs.declared.Checked.{Checked}
-use Rattle.jobs.specs.declared.Checked.TheVariants.{Accepted, Refused}
 use Rattle.jobs.specs.declared.Which.{Which}
 use Rattle.jobs.specs.declared.Which.TheVariants.{ListA, ListB}
-use Rattle.jobs.specs.declared.Findings.{Findings}
+use Rattle.jobs.specs.declared.Counts.{Counts}
+use Rattle.jobs.specs.declared.Survey.{Survey}
+use Rattle.jobs.specs.declared.Refusal.{Refusal}
 use Rattle.jobs.specs.Counts.{counted}
 use Rattle.jobs.specs.Job.{Fault, job_fault, job_cost, short_a, short_b}
+use Rattle.jobs.specs.Refusals.{fault_of}
 
 -- accepted or refused; a number, 0 for none; the order's index; the counts, 0 where refused
 pub record Verdict : Type 0 where
@@ -19,26 +20,32 @@ pub record Verdict : Type 0 where
 abbrev pub refusal : Fault → Verdict
 refusal f = record { accepted = false; number = f.0; index = f.1; counts = cost_of 0 0 0 0 }
 
+abbrev pub acceptance : Cost → Verdict
+acceptance k = record { accepted = true; number = 0; index = 0; counts = k }
+
 -- the paper's number and values for each answer
-abbrev pub verdict : Checked → Verdict
-verdict (Accepted n m a b) = record { accepted = true; number = 0; index = 0; counts = cost_of n m a b }
-verdict (Refused n i) = refusal (n, i)
+abbrev pub verdict : Result Counts Refusal → Verdict
+verdict (Ok k) = acceptance (counted k)
+verdict (Err r) = refusal (fault_of r)
 
 -- by the number of a fault: 0 gives the counts
 unfoldable pub judged : ℕ → Fault → Cost → Verdict
-judged zero f k = record { accepted = true; number = 0; index = 0; counts = k }
+judged zero f k = acceptance k
 judged (suc n) f k = refusal f
 
 -- checking a job with its table
 unfoldable pub check_job : (w : ℕ) (job table : List ℕ) → Verdict
 check_job w job table = judged (job_fault w job table).0 (job_fault w job table) (job_cost w job table)
 
--- a survey says the same in numbers
-abbrev pub surveyed : Findings → Verdict
-surveyed s = record { accepted = eqb s.number 0; number = s.number; index = s.index; counts = counted s.whole }
+-- a survey says the same
+abbrev pub surveyed : Result Survey Refusal → Verdict
+surveyed (Ok s) = acceptance (counted s.whole)
+surveyed (Err r) = refusal (fault_of r)
 
-abbrev pub numbered : (number index : ℕ) → Verdict
-numbered n i = record { accepted = eqb n 0; number = n; index = i; counts = cost_of 0 0 0 0 }
+-- its counts of the orders before a place, 0 where it is refused
+abbrev pub counted_before : Result Survey Refusal → Cost
+counted_before (Ok s) = counted s.before
+counted_before (Err r) = cost_of 0 0 0 0
 
 -- the counts of the orders before a place of the job, 0 where the job is refused
 unfoldable pub counts_before : (w : ℕ) (job table : List ℕ) (place : ℕ) → Cost

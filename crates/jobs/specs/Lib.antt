@@ -1,4 +1,5 @@
 pub mod Job
+pub mod Refusals
 pub mod Counts
 pub mod CostTable
 pub mod Answers

@@ -1,8 +1,10 @@
 use mathlib.Core.Path.{sym, ap, ◌∙◌}
 use mathlib.Core.Logic.{inl, inr}
-use Prim.Native.Nat.{◌*◌, ◌-◌, ◌+◌, ◌≤◌}
+use Prim.Native.Nat.{◌*◌, ◌+◌, ◌≤◌}
 use native.Mathlib.Omega.{arith}
 use lib.ListN.{length}
+use Rattle.jobs.specs.Refusals.{number_met}
+use Rattle.jobs.proofs.Refusals.{numbered}
 use Rattle.jobs.proofs.Sums.{job_counts, rows_few}
 use Rattle.jobs.proofs.Turns.{given, refused, accepted, ill, starts, done, faulty, few_so_far, turn}
 use Rattle.jobs.proofs.Marks.{unmarked, next_mark, all_marked}
@@ -13,67 +15,48 @@ use Rattle.job_check.proofs.survey.Goals.{then-i-place, else-i-place}
 
 pub returns-then-ill_sized : goal.returns-then-ill_sized
 returns-then-ill_sized c =
-    let t = c.turned_down.ensures in
     let q = refused 32 _ _ _ 2 0 (ill 32 _ _ (sym c.ill_sized.ensures ∙ c.if-ill_sized.true)) (λ z. omega arith) in
-    record { found = t.0 ∙ q.0; passed = t.1 ∙ q.1 }
-
-pub rows_of-requires : goal.rows_of-requires
-rows_of-requires c = c.keeps_rules-ruled.ensures
+    record { found = q.0; passed = q.1 }
 
 pub curve_tallies-curve-requires : goal.curve_tallies-curve-requires
 curve_tallies-curve-requires c = rw c.rows_of.ensures (rows_few _ _ c.keeps_rules-ruled.ensures)
 
 pub loop-i-init : goal.loop-i-init
-loop-i-init c =
-    let k = c in (
-      given _ _ (sym k.ill_sized.ensures ∙ k.if-ill_sized.false) k.keeps_rules-ruled.ensures,
-      rw (← c.rows_of.ensures) c.curve_tallies-curve.ensures,
-      starts 32 _ _ job_counts _ nothing,
-      unmarked 32 _ _ _ job_counts _ nothing,
-    )
+loop-i-init c = (
+  given _ _ (sym c.ill_sized.ensures ∙ c.if-ill_sized.false) c.keeps_rules-ruled.ensures,
+  rw (← c.rows_of.ensures) c.curve_tallies-curve.ensures,
+  starts 32 _ _ job_counts _ nothing,
+  unmarked 32 _ _ _ job_counts _ nothing,
+)
 
-pub overflow_cast-i : goal.overflow_cast-i
-overflow_cast-i c = omega arith
+pub overflow_cast-index : goal.overflow_cast-index
+overflow_cast-index c = let m = c.loop-i.invariant.0.most in omega (arith, m)
 
-pub returns-then-fault-ne0 : goal.returns-then-fault-ne0
-returns-then-fault-ne0 c =
-    let b = c in
-    let l = b.loop-i in
-    let s = b in
-    let h : l.i * 4 + 4 ≤ length s.args.job.now = omega arith in
-    let t = c.turned_down-then-fault-ne0.ensures in
-    let ne = c.if-fault-ne0.true in
-    let q = refused 32 _ _ _ _ _ (faulty 32 _ _ l.invariant.2 l.invariant.0 h c.order_at-order.ensures
-    c.order_fault-fault.ensures ne) ne in
-    record { found = t.0 ∙ q.0; passed = t.1 ∙ q.1 }
+pub returns-in-Some : goal.returns-in-Some
+returns-in-Some c =
+    let l = c.loop-i in
+    let h : l.i * 4 + 4 ≤ length c.args.job.now = omega arith in
+    let ne = numbered c.in-Some.condition in
+    let is = sym (ap number_met c.in-Some.is) ∙ c.order_fault.ensures in
+    let q = refused 32 _ _ _ _ _ (faulty 32 _ _ l.invariant.2 l.invariant.0 h c.order_at-order.ensures is ne) ne in
+    record { found = q.0; passed = q.1 }
 
 pub overflow_add-whole : goal.overflow_add-whole
 overflow_add-whole c =
-    let b = c in
-    let l = b.loop-i in
-    let s = b in
-    let h : l.i * 4 + 4 ≤ length s.args.job.now = omega arith in
+    let l = c.loop-i in
+    let h : l.i * 4 + 4 ≤ length c.args.job.now = omega arith in
     let f = few_so_far 32 _ _ l.invariant.2 l.invariant.0 h c.order_at-order.ensures
-    c.order_fault-fault.ensures c.if-fault-ne0.false (c.order_tally-whole.ensures _ l.invariant.1) in
+    c.order_fault.ensures (ap number_met c.in_default.is) (c.order_tally-whole.ensures _ l.invariant.1) in
     omega (arith, sum_fits _ _ f.0 f.1)
-
-pub overflow_add-i : goal.overflow_add-i
-overflow_add-i c = omega arith
-
-pub loop-i-smaller : goal.loop-i-smaller
-loop-i-smaller c = omega arith
 
 pub loop-i-preserved : goal.loop-i-preserved
 loop-i-preserved c =
-    let e = c in
-    let b = e in
-    let l = b.loop-i in
-    let s = b in
-    let h : l.i * 4 + 4 ≤ length s.args.job.now = omega arith in
+    let l = c.loop-i in
+    let h : l.i * 4 + 4 ≤ length c.args.job.now = omega arith in
     let k = c.order_tally-whole.ensures _ l.invariant.1 in
-    let f = few_so_far 32 _ _ l.invariant.2 l.invariant.0 h e.order_at-order.ensures e.order_fault-fault.ensures
-    e.if-fault-ne0.false k in
-    let g = turn 32 _ _ l.invariant.2 l.invariant.0 h e.order_at-order.ensures e.order_fault-fault.ensures e.if-fault-ne0.false k
+    let z = ap number_met c.in_default.is in
+    let f = few_so_far 32 _ _ l.invariant.2 l.invariant.0 h c.order_at-order.ensures c.order_fault.ensures z k in
+    let g = turn 32 _ _ l.invariant.2 l.invariant.0 h c.order_at-order.ensures c.order_fault.ensures z k
     (tallied_sum _ _ f.0 f.1) in (
       l.invariant.0,
       l.invariant.1,
@@ -84,9 +67,8 @@ loop-i-preserved c =
 
 pub returns : goal.returns
 returns c =
-    let a = c in
-    let l = a.loop-i in
-    let d = done 32 _ _ l.invariant.2 l.invariant.0 a.loop-i-test.false in
+    let l = c.loop-i in
+    let d = done 32 _ _ l.invariant.2 l.invariant.0 (omega arith) in
     let answered = accepted 32 _ _ _ _ _ d.0 (d.1 ∙ sym c.counts_of.ensures)
     (c.counts_of-2.ensures ∙ all_marked 32 _ _ _ l.invariant.3 (omega (arith, l.invariant.0.fours))) in
     record { found = answered.0; passed = answered.1 }

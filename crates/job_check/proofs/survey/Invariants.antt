@@ -1,5 +1,5 @@
 -- `survey` answers as document 01 asks: its loop keeps `Going`, over the orders still to come, and `Marked`, of tallies. Assumes nothing.
-use Prim.Native.Nat.{◌-◌}
+
 use Rattle.jobs.proofs.Sums.{row_count}
 use Rattle.jobs.proofs.Turns.{Given, Going}
 use Rattle.jobs.proofs.Marks.{Marked}
@@ -10,6 +10,3 @@ use Rattle.job_check.proofs.survey.Given as goal
 abbrev pub invariant-loop-i : goal.invariant-loop-i
 invariant-loop-i l = Given l.job l.table l.ruled × CurveTallied l.curve (row_count l.ruled l.table)
     × Going 32 l.job l.table l.i (tallied l.whole) × Marked 32 l.job l.table l.place l.i (tallied l.before)
-
-abbrev pub decreases-loop-i : goal.decreases-loop-i
-decreases-loop-i l = l.n - l.i
