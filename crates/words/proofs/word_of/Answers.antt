@@ -1,17 +1,14 @@
-use Rattle.words.proofs.Machine.{turned_fits, turned_cast, turned_word, kept_cast, kept_word}
+use Rattle.std.proofs.Common.{pos, nat_abs, ap, ◌∙◌}
+use Rattle.std.proofs.lemmas.Int.{to_z-of_z}
+use Rattle.std.specs.Int.{int_rem_euclid}
+use mir.Syntax.{w64}
+use lib.IntN.{ℤ}
+use Rattle.words.proofs.Machine.{rem_word}
 use Rattle.words.proofs.word_of.Goals as goal
 
-pub overflow_sub-result : goal.overflow_sub-result
-overflow_sub-result c = turned_fits c.args.z c.ranges.z c.if-z-lt0.true
-
-pub overflow_cast-result : goal.overflow_cast-result
-overflow_cast-result c = turned_cast c.args.z c.ranges.z c.if-z-lt0.true
-
-pub overflow_cast-result-else-z-lt0 : goal.overflow_cast-result-else-z-lt0
-overflow_cast-result-else-z-lt0 c = kept_cast c.args.z c.ranges.z c.if-z-lt0.false
-
-pub returns-then-z-lt0 : goal.returns-then-z-lt0
-returns-then-z-lt0 c = turned_word c.args.z c.ranges.z c.if-z-lt0.true
-
-pub returns-else-z-lt0 : goal.returns-else-z-lt0
-returns-else-z-lt0 c = kept_word c.args.z c.ranges.z c.if-z-lt0.false
+pub returns : goal.returns
+returns c =
+    ap nat_abs
+    (to_z-of_z w64 _ (record { sfits = c.rem_euclid.type_inv }) ∙ c.rem_euclid.ensures.value
+    ∙ ap (λ (y : ℤ). int_rem_euclid y (pos 4294967296)) (to_z-of_z w64 c.args.z c.ranges.z))
+    ∙ rem_word c.args.z
