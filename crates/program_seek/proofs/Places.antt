@@ -88,10 +88,12 @@ sought_after w gs hs z e n m i a deals q =
 
 -- a refresh, which uses a word of A and no deal
 pub refresh_next : (w : ℕ) (gs : List Gate) (n i a deals : ℕ) → (n ≡ 0 → ⊥)
-    → sought w gs (n - 1) (i + 1) (a + 1) deals ≡ sought w (Refresh acc_slot acc_slot ∷ gs) n i a deals
+    → sought w gs (n - 1) (i + 1) (a + 1) (deals + 0) ≡ sought w (Refresh acc_slot acc_slot ∷ gs) n i a deals
 unfolding sought sought_at meaning shape
 refresh_next w gs zero i a deals f = absurd (f refl)
-refresh_next w gs (suc n) i a deals f = let e : suc n - 1 ≡ n = omega arith in rw (e, add-one i, add-one a)
+refresh_next w gs (suc n) i a deals f = let e : suc n - 1 ≡ n = omega arith in
+    let z : deals + 0 ≡ deals = omega arith in
+    rw (e, z, add-one i, add-one a)
 
 -- ---- the rows of a curve, from the slope s before the first of them
 
@@ -169,12 +171,12 @@ module _ (w x d : ℕ) (ws : List ℕ) (mode n : ℕ) where
   at_row = n / row_exchanges w
 
   pub curve_row_place : at_row < length ws / 2
-      → sought w (relu_program w y_slot res_slot) (n % row_exchanges w) (row_gates w * at_row + 2) (row_words_a w * at_row)
+      → sought w (relu_program w y_slot res_slot) (n % row_exchanges w) (row_gates w * at_row + 1 + 1) (row_words_a w * at_row)
       (row_deals w * at_row)
       ≡ sought w (curve_program w x d (rows ws) mode) n 0 0 0
   unfolding curve_program
   curve_row_place h =
-      let zi : row_gates w * at_row + 2 ≡ suc (at_row * row_gates w + 1) = omega (arith, mul_comm (row_gates w) at_row) in
+      let zi : row_gates w * at_row + 1 + 1 ≡ suc (at_row * row_gates w + 1) = omega (arith, mul_comm (row_gates w) at_row) in
       let za : row_words_a w * at_row ≡ at_row * row_words_a w + 0 = omega (arith, mul_comm (row_words_a w) at_row) in
       let zd : row_deals w * at_row ≡ at_row * row_deals w + 0 = omega (arith, mul_comm (row_deals w) at_row) in
       rw (zi, za, zd)

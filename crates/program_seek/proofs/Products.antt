@@ -46,7 +46,7 @@ module _ (w : ℕ) (gs : List Gate) where
   adder_first x n i a deals z = rw z (found (omega arith) (omega arith) (omega arith))
 
   pub adder_later : (x n i a deals : ℕ) → (n ≡ 0 → ⊥) → n < 2 * length (distances w)
-      → Some (gate_place (i + 5 - 1 + 5 * n / 2) (a + 2 * n) (deals + n)) ≡ sought w (adder w x ++ gs) n i a deals
+      → Some (gate_place (i + (5 - 1 + 5 * n / 2)) (a + 2 * n) (deals + n)) ≡ sought w (adder w x ++ gs) n i a deals
   unfolding adder sought sought_at meaning shape
   adder_later x zero i a deals f h = absurd (f refl)
   adder_later x (suc m) i a deals f h =
@@ -67,7 +67,7 @@ module _ (gs : List Gate) (x n i a deals : ℕ) where
   pub sign_adder : sought 32 (adder 32 x ++ (sign_rest 32 ++ gs)) n i a deals ≡ sought 32 (sign_program 32 x ++ gs) n i a deals
   sign_adder = rw (sign_parts 32 x gs)
 
-  pub sign_number : n ≡ 10 → Some (gate_place (i + 30 + 2) (a + 20 + 1) (deals + 10 + 1)) ≡ sought 32 (sign_program 32 x ++ gs) n i a deals
+  pub sign_number : n ≡ 10 → Some (gate_place (i + 28 + 2 + 2) (a + 20 + 1) (deals + 10 + 1)) ≡ sought 32 (sign_program 32 x ++ gs) n i a deals
   unfolding sign_rest to_number sought sought_at meaning shape
   sign_number q =
       found (omega arith) (omega arith) (omega arith) ∙ behind_adder (sign_rest 32 ++ gs) x n 0 i a deals (omega arith) ∙ sign_adder
@@ -78,10 +78,10 @@ module _ (gs : List Gate) (x n i a deals : ℕ) where
 -- ---- the last product of the ReLU, and of R-1's steps
 
 module _ (x d n i a deals : ℕ) where
-  pub relu_last : 11 ≤ n → sought 32 (Mul d x s_slot ∷ []) (n - 11) (i + 38) (a + 22) (deals + 11) ≡ sought 32 (relu_program 32 x d) n i a deals
+  pub relu_last : 11 ≤ n → sought 32 (Mul d x s_slot ∷ []) (n - 11) (i + 36 + 2) (a + 22) (deals + 11) ≡ sought 32 (relu_program 32 x d) n i a deals
   unfolding relu_program sought sought_at meaning shape
   relu_last l =
-      let zi : i + 38 ≡ suc (suc (36 + i)) = omega arith in
+      let zi : i + 36 + 2 ≡ suc (suc (36 + i)) = omega arith in
       let za : a + 22 ≡ 22 + a = omega arith in
       let zd : deals + 11 ≡ 11 + deals = omega arith in
       rw (zi, za, zd) (behind_sign (Const s_slot 1 ∷ Sub s_slot s_slot t_slot ∷ Mul d x s_slot ∷ []) x n i a deals l)
@@ -99,10 +99,10 @@ module _ (r x d n i a deals : ℕ) where
   saturation_sign = let e : i + 2 ≡ suc (suc i) = omega arith in rw e
 
   pub saturation_last : 11 ≤ n
-      → sought 32 (Mul res_slot t_slot res_slot ∷ []) (n - 11) (i + 39) (a + 22) (deals + 11) ≡ sought 32 (saturation 32 r x d) n i a deals
+      → sought 32 (Mul res_slot t_slot res_slot ∷ []) (n - 11) (i + 2 + 36 + 1) (a + 22) (deals + 11) ≡ sought 32 (saturation 32 r x d) n i a deals
   unfolding saturation_end sought sought_at meaning shape
   saturation_last l =
-      let zi : i + 39 ≡ suc (36 + (i + 2)) = omega arith in
+      let zi : i + 2 + 36 + 1 ≡ suc (36 + (i + 2)) = omega arith in
       let za : a + 22 ≡ 22 + a = omega arith in
       let zd : deals + 11 ≡ 11 + deals = omega arith in
       rw (zi, za, zd)
@@ -112,31 +112,31 @@ module _ (r x d n i a deals : ℕ) where
 -- ---- the exact truncation's
 
 module _ (k x d n i a deals : ℕ) where
-  pub exact_adder : sought 32 (adder 32 y_slot ++ exact_rest 32 k d) n (i + 4) (a + 1) (deals + 1)
+  pub exact_adder : sought 32 (adder 32 y_slot ++ exact_rest 32 k d) n (i + 1 + 3) (a + 1) (deals + 1)
       ≡ sought 32 (exact_program 32 k x d) n i a deals
   unfolding exact_head sought sought_at meaning shape
   exact_adder =
-      let e : i + 4 ≡ suc (suc (suc (suc i))) = omega arith in
+      let e : i + 1 + 3 ≡ suc (suc (suc (suc i))) = omega arith in
       rw (exact_parts 32 k x d, e, add-one a, add-one deals)
 
   pub exact_low : n ≡ 10
-      → Some (gate_place (i + 4 + 28 + 1 + 2) (a + 1 + 20 + 1) (deals + 1 + 10 + 1)) ≡ sought 32 (exact_program 32 k x d) n i a deals
+      → Some (gate_place (i + 1 + 3 + 28 + 1 + 2) (a + 1 + 20 + 1) (deals + 1 + 10 + 1)) ≡ sought 32 (exact_program 32 k x d) n i a deals
   unfolding exact_rest to_number sought sought_at meaning shape
   exact_low q =
       found (omega arith) (omega arith) (omega arith)
-      ∙ behind_adder (exact_rest 32 k d) y_slot n 0 (i + 4) (a + 1) (deals + 1) (omega arith) ∙ exact_adder
+      ∙ behind_adder (exact_rest 32 k d) y_slot n 0 (i + 1 + 3) (a + 1) (deals + 1) (omega arith) ∙ exact_adder
 
   pub exact_high : n ≡ 11
-      → Some (gate_place (i + 4 + 28 + 1 + 6 + 2 + 2) (a + 1 + 20 + 2 + 1) (deals + 1 + 10 + 1 + 1)) ≡ sought 32 (exact_program 32 k x d) n i a deals
+      → Some (gate_place (i + 1 + 3 + 28 + 1 + 6 + 2 + 2) (a + 1 + 20 + 2 + 1) (deals + 1 + 10 + 1 + 1)) ≡ sought 32 (exact_program 32 k x d) n i a deals
   unfolding exact_rest to_number sought sought_at meaning shape
   exact_high q =
       found (omega arith) (omega arith) (omega arith)
-      ∙ behind_adder (exact_rest 32 k d) y_slot n 1 (i + 4) (a + 1) (deals + 1) (omega arith) ∙ exact_adder
+      ∙ behind_adder (exact_rest 32 k d) y_slot n 1 (i + 1 + 3) (a + 1) (deals + 1) (omega arith) ∙ exact_adder
 
   pub exact_past : 12 ≤ n → None ≡ sought 32 (exact_program 32 k x d) n i a deals
   unfolding exact_rest to_number sought sought_at meaning shape
   exact_past h =
-      behind_adder (exact_rest 32 k d) y_slot n (suc (suc (n - 12))) (i + 4) (a + 1) (deals + 1) (omega arith) ∙ exact_adder
+      behind_adder (exact_rest 32 k d) y_slot n (suc (suc (n - 12))) (i + 1 + 3) (a + 1) (deals + 1) (omega arith) ∙ exact_adder
 
 -- ---- the one-bit truncation's
 

@@ -26,6 +26,10 @@ unfoldable pub sought : (w : ℕ) → List Gate → (n i a deals : ℕ) → Opti
 sought w [] n i a deals = None
 sought w (g ∷ gs) n i a deals = sought_at (shape (meaning w g)) n i a deals (sought w gs)
 
+-- .. behind a place where these gates start
+abbrev pub sought_from : (w : ℕ) → List Gate → (n : ℕ) → GatePlace → Option GatePlace
+sought_from w gs n p = sought w gs n p.gate p.a p.deals
+
 -- ---- the answer
 
 pub record Position : Type 0 where
