@@ -18,12 +18,12 @@ use jobs::{Condition, Counts};
 // A day list has 96 shares of two words each.
 const DAY_WORDS: usize = 192;
 
-const CURVE_END_EXCHANGES: u32 = programs::EXACT_EXCHANGES as u32
-    + programs::SATURATION_EXCHANGES as u32;
+const CURVE_END_EXCHANGES: u32 = programs::EXACT.exchanges as u32
+    + programs::SATURATION.exchanges as u32;
 
-const CURVE_END_DEALS: u32 = programs::EXACT_DEALS as u32 + programs::SATURATION_DEALS as u32;
+const CURVE_END_DEALS: u32 = programs::EXACT.deals as u32 + programs::SATURATION.deals as u32;
 
-const CURVE_END_WORDS_A: u32 = programs::EXACT_WORDS_A as u32 + programs::SATURATION_WORDS_A as u32;
+const CURVE_END_WORDS_A: u32 = programs::EXACT.a as u32 + programs::SATURATION.a as u32;
 
 // What the walk of a day goes by: the counts of one curve, which quarters count, and how many.
 #[derive(Clone, Copy, Debug, PartialEq, Eq)]
@@ -61,11 +61,11 @@ fn curve_counts(rows: u32) -> Counts
     requires { rows ≤ 16 }
     ensures { counted result ≡ curve_cost 0 rows }
 {
-    let b = rows * programs::ROW_EXCHANGES as u32 + CURVE_END_EXCHANGES;
+    let b = rows * programs::ROW.exchanges as u32 + CURVE_END_EXCHANGES;
     Counts {
-        deals: rows * programs::ROW_DEALS as u32 + CURVE_END_DEALS,
+        deals: rows * programs::ROW.deals as u32 + CURVE_END_DEALS,
         words: 2 * b,
-        a: rows * programs::ROW_WORDS_A as u32 + CURVE_END_WORDS_A,
+        a: rows * programs::ROW.a as u32 + CURVE_END_WORDS_A,
         b,
     }
 }
@@ -77,10 +77,10 @@ fn day_counts(curve: Counts, n: u32) -> Counts
     ensures { counted result ≡ day_of n (counted curve) }
 {
     Counts {
-        deals: curve.deals * n + programs::EXACT_DEALS as u32,
-        words: curve.words * n + 2 * programs::EXACT_EXCHANGES as u32,
-        a: curve.a * n + programs::EXACT_WORDS_A as u32,
-        b: curve.b * n + programs::EXACT_EXCHANGES as u32,
+        deals: curve.deals * n + programs::EXACT.deals as u32,
+        words: curve.words * n + 2 * programs::EXACT.exchanges as u32,
+        a: curve.a * n + programs::EXACT.a as u32,
+        b: curve.b * n + programs::EXACT.exchanges as u32,
     }
 }
 

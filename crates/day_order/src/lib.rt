@@ -9,6 +9,7 @@ ghost use Rattle.calendars.specs.Quarters.{held, tabled};
 ghost use Rattle.days.specs.Orders.{is_run, order_words, with_share, entered, left, summed, counted};
 
 use calendars::{Quarters, counts_at, factor};
+use gates::Lanes;
 use programs::{ACC_SLOT, T_SLOT};
 use word_lists::{at, put, word_after, word_at};
 use words::wrapping_mul;
@@ -22,6 +23,7 @@ pub const SHARE_SLOT: u32 = 15;
 const SHIFT: u32 = 16;
 
 // A quarter that counts, or the mean.
+#[tactic(auto, unfolding(days::specs::Orders::is_run))]
 pub fn is_run(quarters: Quarters, order: u32) -> bool
     ensures { result ≡ is_run (held quarters) order }
 {
@@ -33,6 +35,7 @@ pub fn is_run(quarters: Quarters, order: u32) -> bool
 }
 
 // The exact curve of a quarter; the exact truncation of the mean.
+#[tactic(auto, unfolding(days::specs::Orders::order_words, days::specs::Orders::own_order))]
 pub fn order_words(order: u32) -> [u32; 4]
     ensures { result ≡ order_words order }
 {
@@ -45,16 +48,16 @@ pub fn order_words(order: u32) -> [u32; 4]
 
 // The two words of an order's share, into the slot of the share at hand. The mean has none, and finds 0 behind the
 // list.
-pub fn take_share(shares: &[u32], order: u32, first: &mut [u32; 24], second: &mut [u32; 24])
-    ensures { (first.new ≡ with_share (Steps.at shares.now (order * 2)) first.old)
-        × (second.new
-        ≡ with_share (Steps.at shares.now (order * 2 + 1)) second.old) }
+pub fn take_share(shares: &[u32], order: u32, lanes: &mut Lanes)
+    ensures { (lanes.new.first ≡ with_share (Steps.at shares.now (order * 2)) lanes.old.first)
+        × (lanes.new.second ≡ with_share (Steps.at shares.now (order * 2 + 1)) lanes.old.second) }
 {
     let i = order as usize * 2;
-    put(first, SHARE_SLOT, word_at(shares, i));
-    put(second, SHARE_SLOT, word_after(shares, i));
+    put(&mut lanes.first, SHARE_SLOT, word_at(shares, i));
+    put(&mut lanes.second, SHARE_SLOT, word_after(shares, i));
 }
 
+#[tactic(auto, unfolding(days::specs::Orders::entered))]
 fn multiply(by: u32, lane: &mut [u32; 24])
     ensures { lane.new ≡ entered 32 by 96 lane.old }
 {
@@ -63,19 +66,21 @@ fn multiply(by: u32, lane: &mut [u32; 24])
 }
 
 // Before an order's gates: the mean of n counted quarters multiplies the sum.
-pub fn enter(order: u32, n: u32, first: &mut [u32; 24], second: &mut [u32; 24])
-    ensures { (first.new ≡ entered 32 (tabled n) order first.old)
-        × (second.new ≡ entered 32 (tabled n) order second.old) }
+#[tactic(auto, unfolding(days::specs::Orders::entered))]
+pub fn enter(order: u32, n: u32, lanes: &mut Lanes)
+    ensures { (lanes.new.first ≡ entered 32 (tabled n) order lanes.old.first)
+        × (lanes.new.second ≡ entered 32 (tabled n) order lanes.old.second) }
 {
     if order < QUARTERS {
         return;
     }
     let by = factor(n);
-    multiply(by, first);
-    multiply(by, second);
+    multiply(by, &mut lanes.first);
+    multiply(by, &mut lanes.second);
 }
 
 // Slot a is added to slot d.
+#[tactic(auto, unfolding(words::specs::Words::add))]
 fn add_to(lane: &mut [u32; 24], d: u32, a: u32)
     ensures { lane.new
         ≡ slice_set lane.old d
@@ -95,12 +100,13 @@ fn add_up(lane: &mut [u32; 24])
 }
 
 // Behind an order's gates: a quarter's value and R-1's a are added up.
-pub fn leave(order: u32, first: &mut [u32; 24], second: &mut [u32; 24])
-    ensures { (first.new ≡ left 32 order first.old)
-        × (second.new ≡ left 32 order second.old) }
+#[tactic(auto, unfolding(days::specs::Orders::left))]
+pub fn leave(order: u32, lanes: &mut Lanes)
+    ensures { (lanes.new.first ≡ left 32 order lanes.old.first)
+        × (lanes.new.second ≡ left 32 order lanes.old.second) }
 {
     if order < QUARTERS {
-        add_up(first);
-        add_up(second);
+        add_up(&mut lanes.first);
+        add_up(&mut lanes.second);
     }
 }

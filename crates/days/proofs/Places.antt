@@ -7,6 +7,7 @@ use Prim.Native.Nat.{ℕ, ◌+◌, ◌*◌, ◌≤◌, ◌<◌}
 use native.Mathlib.Omega.{arith}
 use lib.Dec.{ltb}
 use lib.ListN.{length, get_or, take, drop, length-append, length-map, take-append-drop}
+use Rattle.std.specs.Prelude.{Some, None}
 use Rattle.tables.specs.Table.{rows}
 use Rattle.gates.specs.Gates.{Gate, Add, Scale}
 use Rattle.gates.specs.Steps.{Step, local, deal, exchange, end, Cursor, origin, past}
@@ -15,10 +16,9 @@ use Rattle.gates.specs.Walk.{far}
 use Rattle.gates.specs.Costs.{Cost, plus, cost}
 use Rattle.gates.proofs.Needs.{cost_append, far_used}
 use Rattle.programs.specs.declared.Order.{Order}
-use Rattle.programs.specs.declared.Sought.TheVariants.{Found, Nowhere}
 use Rattle.programs.specs.Orders.{program}
 use Rattle.programs.specs.Sizes.{times_cost}
-use Rattle.programs.specs.Seek.{sought}
+use Rattle.programs.specs.Seek.{gate_place, sought}
 use Rattle.jobs.specs.CostTable.{curve_cost}
 use Rattle.calls.specs.Places.{nowhere, found, here, seek}
 use Rattle.calls.specs.Places as Places
@@ -130,7 +130,7 @@ module _ (table : List ℕ) (f : ℕ → Bool) where
 
     module _ (run : is_run f o ≡ true) where
       -- with little used before it
-      pub found_in_day : ((q : Order) → length (program 32 (rows table) q) ≤ 1000) → (i a n : ℕ) → sought 32 own x 0 0 0 ≡ Found i a n
+      pub found_in_day : ((q : Order) → length (program 32 (rows table) q) ≤ 1000) → (i a n : ℕ) → sought 32 own x 0 0 0 ≡ Some (gate_place i a n)
           → (seek o x (day_steps 32 table f) origin
           ≡ found (steps_from 32 (length (front (day_factor f) o) + i) (drop o G))
           (cursor o x ((used_by o).a + a) ((used_by o).b + x) ((used_by o).deals + n)))
@@ -148,7 +148,7 @@ module _ (table : List ℕ) (f : ℕ → Bool) where
             omega (arith, p.few_deals, p.few_gates, ap (λ (c : Cost). c.deals) k),
           )
 
-      pub nowhere_in_day : sought 32 own x 0 0 0 ≡ Nowhere → seek o x (day_steps 32 table f) origin ≡ nowhere
+      pub nowhere_in_day : sought 32 own x 0 0 0 ≡ None → seek o x (day_steps 32 table f) origin ≡ nowhere
       unfolding day_steps behind_gates
       nowhere_in_day e =
           no_place 32 G o x in_gates (sought_in_day 32 f (rows table) o h x run ∙ ap (behind_gates (length (front (day_factor f) o))) e)

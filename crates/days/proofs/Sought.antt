@@ -7,6 +7,7 @@ use native.Mathlib.Nat.{zero-add}
 use native.Mathlib.Omega.{arith}
 use lib.Dec.{ltb}
 use lib.ListN.{length, get_or}
+use Rattle.std.specs.Prelude.{Option, Some, None}
 use Rattle.tables.specs.Table.{Row}
 use Rattle.gates.specs.Gates.{Gate, Add, Scale}
 use Rattle.gates.specs.Steps.{product, refresh, known_product, Step}
@@ -15,9 +16,8 @@ use Rattle.gates.specs.declared.Shape.{Shape}
 use Rattle.gates.specs.declared.Shape.TheVariants.{Local, Dealing, Product, Undealt}
 use Rattle.gates.specs.Speech.{shape}
 use Rattle.programs.specs.Orders.{program}
-use Rattle.programs.specs.declared.Sought.{Sought}
-use Rattle.programs.specs.declared.Sought.TheVariants.{Found, Nowhere}
-use Rattle.programs.specs.Seek.{sought_at, sought}
+use Rattle.programs.specs.declared.GatePlace.{GatePlace}
+use Rattle.programs.specs.Seek.{gate_place, sought_at, sought}
 use Rattle.days.specs.Day.{day_factor, day_gates}
 use Rattle.days.specs.Orders.{own_order, is_run, front, back}
 use Rattle.days.proofs.Quarters.{left_out_at}
@@ -27,11 +27,11 @@ use Rattle.days.proofs.Orders.{order_is}
 
 -- ---- one gate on
 
-unfoldable one_on : Sought → Sought
-one_on (Found i a n) = Found (suc i) a n
-one_on Nowhere = Nowhere
+unfoldable one_on : Option GatePlace → Option GatePlace
+one_on (Some p) = Some (gate_place (suc p.gate) p.a p.deals)
+one_on None = None
 
-at_shift : (s : Shape) (x i a n : ℕ) (go : ℕ → ℕ → ℕ → ℕ → Sought) → ((x i a n : ℕ) → go x (suc i) a n ≡ one_on (go x i a n))
+at_shift : (s : Shape) (x i a n : ℕ) (go : ℕ → ℕ → ℕ → ℕ → Option GatePlace) → ((x i a n : ℕ) → go x (suc i) a n ≡ one_on (go x i a n))
     → sought_at s x (suc i) a n go ≡ one_on (sought_at s x i a n go)
 unfolding sought_at one_on
 at_shift Local x i a n go ih = ih x (suc i) a n
@@ -48,8 +48,8 @@ shift w (g ∷ gs) x i a n = at_shift (shape (meaning w g)) x i a n (sought w gs
 
 -- ---- moved gates, and gates behind them that are none
 
-module _ (ρ : ℕ → ℕ) (w : ℕ) (bs : List Gate) (free : (x i a n : ℕ) → sought w bs x i a n ≡ Nowhere) where
-  at_same : {d : ℕ} {y z : Step} → Same ρ d y z → (x i a n : ℕ) (go go' : ℕ → ℕ → ℕ → ℕ → Sought)
+module _ (ρ : ℕ → ℕ) (w : ℕ) (bs : List Gate) (free : (x i a n : ℕ) → sought w bs x i a n ≡ None) where
+  at_same : {d : ℕ} {y z : Step} → Same ρ d y z → (x i a n : ℕ) (go go' : ℕ → ℕ → ℕ → ℕ → Option GatePlace)
       → ((x i a n : ℕ) → go' x i a n ≡ go x i a n) → sought_at (shape z) x i a n go' ≡ sought_at (shape y) x i a n go
   unfolding sought_at shape moved_exchange
   at_same (same_local p q) x i a n go go' ih = ih x (suc i) a n
@@ -69,28 +69,28 @@ module _ (ρ : ℕ → ℕ) (w : ℕ) (bs : List Gate) (free : (x i a n : ℕ) �
 
 -- ---- an order of the day
 
-back_free : (w o x i a n : ℕ) → sought w (back o) x i a n ≡ Nowhere
+back_free : (w o x i a n : ℕ) → sought w (back o) x i a n ≡ None
 unfolding back sought sought_at meaning shape
 back_free w o x i a n = go (ltb o 96)
   where
-    go : (b : Bool) → sought w (cond b (Add 0 0 22 ∷ Add 1 1 20 ∷ []) []) x i a n ≡ Nowhere
+    go : (b : Bool) → sought w (cond b (Add 0 0 22 ∷ Add 1 1 20 ∷ []) []) x i a n ≡ None
     go true = refl
     go false = refl
 
 -- behind so many gates
-unfoldable pub behind_gates : (n : ℕ) → Sought → Sought
-behind_gates k (Found i a n) = Found (k + i) a n
-behind_gates k Nowhere = Nowhere
+unfoldable pub behind_gates : (n : ℕ) → Option GatePlace → Option GatePlace
+behind_gates k (Some p) = Some (gate_place (k + p.gate) p.a p.deals)
+behind_gates k None = None
 
-none_before : (s : Sought) → s ≡ behind_gates 0 s
+none_before : (s : Option GatePlace) → s ≡ behind_gates 0 s
 unfolding behind_gates
-none_before (Found i a n) = ap (λ (j : ℕ). Found j a n) (sym (zero-add i))
-none_before Nowhere = refl
+none_before (Some p) = ap (λ (j : ℕ). Some (gate_place j p.a p.deals)) (sym (zero-add p.gate))
+none_before None = refl
 
-one_before : (s : Sought) → one_on s ≡ behind_gates 1 s
+one_before : (s : Option GatePlace) → one_on s ≡ behind_gates 1 s
 unfolding behind_gates one_on
-one_before (Found i a n) = let e : suc i ≡ 1 + i = omega arith in ap (λ (j : ℕ). Found j a n) e
-one_before Nowhere = refl
+one_before (Some p) = let e : suc p.gate ≡ 1 + p.gate = omega arith in ap (λ (j : ℕ). Some (gate_place j p.a p.deals)) e
+one_before None = refl
 
 module _ (w : ℕ) (f : ℕ → Bool) (ps : List Row) (o : ℕ) (h : o ≤ 96) (x : ℕ) where
   abbrev own : List Gate
@@ -111,6 +111,6 @@ module _ (w : ℕ) (f : ℕ → Bool) (ps : List Row) (o : ℕ) (h : o ≤ 96) (
   sought_in_day run = ap (λ (gs : List Gate). sought w gs x 0 0 0) (order_is w f ps o h run) ∙ by_front (day_factor f) (ltb o 96)
 
   -- a quarter that is left out has none
-  pub none_left_out : o < 96 → f o ≡ false → sought w (get_or (day_gates w f ps) o []) x 0 0 0 ≡ Nowhere
+  pub none_left_out : o < 96 → f o ≡ false → sought w (get_or (day_gates w f ps) o []) x 0 0 0 ≡ None
   unfolding sought
   none_left_out l e = ap (λ (gs : List Gate). sought w gs x 0 0 0) (left_out_at w f ps o l e)

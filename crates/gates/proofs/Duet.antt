@@ -8,7 +8,7 @@ use Rattle.gates.specs.Hosts.{Pair, Triple, of0, act0, word_of1, word_of2, joint
 use Rattle.gates.specs.Hosts.{act, Supplied}
 use Rattle.gates.specs.Duet.{duet, utter, words, words1, words2, of12}
 use Rattle.gates.proofs.Seen.{through, Seen, Any, see_whole}
-use Rattle.gates.proofs.Lanes.{seen0, seen1, seen2, says1, says2, hears1, hears2}
+use Rattle.gates.proofs.LaneByLane.{seen0, seen1, seen2, says1, says2, hears1, hears2}
 
 module _ (A B D : List ℕ) where
   same12 : (x : Step) (ss : List Step) (c : Cursor) (j : Triple) → Supplied A B D (x ∷ ss) c j → Any x

@@ -1,6 +1,6 @@
 pub mod GateSteps
 pub mod Seen
-pub mod Lanes
+pub mod LaneByLane
 pub mod Formulas
 pub mod Needs
 pub mod Uses

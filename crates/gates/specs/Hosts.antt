@@ -2,12 +2,17 @@
 -- once. Assumes nothing.
 use Rattle.std.specs.Prelude.{◌≡◌, List, [], ◌∷◌, ℕ, suc, ◌<◌, length, set}
 use Rattle.shares.specs.Gates.{Share}
+use Rattle.gates.specs.declared.Lanes.{Lanes}
 use Rattle.gates.specs.Steps.{Lane, at, Exchange, Step, local, deal, exchange, end, say1, say2, meet, part2}
 use Rattle.gates.specs.Steps.{new_at, emit, Cursor, past}
 
 -- two lanes of a host: L1 and L2, or m and a mask
 abbrev pub Pair : Type 0
 Pair = Lane × Lane
+
+-- the code's two lanes
+abbrev pub pair_of : Lanes → Pair
+pair_of l = (l.first, l.second)
 
 -- m, L1, L2
 abbrev pub Triple : Type 0

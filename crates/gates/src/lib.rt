@@ -99,3 +99,10 @@ pub struct Used {
     pub b: usize,
     pub deals: usize,
 }
+
+// Two lanes of a host: of host 0 its masks L1 and L2, of hosts 1 and 2 the masked values m and their own mask.
+#[derive(Clone, Copy)]
+pub struct Lanes {
+    pub first: [u32; 24],
+    pub second: [u32; 24],
+}

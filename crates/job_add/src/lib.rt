@@ -1,31 +1,21 @@
-// Additions and subtractions of a job, on a lane in place (R-2): all three hosts go through `add_in_place`.
+// Additions and subtractions of a job, on lanes in place (R-2): all three hosts go through `add_in_place`.
 #![tactic(auto)]
 
 ghost use Rattle.std.specs.Prelude.{◌≡◌};
 ghost use Rattle.jobs.specs.Additions.{added};
 ghost use Rattle.job_add.specs.Here.{adds_here};
 
+use gates::Lanes;
 use programs::Order;
 use word_lists::{at, put};
 
 // Whether a walk that stands at a gate of an order can do the order at once: it is at the first gate, and the order
 // adds or subtracts registers, as every addition and subtraction of an accepted job does.
+#[tactic(auto, unfolding(crate::specs::Here::adds_here))]
 pub fn adds_here(o: Order, gate: usize) -> bool
     ensures { result ≡ adds_here o gate }
 {
-    if 0 < gate {
-        return false;
-    }
-    if 1 < o.kind {
-        return false;
-    }
-    if 15 < o.target {
-        return false;
-    }
-    if 15 < o.source {
-        return false;
-    }
-    o.fourth < 16
+    gate == 0 && o.kind < 2 && o.target < 16 && o.source < 16 && o.fourth < 16
 }
 
 // On one lane: kind 0 adds and kind 1 subtracts. Of all slots the target's alone is written, from what the sources
@@ -42,11 +32,11 @@ fn write_target(o: Order, lane: &mut [u32; 24])
     put(lane, o.target, std::num::wrapping_sub_u32(x, y));
 }
 
-// On both lanes of a host: L1 and L2, or m and its mask.
-pub fn add_in_place(o: Order, first: &mut [u32; 24], second: &mut [u32; 24])
-    ensures { (first.new ≡ added 32 o first.old)
-        × (second.new ≡ added 32 o second.old) }
+// On both lanes of a host.
+pub fn add_in_place(o: Order, lanes: &mut Lanes)
+    ensures { (lanes.new.first ≡ added 32 o lanes.old.first)
+        × (lanes.new.second ≡ added 32 o lanes.old.second) }
 {
-    write_target(o, first);
-    write_target(o, second);
+    write_target(o, &mut lanes.first);
+    write_target(o, &mut lanes.second);
 }

@@ -20,26 +20,26 @@ const REFRESH: u64 = ONE_OF_A + 1;
 
 const SLACK: u64 = ONE_DEAL + ONE_OF_A;
 
-const ONE_BIT: u64 = programs::ONE_BIT_DEALS as u64 * ONE_DEAL
-    + programs::ONE_BIT_WORDS_A as u64 * ONE_OF_A
-    + programs::ONE_BIT_EXCHANGES as u64;
+const ONE_BIT: u64 = programs::ONE_BIT.deals as u64 * ONE_DEAL
+    + programs::ONE_BIT.a as u64 * ONE_OF_A
+    + programs::ONE_BIT.exchanges as u64;
 
 // A refresh, then the one-bit truncation.
 const REFRESHED: u64 = REFRESH + ONE_BIT;
 
-const EXACT: u64 = programs::EXACT_DEALS as u64 * ONE_DEAL
-    + programs::EXACT_WORDS_A as u64 * ONE_OF_A
-    + programs::EXACT_EXCHANGES as u64;
+const EXACT: u64 = programs::EXACT.deals as u64 * ONE_DEAL
+    + programs::EXACT.a as u64 * ONE_OF_A
+    + programs::EXACT.exchanges as u64;
 
 // A ReLU, and a curve's row.
-const ROW: u64 = programs::ROW_DEALS as u64 * ONE_DEAL
-    + programs::ROW_WORDS_A as u64 * ONE_OF_A
-    + programs::ROW_EXCHANGES as u64;
+const ROW: u64 = programs::ROW.deals as u64 * ONE_DEAL
+    + programs::ROW.a as u64 * ONE_OF_A
+    + programs::ROW.exchanges as u64;
 
 // R-1's last steps of a curve.
-const SATURATION: u64 = programs::SATURATION_DEALS as u64 * ONE_DEAL
-    + programs::SATURATION_WORDS_A as u64 * ONE_OF_A
-    + programs::SATURATION_EXCHANGES as u64;
+const SATURATION: u64 = programs::SATURATION.deals as u64 * ONE_DEAL
+    + programs::SATURATION.a as u64 * ONE_OF_A
+    + programs::SATURATION.exchanges as u64;
 
 // The rows of a table that keeps its rules; without one no curve is counted.
 pub(crate) fn rows_of(table: &[u32], ruled: bool) -> u64

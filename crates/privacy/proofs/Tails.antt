@@ -11,7 +11,7 @@ use Rattle.gates.specs.Hosts.{Triple, of0, joint1, joint2, act, dealt, deals}
 use Rattle.gates.specs.Duet.{utter, words}
 use Rattle.gates.specs.Costs.{plus, step_cost, cost}
 use Rattle.gates.proofs.Needs.{past_used}
-use Rattle.gates.proofs.Lanes.{of0_act}
+use Rattle.gates.proofs.LaneByLane.{of0_act}
 use Rattle.privacy.specs.Unseen.{side1, side2}
 use Rattle.privacy.proofs.Sight.{need, told, hears1, hears2, is_dealt}
 

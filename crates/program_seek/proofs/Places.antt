@@ -7,6 +7,7 @@ use native.Mathlib.Numerals.{add-one, one-add}
 use native.Mathlib.Omega.{arith}
 use lib.IntN.{ℤ, pos}
 use lib.ListN.{length}
+use Rattle.std.specs.Prelude.{Option}
 use Rattle.gates.specs.Gates.{Gate, Add, Refresh, Scale}
 use Rattle.gates.specs.Steps.{product, refresh, known_product, Step, local, deal, exchange, end}
 use Rattle.gates.specs.Meaning.{meaning, order_steps}
@@ -14,7 +15,7 @@ use Rattle.gates.specs.Speech.{shape}
 use Rattle.gates.specs.Costs.{Cost, plus, step_cost, cost}
 use Rattle.tables.specs.Table.{Row, rows}
 use Rattle.curves.specs.Curve.{last_count, slope_after, coefficient}
-use Rattle.programs.specs.declared.Sought.{Sought}
+use Rattle.programs.specs.declared.GatePlace.{GatePlace}
 use Rattle.programs.specs.Programs.{y_slot, acc_slot, res_slot, relu_program}
 use Rattle.programs.specs.Programs.{row_program, rows_program, sum_program, truncation, saturation}
 use Rattle.programs.specs.Orders.{curve_program}
@@ -27,7 +28,7 @@ use Rattle.programs.proofs.Sizes.{relu_sized, row_sized, row_number, row_speaks}
 -- ---- one program after another
 
 -- past a step, where what is behind it finds the same
-same_step : (b : ℕ) (go go' : ℕ → ℕ → ℕ → ℕ → Sought) (h : (n i a deals : ℕ) → n < b → go n i a deals ≡ go' n i a deals)
+same_step : (b : ℕ) (go go' : ℕ → ℕ → ℕ → ℕ → Option GatePlace) (h : (n i a deals : ℕ) → n < b → go n i a deals ≡ go' n i a deals)
     (y : Step) (n i a deals : ℕ) → n < (step_cost y).b + b
     → sought_at (shape y) n i a deals go ≡ sought_at (shape y) n i a deals go'
 unfolding sought_at shape step_cost
@@ -50,7 +51,7 @@ sought_first w (g ∷ gs) hs n i a deals q =
     same_step (program_cost w gs).b (sought w gs) (sought w (gs ++ hs)) (sought_first w gs hs) (meaning w g) n i a deals q
 
 -- past a step's own exchange, if it has one
-step_over : (go : ℕ → ℕ → ℕ → ℕ → Sought) (y : Step) (n i a deals : ℕ)
+step_over : (go : ℕ → ℕ → ℕ → ℕ → Option GatePlace) (y : Step) (n i a deals : ℕ)
     → go n (suc i) ((step_cost y).a + a) ((step_cost y).deals + deals) ≡ sought_at (shape y) ((step_cost y).b + n) i a deals go
 unfolding sought_at shape step_cost
 step_over go (local d m l) n i a deals = rw (zero-add a, zero-add deals, zero-add n)
@@ -87,10 +88,12 @@ sought_after w gs hs z e n m i a deals q =
 
 -- a refresh, which uses a word of A and no deal
 pub refresh_next : (w : ℕ) (gs : List Gate) (n i a deals : ℕ) → (n ≡ 0 → ⊥)
-    → sought w gs (n - 1) (i + 1) (a + 1) deals ≡ sought w (Refresh acc_slot acc_slot ∷ gs) n i a deals
+    → sought w gs (n - 1) (i + 1) (a + 1) (deals + 0) ≡ sought w (Refresh acc_slot acc_slot ∷ gs) n i a deals
 unfolding sought sought_at meaning shape
 refresh_next w gs zero i a deals f = absurd (f refl)
-refresh_next w gs (suc n) i a deals f = let e : suc n - 1 ≡ n = omega arith in rw (e, add-one i, add-one a)
+refresh_next w gs (suc n) i a deals f = let e : suc n - 1 ≡ n = omega arith in
+    let z : deals + 0 ≡ deals = omega arith in
+    rw (e, z, add-one i, add-one a)
 
 -- ---- the rows of a curve, from the slope s before the first of them
 
@@ -168,12 +171,12 @@ module _ (w x d : ℕ) (ws : List ℕ) (mode n : ℕ) where
   at_row = n / row_exchanges w
 
   pub curve_row_place : at_row < length ws / 2
-      → sought w (relu_program w y_slot res_slot) (n % row_exchanges w) (row_gates w * at_row + 2) (row_words_a w * at_row)
+      → sought w (relu_program w y_slot res_slot) (n % row_exchanges w) (row_gates w * at_row + 1 + 1) (row_words_a w * at_row)
       (row_deals w * at_row)
       ≡ sought w (curve_program w x d (rows ws) mode) n 0 0 0
   unfolding curve_program
   curve_row_place h =
-      let zi : row_gates w * at_row + 2 ≡ suc (at_row * row_gates w + 1) = omega (arith, mul_comm (row_gates w) at_row) in
+      let zi : row_gates w * at_row + 1 + 1 ≡ suc (at_row * row_gates w + 1) = omega (arith, mul_comm (row_gates w) at_row) in
       let za : row_words_a w * at_row ≡ at_row * row_words_a w + 0 = omega (arith, mul_comm (row_words_a w) at_row) in
       let zd : row_deals w * at_row ≡ at_row * row_deals w + 0 = omega (arith, mul_comm (row_deals w) at_row) in
       rw (zi, za, zd)

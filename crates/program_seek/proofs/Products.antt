@@ -6,31 +6,31 @@ use native.Mathlib.Numerals.{add-one}
 use native.Mathlib.Omega.{arith}
 use lib.ListN.{length}
 use Rattle.truncations.specs.Adder.{doubled, distances, updates}
+use Rattle.std.specs.Prelude.{Option, Some, None}
 use Rattle.gates.specs.Gates.{Gate, Sub, Mul, Refresh, Const}
 use Rattle.gates.specs.Meaning.{meaning, order_steps}
 use Rattle.gates.specs.Speech.{shape}
 use Rattle.gates.specs.Costs.{cost_of, plus, step_cost, cost}
-use Rattle.programs.specs.declared.Sought.{Sought}
-use Rattle.programs.specs.declared.Sought.TheVariants.{Found, Nowhere}
+use Rattle.programs.specs.declared.GatePlace.{GatePlace}
 use Rattle.programs.specs.Programs.{s_slot, t_slot, y_slot, acc_slot, res_slot, update_gates, rounds, adder, to_number, sign_program}
 use Rattle.programs.specs.Programs.{relu_program, one_bit_program, exact_program, truncation, saturation_head, saturation_end, saturation}
 use Rattle.programs.specs.Costs.{program_cost}
 use Rattle.programs.specs.Sizes.{Size, size, size_of}
-use Rattle.programs.specs.Seek.{sought_at, sought}
+use Rattle.programs.specs.Seek.{gate_place, sought_at, sought}
 use Rattle.programs.proofs.AdderParts.{sign_rest, sign_parts, exact_head, exact_rest, exact_parts}
 use Rattle.programs.proofs.CurveGates.{refreshed}
 use Rattle.programs.proofs.Sizes.{exact_sized, adder_32, sign_32, exact_32}
 use Rattle.program_seek.proofs.Places.{sought_first, sought_after}
 
-found : {i j a b k l : ℕ} → i ≡ j → a ≡ b → k ≡ l → Found i a k ≡ Found j b l
-found p q r = λ t. Found (p t) (q t) (r t)
+found : {i j a b k l : ℕ} → i ≡ j → a ≡ b → k ≡ l → Some (gate_place i a k) ≡ Some (gate_place j b l)
+found p q r = λ t. Some (gate_place (p t) (q t) (r t))
 
 -- ---- the adder's, whatever gates are behind it
 
 module _ (w : ℕ) (gs : List Gate) where
   -- each round's at its gates 1 and 4; the last has the first alone
   rounds_place : (ds : List ℕ) (m i a deals : ℕ) → suc m < 2 * length ds
-      → Found (i + (5 * m + 3) / 2) (a + 2 * m) (deals + m) ≡ sought w (rounds (updates ds) ++ gs) m i a deals
+      → Some (gate_place (i + (5 * m + 3) / 2) (a + 2 * m) (deals + m)) ≡ sought w (rounds (updates ds) ++ gs) m i a deals
   unfolding updates rounds update_gates sought sought_at meaning shape
   rounds_place [] m i a deals h = absurd (omega arith)
   rounds_place (D ∷ []) zero i a deals h = found (omega arith) (omega arith) (omega arith)
@@ -41,12 +41,12 @@ module _ (w : ℕ) (gs : List Gate) where
       found (omega arith) (omega arith) (omega arith)
       ∙ rounds_place (E ∷ ds) m (suc (suc (suc (suc (suc i))))) (2 + (2 + a)) (suc (suc deals)) (omega arith)
 
-  pub adder_first : (x n i a deals : ℕ) → n ≡ 0 → Found (i + 2) (a + 1) (deals + 1) ≡ sought w (adder w x ++ gs) n i a deals
+  pub adder_first : (x n i a deals : ℕ) → n ≡ 0 → Some (gate_place (i + 2) (a + 1) (deals + 1)) ≡ sought w (adder w x ++ gs) n i a deals
   unfolding adder sought sought_at meaning shape
   adder_first x n i a deals z = rw z (found (omega arith) (omega arith) (omega arith))
 
   pub adder_later : (x n i a deals : ℕ) → (n ≡ 0 → ⊥) → n < 2 * length (distances w)
-      → Found (i + 5 - 1 + 5 * n / 2) (a + 2 * n) (deals + n) ≡ sought w (adder w x ++ gs) n i a deals
+      → Some (gate_place (i + (5 - 1 + 5 * n / 2)) (a + 2 * n) (deals + n)) ≡ sought w (adder w x ++ gs) n i a deals
   unfolding adder sought sought_at meaning shape
   adder_later x zero i a deals f h = absurd (f refl)
   adder_later x (suc m) i a deals f h =
@@ -67,7 +67,7 @@ module _ (gs : List Gate) (x n i a deals : ℕ) where
   pub sign_adder : sought 32 (adder 32 x ++ (sign_rest 32 ++ gs)) n i a deals ≡ sought 32 (sign_program 32 x ++ gs) n i a deals
   sign_adder = rw (sign_parts 32 x gs)
 
-  pub sign_number : n ≡ 10 → Found (i + 30 + 2) (a + 20 + 1) (deals + 10 + 1) ≡ sought 32 (sign_program 32 x ++ gs) n i a deals
+  pub sign_number : n ≡ 10 → Some (gate_place (i + 28 + 2 + 2) (a + 20 + 1) (deals + 10 + 1)) ≡ sought 32 (sign_program 32 x ++ gs) n i a deals
   unfolding sign_rest to_number sought sought_at meaning shape
   sign_number q =
       found (omega arith) (omega arith) (omega arith) ∙ behind_adder (sign_rest 32 ++ gs) x n 0 i a deals (omega arith) ∙ sign_adder
@@ -78,10 +78,10 @@ module _ (gs : List Gate) (x n i a deals : ℕ) where
 -- ---- the last product of the ReLU, and of R-1's steps
 
 module _ (x d n i a deals : ℕ) where
-  pub relu_last : 11 ≤ n → sought 32 (Mul d x s_slot ∷ []) (n - 11) (i + 38) (a + 22) (deals + 11) ≡ sought 32 (relu_program 32 x d) n i a deals
+  pub relu_last : 11 ≤ n → sought 32 (Mul d x s_slot ∷ []) (n - 11) (i + 36 + 2) (a + 22) (deals + 11) ≡ sought 32 (relu_program 32 x d) n i a deals
   unfolding relu_program sought sought_at meaning shape
   relu_last l =
-      let zi : i + 38 ≡ suc (suc (36 + i)) = omega arith in
+      let zi : i + 36 + 2 ≡ suc (suc (36 + i)) = omega arith in
       let za : a + 22 ≡ 22 + a = omega arith in
       let zd : deals + 11 ≡ 11 + deals = omega arith in
       rw (zi, za, zd) (behind_sign (Const s_slot 1 ∷ Sub s_slot s_slot t_slot ∷ Mul d x s_slot ∷ []) x n i a deals l)
@@ -99,10 +99,10 @@ module _ (r x d n i a deals : ℕ) where
   saturation_sign = let e : i + 2 ≡ suc (suc i) = omega arith in rw e
 
   pub saturation_last : 11 ≤ n
-      → sought 32 (Mul res_slot t_slot res_slot ∷ []) (n - 11) (i + 39) (a + 22) (deals + 11) ≡ sought 32 (saturation 32 r x d) n i a deals
+      → sought 32 (Mul res_slot t_slot res_slot ∷ []) (n - 11) (i + 2 + 36 + 1) (a + 22) (deals + 11) ≡ sought 32 (saturation 32 r x d) n i a deals
   unfolding saturation_end sought sought_at meaning shape
   saturation_last l =
-      let zi : i + 39 ≡ suc (36 + (i + 2)) = omega arith in
+      let zi : i + 2 + 36 + 1 ≡ suc (36 + (i + 2)) = omega arith in
       let za : a + 22 ≡ 22 + a = omega arith in
       let zd : deals + 11 ≡ 11 + deals = omega arith in
       rw (zi, za, zd)
@@ -112,40 +112,40 @@ module _ (r x d n i a deals : ℕ) where
 -- ---- the exact truncation's
 
 module _ (k x d n i a deals : ℕ) where
-  pub exact_adder : sought 32 (adder 32 y_slot ++ exact_rest 32 k d) n (i + 4) (a + 1) (deals + 1)
+  pub exact_adder : sought 32 (adder 32 y_slot ++ exact_rest 32 k d) n (i + 1 + 3) (a + 1) (deals + 1)
       ≡ sought 32 (exact_program 32 k x d) n i a deals
   unfolding exact_head sought sought_at meaning shape
   exact_adder =
-      let e : i + 4 ≡ suc (suc (suc (suc i))) = omega arith in
+      let e : i + 1 + 3 ≡ suc (suc (suc (suc i))) = omega arith in
       rw (exact_parts 32 k x d, e, add-one a, add-one deals)
 
   pub exact_low : n ≡ 10
-      → Found (i + 4 + 28 + 1 + 2) (a + 1 + 20 + 1) (deals + 1 + 10 + 1) ≡ sought 32 (exact_program 32 k x d) n i a deals
+      → Some (gate_place (i + 1 + 3 + 28 + 1 + 2) (a + 1 + 20 + 1) (deals + 1 + 10 + 1)) ≡ sought 32 (exact_program 32 k x d) n i a deals
   unfolding exact_rest to_number sought sought_at meaning shape
   exact_low q =
       found (omega arith) (omega arith) (omega arith)
-      ∙ behind_adder (exact_rest 32 k d) y_slot n 0 (i + 4) (a + 1) (deals + 1) (omega arith) ∙ exact_adder
+      ∙ behind_adder (exact_rest 32 k d) y_slot n 0 (i + 1 + 3) (a + 1) (deals + 1) (omega arith) ∙ exact_adder
 
   pub exact_high : n ≡ 11
-      → Found (i + 4 + 28 + 1 + 6 + 2 + 2) (a + 1 + 20 + 2 + 1) (deals + 1 + 10 + 1 + 1) ≡ sought 32 (exact_program 32 k x d) n i a deals
+      → Some (gate_place (i + 1 + 3 + 28 + 1 + 6 + 2 + 2) (a + 1 + 20 + 2 + 1) (deals + 1 + 10 + 1 + 1)) ≡ sought 32 (exact_program 32 k x d) n i a deals
   unfolding exact_rest to_number sought sought_at meaning shape
   exact_high q =
       found (omega arith) (omega arith) (omega arith)
-      ∙ behind_adder (exact_rest 32 k d) y_slot n 1 (i + 4) (a + 1) (deals + 1) (omega arith) ∙ exact_adder
+      ∙ behind_adder (exact_rest 32 k d) y_slot n 1 (i + 1 + 3) (a + 1) (deals + 1) (omega arith) ∙ exact_adder
 
-  pub exact_past : 12 ≤ n → Nowhere ≡ sought 32 (exact_program 32 k x d) n i a deals
+  pub exact_past : 12 ≤ n → None ≡ sought 32 (exact_program 32 k x d) n i a deals
   unfolding exact_rest to_number sought sought_at meaning shape
   exact_past h =
-      behind_adder (exact_rest 32 k d) y_slot n (suc (suc (n - 12))) (i + 4) (a + 1) (deals + 1) (omega arith) ∙ exact_adder
+      behind_adder (exact_rest 32 k d) y_slot n (suc (suc (n - 12))) (i + 1 + 3) (a + 1) (deals + 1) (omega arith) ∙ exact_adder
 
 -- ---- the one-bit truncation's
 
 module _ (w k x d n i a deals : ℕ) where
-  pub one_bit_place : n ≡ 0 → Found (i + 5) (a + 2) (deals + 2) ≡ sought w (one_bit_program w k x d) n i a deals
+  pub one_bit_place : n ≡ 0 → Some (gate_place (i + 5) (a + 2) (deals + 2)) ≡ sought w (one_bit_program w k x d) n i a deals
   unfolding one_bit_program sought sought_at meaning shape
   one_bit_place z = rw z (found (omega arith) (omega arith) (omega arith))
 
-pub one_bit_past : (w k x d n i a deals : ℕ) → (n ≡ 0 → ⊥) → Nowhere ≡ sought w (one_bit_program w k x d) n i a deals
+pub one_bit_past : (w k x d n i a deals : ℕ) → (n ≡ 0 → ⊥) → None ≡ sought w (one_bit_program w k x d) n i a deals
 unfolding one_bit_program sought sought_at meaning shape
 one_bit_past w k x d zero i a deals f = absurd (f refl)
 one_bit_past w k x d (suc n) i a deals f = refl
@@ -170,7 +170,7 @@ unfolding one_bit_program program_cost order_steps meaning cost step_cost plus
 refreshed_sized = refl
 
 module _ (gs : List Gate) (mode n i a deals : ℕ) where
-  abbrev all : List Gate → Sought
+  abbrev all : List Gate → Option GatePlace
   all ts = sought 32 (ts ++ gs) n i a deals
 
   abbrev exact_gates : List Gate

@@ -1,225 +1,196 @@
 // The place of an order's n-th product or refresh, in constant time: from the sizes of the blocks before it.
 #![tactic(auto)]
 
-ghost use Rattle.std.specs.Prelude.{◌≡◌, List, [], ◌∷◌, ◌++◌, ℕ, ◌+◌, ◌^◌, ◌≤◌, ◌<◌};
+ghost use Rattle.std.specs.Prelude.{◌≡◌, Some, List, [], ◌∷◌, ◌++◌, ℕ, ◌+◌, ◌*◌, ◌^◌, ◌≤◌, ◌<◌};
 ghost use Rattle.gates.specs.Gates.{Gate, Mul, Refresh};
 ghost use Rattle.tables.specs.Table.{rows};
+ghost use Rattle.programs.specs.Blocks.{Below};
+ghost use Rattle.programs.specs.declared.TheConstants.{ROW};
 ghost use Rattle.programs.specs.Programs.{adder, sign_program, relu_program, one_bit_program};
 ghost use Rattle.programs.specs.Programs.{exact_program, truncation, saturation};
 ghost use Rattle.programs.specs.Orders.{curve_program, program};
-ghost use Rattle.programs.specs.declared.Sought.TheVariants.{Found};
-ghost use Rattle.programs.specs.Seek.{sought, Seeks};
+ghost use Rattle.programs.specs.Seek.{gate_place, sought_from, Seeks};
 
 use programs::{
-    ADDER_DEALS, ADDER_EXCHANGES, ADDER_GATES, ADDER_HEAD, ADDER_WORDS_A, EXACT_DEALS,
-    EXACT_EXCHANGES, EXACT_GATES, EXACT_HEAD, EXACT_WORDS_A, NUMBER_DEALS, NUMBER_GATES,
-    NUMBER_WORDS_A, ONE_BIT_DEALS, Order, REFRESHED_EXCHANGES, REFRESHED_GATES, REFRESHED_WORDS_A,
-    RELU_LAST, ROUND_GATES, ROW_DEALS, ROW_EXCHANGES, ROW_GATES, ROW_WORDS_A, SATURATION_HEAD,
-    SATURATION_PRODUCT, SIGN_DEALS, SIGN_EXCHANGES, SIGN_NUMBER, SIGN_WORDS_A, Sought,
+    ADDER, ADDER_HEAD, BlockSize, DEAL, EXACT, EXACT_HEAD, GatePlace, NUMBER, Order, REFRESH,
+    REFRESHED, RELU_LAST, RELU_ONE, ROUND_GATES, ROW, ROW_HEAD, SATURATION_HEAD, SATURATION_PLUS,
+    SATURATION_PRODUCT, SIGN, SIGN_BIT, SIGN_NUMBER, START,
 };
 
-// The product of a block that starts with a deal and a known word: its gate 2.
-fn dealt_place(gate: usize, a: usize, deals: usize) -> Sought
-    requires { (gate ≤ 2 ^ 63) × (a ≤ 2 ^ 63) × (deals ≤ 2 ^ 63) }
-    ensures { result ≡ Found (gate + 2) (a + 1) (deals + 1) }
-{
-    Sought::Found {
-        gate: gate + 2,
-        a: a + 1,
-        deals: deals + 1,
-    }
-}
+// What stands before the product of a block that starts with a deal and a known word.
+const DEALT: BlockSize = BlockSize { gates: 2, ..DEAL };
+
+// Before the product of the one-bit truncation: both deals, and what is known of the source.
+const ONE_BIT_HEAD: BlockSize = BlockSize {
+    gates: 5,
+    exchanges: 0,
+    a: 2,
+    deals: 2,
+};
 
 // The adder's n-th product, whatever gates are behind it. After the first one, the even ones end a round each and the
 // odd ones stand three gates before; the first one is with a known value, and has no deal.
-fn adder_place(n: usize, gate: usize, a: usize, deals: usize) -> Sought
-    requires { (n < 10) × (gate ≤ 2 ^ 62) × (a ≤ 2 ^ 62) × (deals ≤ 2 ^ 62) }
-    ensures { (x : ℕ) (gs : List Gate) → result ≡ sought 32 (adder 32 x ++ gs) n gate a deals }
+fn adder_place(n: usize, from: GatePlace) -> GatePlace
+    requires { (n < 10) × Below (2 ^ 62) from }
+    ensures { (x : ℕ) (gs : List Gate) → Some result ≡ sought_from 32 (adder 32 x ++ gs) n from }
 {
     if n == 0 {
-        return dealt_place(gate, a, deals);
+        return from.after(DEALT);
     }
-    Sought::Found {
-        gate: gate + ADDER_HEAD - 1 + ROUND_GATES * n / 2,
-        a: a + 2 * n,
-        deals: deals + n,
-    }
+    from.after(BlockSize {
+        gates: ADDER_HEAD - 1 + ROUND_GATES * n / 2,
+        exchanges: n,
+        a: 2 * n,
+        deals: n,
+    })
 }
 
 // A program whose first gate is its one exchange.
-fn at_once(n: usize, gate: usize, a: usize, deals: usize) -> Sought
-    ensures { ((d x y : ℕ) → result ≡ sought 32 (Mul d x y ∷ []) n gate a deals)
-        × ((d x : ℕ) → result ≡ sought 32 (Refresh d x ∷ []) n gate a deals) }
+fn at_once(n: usize, from: GatePlace) -> Option<GatePlace>
+    ensures product { (d x y : ℕ) → result ≡ sought_from 32 (Mul d x y ∷ []) n from }
+    ensures refresh { (d x : ℕ) → result ≡ sought_from 32 (Refresh d x ∷ []) n from }
 {
-    if n == 0 {
-        Sought::Found { gate, a, deals }
-    } else {
-        Sought::Nowhere
-    }
+    if n == 0 { Some(from) } else { None }
 }
 
 // The sign's n-th product, whatever gates are behind it: the adder's, and that of the sign bit made a number.
-fn sign_place(n: usize, gate: usize, a: usize, deals: usize) -> Sought
-    requires { (n < 11) × (gate ≤ 2 ^ 62) × (a ≤ 2 ^ 62) × (deals ≤ 2 ^ 62) }
-    ensures { (x : ℕ) (gs : List Gate) → result ≡ sought 32 (sign_program 32 x ++ gs) n gate a deals }
+fn sign_place(n: usize, from: GatePlace) -> GatePlace
+    requires { (n < 11) × Below (2 ^ 62) from }
+    ensures { (x : ℕ) (gs : List Gate) → Some result ≡ sought_from 32 (sign_program 32 x ++ gs) n from }
 {
-    if n < ADDER_EXCHANGES {
-        return adder_place(n, gate, a, deals);
+    if n < ADDER.exchanges {
+        return adder_place(n, from);
     }
-    dealt_place(gate + SIGN_NUMBER, a + ADDER_WORDS_A, deals + ADDER_DEALS)
+    from.after(ADDER).past(SIGN_NUMBER - SIGN_BIT).after(DEALT)
 }
 
 // The sign, and the product that ends the program.
-fn relu_place(n: usize, gate: usize, a: usize, deals: usize) -> Sought
-    requires { (gate ≤ 2 ^ 62) × (a ≤ 2 ^ 62) × (deals ≤ 2 ^ 62) }
-    ensures { (x d : ℕ) → result ≡ sought 32 (relu_program 32 x d) n gate a deals }
+fn relu_place(n: usize, from: GatePlace) -> Option<GatePlace>
+    requires { Below (2 ^ 61) from }
+    ensures { (x d : ℕ) → result ≡ sought_from 32 (relu_program 32 x d) n from }
 {
-    if n < SIGN_EXCHANGES {
-        return sign_place(n, gate, a, deals);
+    if n < SIGN.exchanges {
+        return Some(sign_place(n, from));
     }
     at_once(
-        n - SIGN_EXCHANGES,
-        gate + RELU_LAST,
-        a + SIGN_WORDS_A,
-        deals + SIGN_DEALS,
+        n - SIGN.exchanges,
+        from.after(SIGN).past(RELU_LAST - RELU_ONE),
     )
 }
 
 // Two gates, the sign, and behind it a product between two gates.
-fn saturation_place(n: usize, gate: usize, a: usize, deals: usize) -> Sought
-    requires { (gate ≤ 2 ^ 61) × (a ≤ 2 ^ 61) × (deals ≤ 2 ^ 61) }
-    ensures { (r x d : ℕ) → result ≡ sought 32 (saturation 32 r x d) n gate a deals }
+fn saturation_place(n: usize, from: GatePlace) -> Option<GatePlace>
+    requires { Below (2 ^ 61) from }
+    ensures { (r x d : ℕ) → result ≡ sought_from 32 (saturation 32 r x d) n from }
 {
-    if n < SIGN_EXCHANGES {
-        return sign_place(n, gate + SATURATION_HEAD, a, deals);
+    let sign = from.past(SATURATION_HEAD);
+    if n < SIGN.exchanges {
+        return Some(sign_place(n, sign));
     }
     at_once(
-        n - SIGN_EXCHANGES,
-        gate + SATURATION_PRODUCT,
-        a + SIGN_WORDS_A,
-        deals + SIGN_DEALS,
+        n - SIGN.exchanges,
+        sign.after(SIGN).past(SATURATION_PRODUCT - SATURATION_PLUS),
     )
 }
 
 // A head with a deal, the adder, a gate, a bit made a number, two gates, and another one.
-fn exact_place(n: usize, gate: usize, a: usize, deals: usize) -> Sought
-    requires { (gate ≤ 2 ^ 61) × (a ≤ 2 ^ 61) × (deals ≤ 2 ^ 61) }
-    ensures { (k x d : ℕ) → result ≡ sought 32 (exact_program 32 k x d) n gate a deals }
+fn exact_place(n: usize, from: GatePlace) -> Option<GatePlace>
+    requires { Below (2 ^ 61) from }
+    ensures { (k x d : ℕ) → result ≡ sought_from 32 (exact_program 32 k x d) n from }
 {
-    let gate = gate + EXACT_HEAD;
-    let a = a + 1;
-    let deals = deals + 1;
-    if n < ADDER_EXCHANGES {
-        return adder_place(n, gate, a, deals);
+    let adder = from.after(DEAL).past(EXACT_HEAD - 1);
+    if n < ADDER.exchanges {
+        return Some(adder_place(n, adder));
     }
-    let gate = gate + ADDER_GATES + 1;
-    let a = a + ADDER_WORDS_A;
-    let deals = deals + ADDER_DEALS;
-    match n - ADDER_EXCHANGES {
-        0 => dealt_place(gate, a, deals),
-        1 => dealt_place(
-            gate + NUMBER_GATES + 2,
-            a + NUMBER_WORDS_A,
-            deals + NUMBER_DEALS,
-        ),
-        _ => Sought::Nowhere,
+    let low = adder.after(ADDER).past(1);
+    match n - ADDER.exchanges {
+        0 => Some(low.after(DEALT)),
+        1 => Some(low.after(NUMBER).past(2).after(DEALT)),
+        _ => None,
     }
 }
 
 // The product follows both deals and what is known of the source.
-fn one_bit_place(n: usize, gate: usize, a: usize, deals: usize) -> Sought
-    requires { (gate ≤ 2 ^ 62) × (a ≤ 2 ^ 62) × (deals ≤ 2 ^ 62) }
-    ensures { (k x d : ℕ) → result ≡ sought 32 (one_bit_program 32 k x d) n gate a deals }
+fn one_bit_place(n: usize, from: GatePlace) -> Option<GatePlace>
+    requires { Below (2 ^ 62) from }
+    ensures { (k x d : ℕ) → result ≡ sought_from 32 (one_bit_program 32 k x d) n from }
 {
     if n == 0 {
-        Sought::Found {
-            gate: gate + 5,
-            a: a + 2,
-            deals: deals + 2,
-        }
+        Some(from.after(ONE_BIT_HEAD))
     } else {
-        Sought::Nowhere
+        None
     }
 }
 
-// A refresh, which uses a word of A and no deal, and then the one-bit truncation.
-fn refreshed_place(n: usize, gate: usize, a: usize, deals: usize) -> Sought
-    requires { (gate < 2 ^ 62) × (a < 2 ^ 62) × (deals ≤ 2 ^ 62) }
-    ensures { result ≡ sought 32 (Refresh 22 22 ∷ one_bit_program 32 12 22 22) n gate a deals }
+// A refresh, and then the one-bit truncation.
+fn refreshed_place(n: usize, from: GatePlace) -> Option<GatePlace>
+    requires { Below (2 ^ 61) from }
+    ensures { result ≡ sought_from 32 (Refresh 22 22 ∷ one_bit_program 32 12 22 22) n from }
 {
     if n == 0 {
-        return Sought::Found { gate, a, deals };
+        return Some(from);
     }
-    one_bit_place(n - 1, gate + 1, a + 1, deals)
+    one_bit_place(n - 1, from.after(REFRESH))
 }
 
 // Behind a curve's rows: the truncation of its mode, and then R-1's last steps.
-fn end_place(mode: u32, n: usize, gate: usize, a: usize, deals: usize) -> Sought
-    requires { (gate ≤ 2 ^ 60) × (a ≤ 2 ^ 60) × (deals ≤ 2 ^ 60) }
+fn end_place(mode: u32, n: usize, from: GatePlace) -> Option<GatePlace>
+    requires { Below (2 ^ 60) from }
     ensures { (r x d : ℕ) →
-        result ≡ sought 32 (truncation 32 mode ++ saturation 32 r x d) n gate a deals }
+        result ≡ sought_from 32 (truncation 32 mode ++ saturation 32 r x d) n from }
 {
     if mode == 0 {
-        if n < EXACT_EXCHANGES {
-            return exact_place(n, gate, a, deals);
+        if n < EXACT.exchanges {
+            return exact_place(n, from);
         }
-        return saturation_place(
-            n - EXACT_EXCHANGES,
-            gate + EXACT_GATES,
-            a + EXACT_WORDS_A,
-            deals + EXACT_DEALS,
-        );
+        return saturation_place(n - EXACT.exchanges, from.after(EXACT));
     }
-    if n < REFRESHED_EXCHANGES {
-        return refreshed_place(n, gate, a, deals);
+    if n < REFRESHED.exchanges {
+        return refreshed_place(n, from);
     }
-    saturation_place(
-        n - REFRESHED_EXCHANGES,
-        gate + REFRESHED_GATES,
-        a + REFRESHED_WORDS_A,
-        deals + ONE_BIT_DEALS,
-    )
+    saturation_place(n - REFRESHED.exchanges, from.after(REFRESHED))
+}
+
+// Behind a curve's first gate and so many rows.
+fn behind_rows(count: usize) -> GatePlace
+    requires { count < 2 ^ 32 }
+    ensures { result ≡ gate_place (ROW.gates * count + 1) (ROW.a * count) (ROW.deals * count) }
+{
+    GatePlace {
+        gate: ROW.gates * count + 1,
+        a: ROW.a * count,
+        deals: ROW.deals * count,
+    }
 }
 
 // One gate stands before the rows, and one in each row before its ReLU, whose exchanges are the row's.
-fn curve_place(mode: u32, table: &[u32], n: u32) -> Sought
+fn curve_place(mode: u32, table: &[u32], n: u32) -> Option<GatePlace>
     ensures { (x d : ℕ) →
-        result ≡ sought 32 (curve_program 32 x d (rows table.now) mode) n 0 0 0 }
+        result ≡ sought_from 32 (curve_program 32 x d (rows table.now) mode) n START }
 {
     let n = n as usize;
     let count = table.len() / 2;
-    let row = n / ROW_EXCHANGES;
+    let row = n / ROW.exchanges;
     if row < count {
-        return relu_place(
-            n % ROW_EXCHANGES,
-            ROW_GATES * row + 2,
-            ROW_WORDS_A * row,
-            ROW_DEALS * row,
-        );
+        return relu_place(n % ROW.exchanges, behind_rows(row).past(ROW_HEAD));
     }
-    end_place(
-        mode,
-        n - ROW_EXCHANGES * count,
-        ROW_GATES * count + 1,
-        ROW_WORDS_A * count,
-        ROW_DEALS * count,
-    )
+    end_place(mode, n - ROW.exchanges * count, behind_rows(count))
 }
 
 // A turn is a u32, so that a curve's place fits its type whatever the table's length.
-pub fn seek(o: Order, table: &[u32], turn: u32) -> Sought
+pub fn seek(o: Order, table: &[u32], turn: u32) -> Option<GatePlace>
     ensures { Seeks 32 (program 32 (rows table.now) o) turn result }
 {
     let kind = o.kind;
     let c = o.fourth;
     let n = turn as usize;
     match kind {
-        4 => at_once(n, 0, 0, 0),
-        5 => at_once(n, 0, 0, 0),
-        7 => one_bit_place(n, 0, 0, 0),
-        8 => exact_place(n, 0, 0, 0),
-        9 => relu_place(n, 0, 0, 0),
+        4 => at_once(n, START),
+        5 => at_once(n, START),
+        7 => one_bit_place(n, START),
+        8 => exact_place(n, START),
+        9 => relu_place(n, START),
         10 => curve_place(c, table, turn),
-        _ => Sought::Nowhere,
+        _ => None,
     }
 }

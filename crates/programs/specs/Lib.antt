@@ -5,3 +5,4 @@ pub mod Costs
 pub mod Sizes
 pub mod Seek
 pub mod Savings
+pub mod Blocks

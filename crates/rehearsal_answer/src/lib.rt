@@ -9,10 +9,7 @@ ghost use Rattle.text_prints.specs.Answers.{held};
 ghost use Rattle.rehearsal_answer.specs.Rehearsal.{answer, answer_of};
 ghost use Rattle.rehearsal_answer.specs.Trial.{mode_word, in_first, trial, Ran};
 
-use programs::{
-    EXACT_DEALS, EXACT_EXCHANGES, EXACT_WORDS_A, ROW_DEALS, ROW_EXCHANGES, ROW_WORDS_A,
-    SATURATION_DEALS, SATURATION_EXCHANGES, SATURATION_WORDS_A,
-};
+use programs::{EXACT, ROW, SATURATION};
 use sample_masks::fill;
 use shares::{Opening, Shares, Sharing, share};
 use text_lines::{Asked, parse};
@@ -43,11 +40,11 @@ fn in_first(word: u32) -> [u32; 16]
 }
 
 // What an exact curve on the house table's eight rows needs; one-bit mode needs less.
-const LIST_A: usize = 8 * ROW_WORDS_A + EXACT_WORDS_A + SATURATION_WORDS_A;
+const LIST_A: usize = 8 * ROW.a + EXACT.a + SATURATION.a;
 
-const LIST_B: usize = 8 * ROW_EXCHANGES + EXACT_EXCHANGES + SATURATION_EXCHANGES;
+const LIST_B: usize = 8 * ROW.exchanges + EXACT.exchanges + SATURATION.exchanges;
 
-const DEALS: usize = 8 * ROW_DEALS + EXACT_DEALS + SATURATION_DEALS;
+const DEALS: usize = 8 * ROW.deals + EXACT.deals + SATURATION.deals;
 
 // The curve order on a share in register 0.
 fn curve(mode: u32, m: u32, l1: u32, l2: u32) -> Trio

@@ -5,7 +5,7 @@ use Prim.Native.Nat.{ℕ}
 use lib.ListN.{length, drop}
 use Rattle.gates.specs.Steps.{Step, Cursor, origin, past}
 use Rattle.gates.specs.Hosts.{Pair, Triple, of0, dealt, deals, act}
-use Rattle.gates.proofs.Lanes.{of0_act}
+use Rattle.gates.proofs.LaneByLane.{of0_act}
 use Rattle.jobs.specs.Job.{Fault}
 use Rattle.calls.specs.Lent.{dealer_fault}
 use Rattle.calls.specs.Calls.{script_deals, prepare}

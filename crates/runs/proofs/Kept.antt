@@ -9,7 +9,7 @@ use Rattle.gates.specs.Steps.{Lane, at, Exchange, Step, local, deal, exchange, e
 use Rattle.gates.specs.Walk.{Conf, conf, next, whole}
 use Rattle.gates.specs.Hosts.{Pair, Triple, of0, of1, of2, act0, deals, joint1, joint2, act, Starts, Supplied}
 use Rattle.gates.proofs.Seen.{through, Always, see_whole}
-use Rattle.gates.proofs.Lanes.{seen0}
+use Rattle.gates.proofs.LaneByLane.{seen0}
 use Rattle.gates.proofs.Needs.{deals_length}
 use Rattle.jobs.specs.Job.{Fault}
 use Rattle.calls.specs.Scripts.{script_cost}

@@ -8,7 +8,7 @@ use Rattle.gates.specs.Steps.{at, Exchange, product, known_product, Step, exchan
 use Rattle.gates.specs.Walk.{Conf, conf, next, Exchanging}
 use Rattle.gates.specs.Hosts.{Pair, Triple, of0, of1, of2, act0, joint1, joint2, act}
 use Rattle.gates.specs.Known.{KnownSide, SideAt, AtEach}
-use Rattle.gates.proofs.Lanes.{of0_act}
+use Rattle.gates.proofs.LaneByLane.{of0_act}
 use Rattle.tables.specs.Table.{Row, rows}
 use Rattle.programs.specs.declared.Order.{Order}
 use Rattle.programs.specs.Orders.{program}

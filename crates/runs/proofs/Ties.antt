@@ -10,7 +10,7 @@ use Rattle.gates.specs.Steps.{at, Exchange, Step, local, deal, exchange, end, Cu
 use Rattle.gates.specs.Walk.{Conf, conf, Exchanging, next, walk}
 use Rattle.gates.specs.Hosts.{Pair, Triple, of1, of2, joint1, joint2, act, Supplied}
 use Rattle.gates.proofs.Seen.{through, quiet, Seen, Always, see_walk}
-use Rattle.gates.proofs.Lanes.{seen1, seen2, says1, says2, hears1, hears2}
+use Rattle.gates.proofs.LaneByLane.{seen1, seen2, says1, says2, hears1, hears2}
 use Rattle.calls.specs.Places.{Found, found, seek}
 use Rattle.calls.specs.Lent.{Worker, worker1, worker2}
 use Rattle.calls.specs.Calls.{State, Answer, fresh2, word_at, spoken_at, state_of, report, hear_walk, place_fault, walked_to, resume}

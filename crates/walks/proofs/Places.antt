@@ -7,6 +7,7 @@ use native.Mathlib.Nat.{zero-add}
 use native.Mathlib.Omega.{arith}
 use lib.ListN.{length, get_or, take, drop}
 use lib.Seq.{drop-length, drop-cons, take_all}
+use Rattle.std.specs.Prelude.{Some, None}
 use Rattle.gates.specs.Gates.{Gate}
 use Rattle.gates.specs.Steps.{Step, Cursor, origin}
 use Rattle.gates.specs.Meaning.{meaning, order_steps, job_steps}
@@ -14,9 +15,7 @@ use Rattle.gates.specs.Costs.{Cost, cost}
 use Rattle.gates.specs.Walk.{Exchanging, far}
 use Rattle.gates.proofs.Needs.{Further, far_used}
 use Rattle.gates.specs.Codes.{At, fetched}
-use Rattle.programs.specs.declared.Sought.TheVariants.{Nowhere}
-use Rattle.programs.specs.declared.Sought.TheVariants as Sought
-use Rattle.programs.specs.Seek.{sought}
+use Rattle.programs.specs.Seek.{gate_place, sought}
 use Rattle.calls.specs.Places.{nowhere, found, seek}
 use Rattle.calls.specs.Calls.{stored_places, counted_to}
 use Rattle.calls.proofs.Hearing.{places_path}
@@ -85,7 +84,7 @@ module _ (w : ℕ) (programs : List (List Gate)) (o x : ℕ) where
     abbrev later : List Step
     later = job_steps w (drop (suc o) programs)
 
-    pub no_place : sought w own x 0 0 0 ≡ Nowhere → seek o x (job_steps w programs) origin ≡ nowhere
+    pub no_place : sought w own x 0 0 0 ≡ None → seek o x (job_steps w programs) origin ≡ nowhere
     unfolding job_steps
     no_place e =
         let p = skip_all w o x o programs origin (omega arith) (omega arith) refl in
@@ -112,7 +111,7 @@ module _ (w : ℕ) (programs : List (List Gate)) (o x : ℕ) where
         (omega (arith, u.deals, r.used_deals)))
 
     pub found_at : (n : ℕ) → ((q : ℕ) → q ≤ o → length (get_or programs q []) ≤ n)
-        → (i a dealt : ℕ) → sought w own x 0 0 0 ≡ Sought.Found i a dealt
+        → (i a dealt : ℕ) → sought w own x 0 0 0 ≡ Some (gate_place i a dealt)
         → Stands w n programs o x i ((before w programs o).a + a) ((before w programs o).b + x) ((before w programs o).deals + dealt)
     found_at n short i a dealt s =
         let k = before w programs o in

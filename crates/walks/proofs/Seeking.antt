@@ -1,6 +1,6 @@
 -- The place of a program's n-th product or refresh in a walk's steps: where `seek` finds it, with what is used before it in the
 -- program; or that there is none. Assumes nothing.
-use mathlib.Core.Path.{◌≡◌, refl}
+use mathlib.Core.Path.{◌≡◌, refl, ap}
 use mathlib.Core.Bool.{Bool, true, false, ◌&&◌}
 use mathlib.Core.List.{List, [], ◌∷◌}
 use Prim.Native.Nat.{ℕ, zero, suc, ◌+◌, ◌*◌, ◌≤◌, ◌<◌}
@@ -8,16 +8,16 @@ use native.Mathlib.Omega.{arith}
 use borrow.Author.Tests.{eq-eqb, ne_eqb}
 use lib.Dec.{eqb}
 use lib.ListN.{length, drop}
+use Rattle.std.specs.Prelude.{Some, None}
+use Rattle.std.proofs.lemmas.Option.{same_Some}
 use Rattle.gates.specs.Gates.{Gate}
 use Rattle.gates.specs.Steps.{Exchange, product, refresh, known_product, Step, local, deal, exchange, end, new_at, past_deal, Cursor, past}
 use Rattle.gates.specs.Meaning.{meaning, order_steps}
 use Rattle.gates.specs.Walk.{Exchanging}
 use Rattle.gates.specs.Speech.{shape}
 use Rattle.gates.specs.Codes.{At, fetched}
-use Rattle.programs.specs.declared.Sought.{Sought}
-use Rattle.programs.specs.declared.Sought.TheVariants.{Nowhere}
-use Rattle.programs.specs.declared.Sought.TheVariants as Sought
-use Rattle.programs.specs.Seek.{sought_at, sought}
+use Rattle.programs.specs.declared.GatePlace.{GatePlace}
+use Rattle.programs.specs.Seek.{gate_place, sought_at, sought}
 use Rattle.calls.specs.Places.{Found, nowhere, found, here, seek}
 use Rattle.gates.proofs.GateSteps.{OfGate, of_gate}
 use Rattle.gates.proofs.Fetched.{never}
@@ -107,13 +107,14 @@ module _ (w : ℕ) (g : Gate) (gs : List Gate) (ss : List Step) (i a dealt i' a'
       }
 
   -- at the gate that is sought
-  arrived : (d : ℕ) (e : Exchange) → meaning w g ≡ exchange d e → Sought.Found i a dealt ≡ Sought.Found i' a' dealt'
+  arrived : (d : ℕ) (e : Exchange) → meaning w g ≡ exchange d e → Some (gate_place i a dealt) ≡ Some (gate_place i' a' dealt')
       → Placed w (g ∷ gs) ss 0 i a dealt i' a' dealt'
   unfolding fetched order_steps seek
   arrived d e m f =
-      let ei : i ≡ i' = cc in
-      let ea : a ≡ a' = cc in
-      let ed : dealt ≡ dealt' = cc in
+      let p = same_Some _ _ f in
+      let ei : i ≡ i' = ap (λ (p : GatePlace). p.gate) p in
+      let ea : a ≡ a' = ap (λ (p : GatePlace). p.a) p in
+      let ed : dealt ≡ dealt' = ap (λ (p : GatePlace). p.deals) p in
       record {
         j = 0;
         gate = g;
@@ -155,8 +156,8 @@ module _ (w : ℕ) (g : Gate) (gs : List Gate) (ss : List Step) (i a dealt i' a'
         used_deals = omega (arith, r.used_deals);
       })
 
-  passed : ((m j a₁ dealt₁ : ℕ) → sought w gs m j a₁ dealt₁ ≡ Sought.Found i' a' dealt' → Placed w gs ss m j a₁ dealt₁ i' a' dealt')
-      → (y : Step) (n : ℕ) → meaning w g ≡ y → OfGate y → sought_at (shape y) n i a dealt (sought w gs) ≡ Sought.Found i' a' dealt'
+  passed : ((m j a₁ dealt₁ : ℕ) → sought w gs m j a₁ dealt₁ ≡ Some (gate_place i' a' dealt') → Placed w gs ss m j a₁ dealt₁ i' a' dealt')
+      → (y : Step) (n : ℕ) → meaning w g ≡ y → OfGate y → sought_at (shape y) n i a dealt (sought w gs) ≡ Some (gate_place i' a' dealt')
       → Placed w (g ∷ gs) ss n i a dealt i' a' dealt'
   unfolding sought_at shape seek past new_at past_deal
   passed ih (local d m l) n e h f =
@@ -185,7 +186,7 @@ module _ (w : ℕ) (g : Gate) (gs : List Gate) (ss : List Step) (i a dealt i' a'
   passed ih end n e h f = absurd h
 
 pub placed : (w : ℕ) (gs : List Gate) (ss : List Step) (n i a dealt i' a' dealt' : ℕ)
-    → sought w gs n i a dealt ≡ Sought.Found i' a' dealt'
+    → sought w gs n i a dealt ≡ Some (gate_place i' a' dealt')
     → Placed w gs ss n i a dealt i' a' dealt'
 unfolding sought
 placed w [] ss n i a dealt i' a' dealt' e = never (cc)
@@ -195,16 +196,16 @@ placed w (g ∷ gs) ss n i a dealt i' a' dealt' e =
 
 -- where there is no n-th product or refresh in the order o, there is no such place
 pub not_placed : (w : ℕ) (gs : List Gate) (ss : List Step) (n i a dealt o x : ℕ) (c : Cursor)
-    → sought w gs n i a dealt ≡ Nowhere → c.order ≡ o → x ≡ c.turn + n
+    → sought w gs n i a dealt ≡ None → c.order ≡ o → x ≡ c.turn + n
     → seek o x (order_steps w gs ss) c ≡ nowhere
 unfolding sought sought_at shape order_steps seek past
 not_placed w [] ss n i a dealt o x c e ho hx = gone o x ss _ (omega arith)
 not_placed w (g ∷ gs) ss n i a dealt o x c e ho hx =
     go (λ m j a₁ dealt₁ d f p q. not_placed w gs ss m j a₁ dealt₁ o x d f p q) (meaning w g) n refl (of_gate w g) e hx
   where
-    go : ((m j a₁ dealt₁ : ℕ) (d : Cursor) → sought w gs m j a₁ dealt₁ ≡ Nowhere → d.order ≡ o → x ≡ d.turn + m
+    go : ((m j a₁ dealt₁ : ℕ) (d : Cursor) → sought w gs m j a₁ dealt₁ ≡ None → d.order ≡ o → x ≡ d.turn + m
         → seek o x (order_steps w gs ss) d ≡ nowhere)
-        → (y : Step) (m : ℕ) → meaning w g ≡ y → OfGate y → sought_at (shape y) m i a dealt (sought w gs) ≡ Nowhere → x ≡ c.turn + m
+        → (y : Step) (m : ℕ) → meaning w g ≡ y → OfGate y → sought_at (shape y) m i a dealt (sought w gs) ≡ None → x ≡ c.turn + m
         → seek o x (meaning w g ∷ order_steps w gs ss) c ≡ nowhere
     go ih (local d l r) m p h f hm = rw p (ih m (suc i) a dealt _ f ho hm)
     go ih (deal d r) m p h f hm = rw p (ih m (suc i) (suc a) (suc dealt) _ f ho hm)

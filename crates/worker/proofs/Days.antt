@@ -8,6 +8,8 @@ use native.Mathlib.Numerals.{add-one}
 use native.Mathlib.Omega.{arith}
 use lib.Dec.{ltb}
 use lib.ListN.{length, drop, drop_of_length-le}
+use Rattle.std.specs.Prelude.{Option, Some, None}
+use Rattle.std.proofs.lemmas.Option.{none-some}
 use Rattle.tables.specs.Table.{Row, Rules, rows}
 use Rattle.gates.specs.Gates.{Gate}
 use Rattle.gates.specs.Steps.{Lane, at, Step, end, Cursor, origin}
@@ -20,10 +22,8 @@ use Rattle.gates.specs.Costs.{Cost}
 use Rattle.programs.specs.declared.Order.{Order}
 use Rattle.programs.specs.Orders.{program}
 use Rattle.programs.specs.Costs.{program_cost}
-use Rattle.programs.specs.Seek.{sought}
-use Rattle.programs.specs.declared.Sought.{Sought}
-use Rattle.programs.specs.declared.Sought.TheVariants.{Nowhere}
-use Rattle.programs.specs.declared.Sought.TheVariants as SoughtAt
+use Rattle.programs.specs.Seek.{gate_place, sought}
+use Rattle.programs.specs.declared.GatePlace.{GatePlace}
 use Rattle.programs.proofs.Sizes.{few_gates}
 use Rattle.jobs.specs.Job.{order_at, job_gates}
 use Rattle.jobs.specs.CostTable.{curve_cost, kind_costs, kind_cost}
@@ -101,41 +101,37 @@ pub own_sought : (T : List ℕ) (o x : ℕ) (J : List ℕ) → J ≡ order_words
 own_sought T o x J eJ ord eo =
     ap (λ (q : Order). sought 32 (program 32 (rows T) q) x 0 0 0) (eo ∙ ap (λ (j : List ℕ). order_at j 0) eJ ∙ own_at o)
 
-module _ (T : List ℕ) (f : ℕ → Bool) (o x : ℕ) (in_day : o ≤ 96) (g : Sought) (eg : g ≡ sought_run f T o x) where
-  pub none_placed : g ≡ Nowhere → seek o x (day_steps 32 T f) origin ≡ nowhere
+module _ (T : List ℕ) (f : ℕ → Bool) (o x : ℕ) (in_day : o ≤ 96) (g : Option GatePlace) (eg : g ≡ sought_run f T o x) where
+  pub none_placed : g ≡ None → seek o x (day_steps 32 T f) origin ≡ nowhere
   unfolding sought_run
   none_placed p = go (is_run f o) refl (sym eg ∙ p)
     where
-      go : (b : Bool) → is_run f o ≡ b → cond b (sought 32 (program 32 (rows T) (own_order o)) x 0 0 0) Nowhere ≡ Nowhere
+      go : (b : Bool) → is_run f o ≡ b → cond b (sought 32 (program 32 (rows T) (own_order o)) x 0 0 0) None ≡ None
           → seek o x (day_steps 32 T f) origin ≡ nowhere
       go true run e = nowhere_in_day T f o x in_day run e
       go false idle e = nowhere_left_out T f o x in_day idle
 
   -- a place is found in an order that is run alone
-  found_run : (i a n : ℕ) → g ≡ SoughtAt.Found i a n
-      → (is_run f o ≡ true) × (sought 32 (program 32 (rows T) (own_order o)) x 0 0 0 ≡ SoughtAt.Found i a n)
+  found_run : (p : GatePlace) → g ≡ Some p
+      → (is_run f o ≡ true) × (sought 32 (program 32 (rows T) (own_order o)) x 0 0 0 ≡ Some p)
   unfolding sought_run
-  found_run i a n p = go (is_run f o) refl (sym eg ∙ p)
+  found_run p s = go (is_run f o) refl (sym eg ∙ s)
     where
-      tag : Sought → ℕ
-      tag (SoughtAt.Found i a n) = 1
-      tag Nowhere = 0
-
-      go : (b : Bool) → is_run f o ≡ b → cond b (sought 32 (program 32 (rows T) (own_order o)) x 0 0 0) Nowhere ≡ SoughtAt.Found i a n
-          → (is_run f o ≡ true) × (sought 32 (program 32 (rows T) (own_order o)) x 0 0 0 ≡ SoughtAt.Found i a n)
+      go : (b : Bool) → is_run f o ≡ b → cond b (sought 32 (program 32 (rows T) (own_order o)) x 0 0 0) None ≡ Some p
+          → (is_run f o ≡ true) × (sought 32 (program 32 (rows T) (own_order o)) x 0 0 0 ≡ Some p)
       go true run e = (run, e)
-      go false idle e = let z : ◌≡◌ {A = ℕ} 0 1 = ap tag e in absurd (omega arith)
+      go false idle e = absurd (none-some p e)
 
-  pub placed_day : Rules T → (i a n : ℕ) → g ≡ SoughtAt.Found i a n → (k u : Cost) → k ≡ curve_cost 0 (length (rows T)) → u ≡ used_until f k o
-      → DayPlace T f o x i (u.a + a) (u.b + x) (u.deals + n)
+  pub placed_day : Rules T → (p : GatePlace) → g ≡ Some p → (k u : Cost) → k ≡ curve_cost 0 (length (rows T)) → u ≡ used_until f k o
+      → DayPlace T f o x p.gate (u.a + p.a) (u.b + x) (u.deals + p.deals)
   unfolding used_until
-  placed_day r i a n p k u ek eu =
-      let run = (found_run i a n p).0 in
-      let s = (found_run i a n p).1 in
-      let q = found_in_day T f o x in_day run (λ z. few_gates (rows T) z (λ c. r.at_most)) i a n s in
-      let e : sought 32 (program 32 (rows T) (order_at (order_words o) 0)) x 0 0 0 ≡ SoughtAt.Found i a n =
+  placed_day r p z k u ek eu =
+      let run = (found_run p z).0 in
+      let s = (found_run p z).1 in
+      let q = found_in_day T f o x in_day run (λ z. few_gates (rows T) z (λ c. r.at_most)) p.gate p.a p.deals s in
+      let e : sought 32 (program 32 (rows T) (order_at (order_words o) 0)) x 0 0 0 ≡ Some p =
       ap (λ (z : Order). sought 32 (program 32 (rows T) z) x 0 0 0) (own_at o) ∙ s in
-      let h = found_here 32 (order_words o) T 0 x (omega (arith, own_length o)) (sized_own T o r) i a n e in
+      let h = found_here 32 (order_words o) T 0 x (omega (arith, own_length o)) (sized_own T o r) p e in
       rw (eu, ek)
       (record {
         in_day = in_day;

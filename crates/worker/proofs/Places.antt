@@ -6,6 +6,7 @@ use Prim.Native.Nat.{ℕ, ◌+◌, ◌*◌, ◌/◌, ◌^◌, ◌≤◌, ◌<◌
 use native.Mathlib.Omega.{arith}
 use lib.ListN.{length, get_or, take, drop}
 use lib.Seq.{take_all}
+use Rattle.std.specs.Prelude.{Option, Some, None}
 use Rattle.tables.specs.Table.{rows}
 use Rattle.gates.specs.Gates.{Gate}
 use Rattle.gates.specs.Steps.{Step, origin}
@@ -16,10 +17,8 @@ use Rattle.programs.specs.declared.Order.{Order}
 use Rattle.programs.specs.Orders.{program}
 use Rattle.gates.specs.Codes.{At, fetched, step_of}
 use Rattle.gates.proofs.Uses.{few_used}
-use Rattle.programs.specs.declared.Sought.{Sought}
-use Rattle.programs.specs.declared.Sought.TheVariants.{Nowhere}
-use Rattle.programs.specs.declared.Sought.TheVariants as Sought
-use Rattle.programs.specs.Seek.{sought}
+use Rattle.programs.specs.declared.GatePlace.{GatePlace}
+use Rattle.programs.specs.Seek.{gate_place, sought}
 use Rattle.jobs.specs.Job.{Fault, job_fault, job_gates, job_cost, order_at, steps_of}
 use Rattle.calls.specs.Scripts.{job_script}
 use Rattle.calls.specs.Lent.{lent_fault, lent, passed}
@@ -92,15 +91,15 @@ module _ (w : ℕ) (job table : List ℕ) where
     sought_own : sought w (get_or (job_gates w job table) o []) x 0 0 0 ≡ sought w (own o) x 0 0 0
     sought_own = ap (λ (gs : List Gate). sought w gs x 0 0 0) (gates_at w job table o e)
 
-    pub found_here : Sized w job table → (i a dealt : ℕ) → sought w (own o) x 0 0 0 ≡ Sought.Found i a dealt
+    pub found_here : Sized w job table → (g : GatePlace) → sought w (own o) x 0 0 0 ≡ Some g
         → let k = before w (job_gates w job table) o in
-        There w job table o x i (k.a + a) (k.b + x) (k.deals + dealt)
-    found_here Z i a n s =
+        There w job table o x g.gate (k.a + g.a) (k.b + x) (k.deals + g.deals)
+    found_here Z g s =
         let os = job_gates w job table in
         let short : (q : ℕ) → q ≤ o → length (get_or os q []) ≤ 1000 =
         λ q h. subst (λ (z : List Gate). length z ≤ 1000) (sym (gates_at w job table q (omega arith))) (Z.few_gates q (omega arith)) in
-        let p = found_at w os o x in_gates 1000 short i a n (sought_own ∙ s) in
-        let at : fetched (own o) i ≡ At p.gate = ap (λ (z : List Gate). fetched z i) (sym (gates_at w job table o e)) ∙ p.there in
+        let p = found_at w os o x in_gates 1000 short g.gate g.a g.deals (sought_own ∙ s) in
+        let at : fetched (own o) g.gate ≡ At p.gate = ap (λ (z : List Gate). fetched z g.gate) (sym (gates_at w job table o e)) ∙ p.there in
         record {
           standing = record { in_job = e; held = p.gate; there = at; speaks = p.speaks };
           few_gates = p.few_gates;
@@ -111,7 +110,7 @@ module _ (w : ℕ) (job table : List ℕ) where
           is = p.is;
         }
 
-    pub nowhere_here : sought w (own o) x 0 0 0 ≡ Nowhere → seek o x (job_steps w (job_gates w job table)) origin ≡ nowhere
+    pub nowhere_here : sought w (own o) x 0 0 0 ≡ None → seek o x (job_steps w (job_gates w job table)) origin ≡ nowhere
     nowhere_here s = no_place w (job_gates w job table) o x in_gates (sought_own ∙ s)
 
   -- ---- what the code has in hand: its lists are checked, the order and its place in it are found, and the orders before are counted
@@ -120,32 +119,32 @@ module _ (w : ℕ) (job table : List ℕ) where
     pub accepted : (job_fault w job table).0 ≡ 0
     accepted = no_fault h (job_script w job table) M D (ap (λ (f : Fault). f.0) (sym e) ∙ z)
 
-    module _ (o x : ℕ) (l : o < length job / 4) (ord : Order) (eo : ord ≡ order_at job o) (f : Sought)
+    module _ (o x : ℕ) (l : o < length job / 4) (ord : Order) (eo : ord ≡ order_at job o) (f : Option GatePlace)
         (ef : f ≡ sought w (program w (rows table) ord) x 0 0 0) where
       sought_there : f ≡ sought w (own o) x 0 0 0
       sought_there = ef ∙ ap (λ (r : Order). sought w (program w (rows table) r) x 0 0 0) eo
 
-      pub none_there : f ≡ Nowhere → seek o x (job_steps w (job_gates w job table)) origin ≡ nowhere
+      pub none_there : f ≡ None → seek o x (job_steps w (job_gates w job table)) origin ≡ nowhere
       none_there p = nowhere_here o x l (sym sought_there ∙ p)
 
-      pub found_there : Sized w job table → (g a dealt : ℕ) → f ≡ Sought.Found g a dealt
+      pub found_there : Sized w job table → (g : GatePlace) → f ≡ Some g
           → (u : Cost) → u ≡ passed n (job_cost w (take (o * 4) job) table)
-          → There w job table o x g (u.a + a) (u.b + x) (u.deals + dealt)
+          → There w job table o x g.gate (u.a + g.a) (u.b + x) (u.deals + g.deals)
       unfolding passed
-      found_there Z g a dealt p u eu =
-          let H = found_here o x l Z g a dealt (sym sought_there ∙ p) in
+      found_there Z g p u eu =
+          let H = found_here o x l Z g (sym sought_there ∙ p) in
           let b : u ≡ before w (job_gates w job table) o =
           eu ∙ ap (λ (m : ℕ). passed m (job_cost w (take (o * 4) job) table)) z ∙ cost_before w job table o (omega arith) in
-          subst (λ (r : Cost). There w job table o x g (r.a + a) (r.b + x) (r.deals + dealt)) (sym b) H
+          subst (λ (r : Cost). There w job table o x g.gate (r.a + g.a) (r.b + x) (r.deals + g.deals)) (sym b) H
 
       -- the same by the code's own numbers, with what it works out of the gate there
-      pub stands_by : Sized w job table → (g a dealt : ℕ) → f ≡ Sought.Found g a dealt
+      pub stands_by : Sized w job table → (g : GatePlace) → f ≡ Some g
           → (u : Cost) → u ≡ passed n (job_cost w (take (o * 4) job) table)
-          → (r : Stand) → StandIs w (rows table) ord g (u.a + a) (u.b + x) (u.deals + dealt) r
+          → (r : Stand) → StandIs w (rows table) ord g.gate (u.a + g.a) (u.b + x) (u.deals + g.deals) r
           → There w job table o x r.at.gate r.at.a r.b r.at.deals
           × StandIs w (rows table) (order_at job o) r.at.gate r.at.a r.b r.at.deals r
-      stands_by Z g a dealt p u eu r S = (
-        there_at w job table o x _ _ _ _ (found_there Z g a dealt p u eu) ord r S,
+      stands_by Z g p u eu r S = (
+        there_at w job table o x _ _ _ _ (found_there Z g p u eu) ord r S,
         subst (λ (q : Order). StandIs w (rows table) q r.at.gate r.at.a r.b r.at.deals r) eo (stands_own w table ord _ _ _ _ r S),
       )
 

@@ -1,5 +1,5 @@
 -- What the code of a day goes by: what it is lent is checked, and a state's place is found. Assumes nothing.
-use Rattle.std.specs.Prelude.{◌≡◌, Bool, true, cond, List, ℕ, ◌+◌, ◌^◌, ◌≤◌, ◌<◌, length, drop}
+use Rattle.std.specs.Prelude.{◌≡◌, Bool, true, cond, List, ℕ, ◌+◌, ◌^◌, ◌≤◌, ◌<◌, length, drop, Option, None}
 use Rattle.tables.specs.Table.{Rules, rows}
 use Rattle.gates.specs.Steps.{origin}
 use Rattle.gates.specs.Costs.{Cost}
@@ -10,8 +10,7 @@ use Rattle.walks.specs.Halts.{steps_from}
 use Rattle.programs.specs.Sizes.{times_cost}
 use Rattle.calendars.specs.Ranges.{number}
 use Rattle.days.specs.Day.{Hours, counting, day_factor, day_gates, day_steps}
-use Rattle.programs.specs.declared.Sought.{Sought}
-use Rattle.programs.specs.declared.Sought.TheVariants.{Nowhere}
+use Rattle.programs.specs.declared.GatePlace.{GatePlace}
 use Rattle.programs.specs.Orders.{program}
 use Rattle.programs.specs.Seek.{sought}
 use Rattle.days.specs.Orders.{own_order, is_run, order_words, front}
@@ -28,8 +27,8 @@ used_until f k q = times_cost (number f 0 q) k
 
 -- where an order of a day has its x-th product or refresh, among the gates of the code's own order; one that is not run
 -- has none
-unfoldable pub sought_run : (f : ℕ → Bool) (table : List ℕ) (o x : ℕ) → Sought
-sought_run f T o x = cond (is_run f o) (sought 32 (program 32 (rows T) (own_order o)) x 0 0 0) Nowhere
+unfoldable pub sought_run : (f : ℕ → Bool) (table : List ℕ) (o x : ℕ) → Option GatePlace
+sought_run f T o x = cond (is_run f o) (sought 32 (program 32 (rows T) (own_order o)) x 0 0 0) None
 
 -- a table that keeps the rules, a day list, the counts of one curve, and how many quarters count
 pub record DayLent (table shares : List ℕ) (curve : Cost) (f : ℕ → Bool) (n : ℕ) : Type 0 where

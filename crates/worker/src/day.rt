@@ -29,7 +29,6 @@ use call_check::{Day, check_day_lent};
 use calls::Stored;
 use day_order::{QUARTERS, SHARE_SLOT, enter, leave, order_words, take_share};
 use job_order::order_at;
-use programs::Sought;
 use word_lists::{at, put};
 use worker_gate::Reach;
 
@@ -249,17 +248,12 @@ fn hear_parts(
         let number = end_fault(order as usize, end, turn, lent.whole, stored);
         return refused(number, 0, state(m, mask, order, turn, stored));
     }
-    let Sought::Found {
-        gate,
-        a,
-        deals: dealt,
-    } = place_in(lent.day, table, order, turn)
-    else {
+    let Some(place) = place_in(lent.day, table, order, turn) else {
         return refused(8, 0, state(m, mask, order, turn, stored));
     };
     let job = order_words(order);
     let used = used_before(lent.day, order);
-    let stand = stand_at(order_at(&job, 0), table, used, turn, gate, a, dealt);
+    let stand = stand_at(order_at(&job, 0), table, used, turn, place);
     if !are_same(stored, stand.walked) {
         return refused(18, 0, state(m, mask, order, turn, stored));
     }

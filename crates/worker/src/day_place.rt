@@ -11,7 +11,7 @@ use day_order::{is_run, order_words};
 use job_order::order_at;
 use jobs::Counts;
 use program_seek::seek;
-use programs::Sought;
+use programs::GatePlace;
 
 // What n quarters use, each of them a curve.
 fn used_by(curve: Counts, n: u32) -> Counts
@@ -37,12 +37,12 @@ pub(crate) fn used_before(day: Day, order: u32) -> Counts
 }
 
 // The product or refresh at a turn of an order; a quarter that is left out has none.
-pub(crate) fn place_in(day: Day, table: &[u32], order: u32, turn: u32) -> Sought
+pub(crate) fn place_in(day: Day, table: &[u32], order: u32, turn: u32) -> Option<GatePlace>
     ensures { result ≡ sought_run (held day.quarters) table.now order turn }
 {
     let quarters = day.quarters;
     if !is_run(quarters, order) {
-        return Sought::Nowhere;
+        return None;
     }
     let job = order_words(order);
     seek(order_at(&job, 0), table, turn)

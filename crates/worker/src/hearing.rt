@@ -19,7 +19,6 @@ use crate::{Answer, State};
 use call_check::check_lent;
 use job_order::order_at;
 use program_seek::seek;
-use programs::Sought;
 use worker_gate::{Reach, meet};
 
 // The other's word is heard at the product or refresh where the state stands; the walk goes on from the walk's places
@@ -100,15 +99,10 @@ impl State {
             return refused(number, 0, self);
         }
         let o = order_at(job, order);
-        let Sought::Found {
-            gate,
-            a,
-            deals: dealt,
-        } = seek(o, table, self.turn)
-        else {
+        let Some(place) = seek(o, table, self.turn) else {
             return refused(8, 0, self);
         };
-        let stand = stand_at(o, table, lent.counts, self.turn, gate, a, dealt);
+        let stand = stand_at(o, table, lent.counts, self.turn, place);
         if !are_same(self.stored, stand.walked) {
             return refused(18, 0, self);
         }

@@ -11,7 +11,7 @@ use gate_shape::used_by;
 use gates::GateCode;
 use jobs::Counts;
 use program_fetch::{gate_at, piece_at};
-use programs::Order;
+use programs::{GatePlace, Order};
 use worker_gate::Reach;
 
 // The product or refresh where a state stands, with b words of B used before it; and the walk's places there.
@@ -24,24 +24,18 @@ pub(crate) struct Stand {
 }
 
 // By what the orders before use, and what the order uses before its gate.
-pub(crate) fn stand_at(
-    o: Order,
-    table: &[u32],
-    used: Counts,
-    turn: u32,
-    gate: usize,
-    a: usize,
-    dealt: usize,
-) -> Stand
-    requires { (used.a + a < 2 ^ 30) × (used.b + turn < 2 ^ 30) × (used.deals + dealt < 2 ^ 30) }
-    ensures { StandIs 32 (rows table.now) o gate (used.a + a) (used.b + turn) (used.deals + dealt) result }
+pub(crate) fn stand_at(o: Order, table: &[u32], used: Counts, turn: u32, place: GatePlace) -> Stand
+    requires { (used.a + place.a < 2 ^ 30) × (used.b + turn < 2 ^ 30)
+        × (used.deals + place.deals < 2 ^ 30) }
+    ensures { StandIs 32 (rows table.now) o place.gate (used.a + place.a) (used.b + turn)
+        (used.deals + place.deals) result }
 {
-    let p = piece_at(o, table, gate);
+    let p = piece_at(o, table, place.gate);
     let g = gate_at(p, table, p.from);
     let at = Reach {
-        gate,
-        a: used.a as usize + a,
-        deals: used.deals as usize + dealt,
+        gate: place.gate,
+        a: used.a as usize + place.a,
+        deals: used.deals as usize + place.deals,
     };
     let b = used.b as usize + turn as usize;
     Stand {

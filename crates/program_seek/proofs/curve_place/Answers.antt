@@ -10,12 +10,13 @@ pub returns-then-row-count : goal.returns-then-row-count
 returns-then-row-count c =
     λ x d.
     let s = c in
-    c.relu_place.ensures 21 23 ∙ rw (row_32, row_gates, row_exchanges, row_words_a, row_deals) at
+    (rw (c.past.ensures, c.behind_rows.ensures) at (c.relu_place.ensures 21 23)) ∙ rw (row_32, row_gates, row_exchanges, row_words_a, row_deals) at
     (curve_row_place 32 x d s.args.table.now s.args.mode s.args.n (rw (row_32, row_exchanges) c.if-row-count.true))
 
 pub returns : goal.returns
 returns c =
     λ x d.
     let s = c in
-    c.end_place.ensures (last_count (rows s.args.table.now)) x d ∙ rw (row_32, row_gates, row_exchanges, row_words_a, row_deals) at
+    (rw c.behind_rows-2.ensures at (c.end_place.ensures (last_count (rows s.args.table.now)) x d))
+    ∙ rw (row_32, row_gates, row_exchanges, row_words_a, row_deals) at
     (rest_place 32 x d s.args.table.now s.args.mode s.args.n (rw (row_32, row_exchanges) c.if-row-count.false))

@@ -10,4 +10,4 @@ unfolding sought sought_at meaning shape
 returns-then-n-eq0 c = simp c.if-n-eq0.true
 
 pub returns : goal.returns
-returns c = c.one_bit_place.ensures 12 22 22 ∙ refresh_next 32 _ _ _ _ _ c.if-n-eq0.false
+returns c = c.one_bit_place.ensures 12 22 22 ∙ rw c.after.ensures (refresh_next 32 _ _ _ _ _ c.if-n-eq0.false)

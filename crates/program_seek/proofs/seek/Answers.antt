@@ -5,11 +5,11 @@ use Rattle.program_seek.proofs.seek.Goals as goal
 
 pub returns-in-4 : goal.returns-in-4
 unfolding program kinds
-returns-in-4 c = told _ _ _ _ (simp c.in-4.is (c.at_once.ensures.0 _ _ _))
+returns-in-4 c = told _ _ _ _ (simp c.in-4.is (c.at_once.ensures.product _ _ _))
 
 pub returns-in-5 : goal.returns-in-5
 unfolding program kinds
-returns-in-5 c = told _ _ _ _ (simp c.in-5.is (c.at_once-in-5.ensures.1 _ _))
+returns-in-5 c = told _ _ _ _ (simp c.in-5.is (c.at_once-in-5.ensures.refresh _ _))
 
 pub returns-in-7 : goal.returns-in-7
 unfolding program kinds

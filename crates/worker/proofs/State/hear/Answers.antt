@@ -58,7 +58,7 @@ stand_at-stand-requires c =
     let T = a.table.now in
     let t = found_there 32 J T a.host a.masks.now a.deals.now _ _ u.ensures.fault c.if-lent-ne0.false a.self.order a.self.turn
     c.if-n-order.false _ c.order_at-o.ensures _ c.seek.ensures.is
-    (sized J T (accepted 32 J T a.host a.masks.now a.deals.now _ _ u.ensures.fault c.if-lent-ne0.false)) _ _ _ c.in-Found.is (counted u.result.counts) u.ensures.counts in
+    (sized J T (accepted 32 J T a.host a.masks.now a.deals.now _ _ u.ensures.fault c.if-lent-ne0.false)) _ c.in-Some.is (counted u.result.counts) u.ensures.counts in
     (t.few_a, t.few_b, t.few_deals)
 
 pub returns-then-not-are_same : goal.returns-then-not-are_same
@@ -70,7 +70,7 @@ returns-then-not-are_same c =
     let T = a.table.now in
     let small = sized J T (accepted 32 J T a.host a.masks.now a.deals.now _ _ u.ensures.fault c.if-lent-ne0.false) in
     let S = stands_by 32 J T a.host a.masks.now a.deals.now _ _ u.ensures.fault c.if-lent-ne0.false a.self.order a.self.turn
-    c.if-n-order.false _ c.order_at-o.ensures _ c.seek.ensures.is small _ _ _ c.in-Found.is
+    c.if-n-order.false _ c.order_at-o.ensures _ c.seek.ensures.is small _ c.in-Some.is
     (counted u.result.counts) u.ensures.counts _ c.stand_at-stand.ensures in
     let o = a.self.order in
     c.refused-then-not-are_same.ensures
@@ -88,7 +88,7 @@ resume-h-requires c =
     let T = a.table.now in
     let small = sized J T (accepted 32 J T a.host a.masks.now a.deals.now _ _ u.ensures.fault c.if-lent-ne0.false) in
     let S = stands_by 32 J T a.host a.masks.now a.deals.now _ _ u.ensures.fault c.if-lent-ne0.false a.self.order a.self.turn
-    c.if-n-order.false _ c.order_at-o.ensures _ c.seek.ensures.is small _ _ _ c.in-Found.is
+    c.if-n-order.false _ c.order_at-o.ensures _ c.seek.ensures.is small _ c.in-Some.is
     (counted u.result.counts) u.ensures.counts _ c.stand_at-stand.ensures in
     (small, S.0.standing, S.1, S.0.few_gates, S.0.few_turns, S.0.few_a, S.0.few_deals, S.0.few_b)
 
@@ -101,7 +101,7 @@ returns c =
     let T = a.table.now in
     let small = sized J T (accepted 32 J T a.host a.masks.now a.deals.now _ _ u.ensures.fault c.if-lent-ne0.false) in
     let S = stands_by 32 J T a.host a.masks.now a.deals.now _ _ u.ensures.fault c.if-lent-ne0.false a.self.order a.self.turn
-    c.if-n-order.false _ c.order_at-o.ensures _ c.seek.ensures.is small _ _ _ c.in-Found.is
+    c.if-n-order.false _ c.order_at-o.ensures _ c.seek.ensures.is small _ c.in-Some.is
     (counted u.result.counts) u.ensures.counts _ c.stand_at-stand.ensures in
     let o = a.self.order in
     c.answered.ensures

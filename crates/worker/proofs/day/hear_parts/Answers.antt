@@ -62,7 +62,7 @@ stand_at-stand-requires c =
     let l = c.check_day_lent-lent in
     let f = held l.result.day.quarters in
     let L = day_lent a.host a.table.now a.shares.now H a.masks.now a.deals.now _ l.ensures.fault c.if-lent-ne0.false _ _ l.ensures.day in
-    let placed = placed_day a.table.now f a.order a.turn (omega (arith, c.if-order-gt-QUARTERS.false)) _ c.place_in.ensures L.ruled _ _ _ c.in-Found.is
+    let placed = placed_day a.table.now f a.order a.turn (omega (arith, c.if-order-gt-QUARTERS.false)) _ c.place_in.ensures L.ruled _ c.in-Some.is
     (counted l.result.day.curve) (counted c.used_before-used.result) L.counts c.used_before-used.ensures in
     (placed.few_a, placed.few_b, placed.few_deals)
 
@@ -73,7 +73,7 @@ returns-then-not-are_same c =
     let l = c.check_day_lent-lent in
     let f = held l.result.day.quarters in
     let L = day_lent a.host a.table.now a.shares.now H a.masks.now a.deals.now _ l.ensures.fault c.if-lent-ne0.false _ _ l.ensures.day in
-    let placed = placed_day a.table.now f a.order a.turn (omega (arith, c.if-order-gt-QUARTERS.false)) _ c.place_in.ensures L.ruled _ _ _ c.in-Found.is
+    let placed = placed_day a.table.now f a.order a.turn (omega (arith, c.if-order-gt-QUARTERS.false)) _ c.place_in.ensures L.ruled _ c.in-Some.is
     (counted l.result.day.curve) (counted c.used_before-used.result) L.counts c.used_before-used.ensures in
     let p = stands_in _ _ _ _ _ _ _ _ placed _ c.order_words-job.ensures _ c.order_at.ensures _ c.stand_at-stand.ensures in
     c.refused-then-not-are_same.ensures ∙ ap (refused _) c.state-then-not-are_same.ensures
@@ -87,7 +87,7 @@ hear_there-requires c =
     let l = c.check_day_lent-lent in
     let f = held l.result.day.quarters in
     let L = day_lent a.host a.table.now a.shares.now H a.masks.now a.deals.now _ l.ensures.fault c.if-lent-ne0.false _ _ l.ensures.day in
-    let placed = placed_day a.table.now f a.order a.turn (omega (arith, c.if-order-gt-QUARTERS.false)) _ c.place_in.ensures L.ruled _ _ _ c.in-Found.is
+    let placed = placed_day a.table.now f a.order a.turn (omega (arith, c.if-order-gt-QUARTERS.false)) _ c.place_in.ensures L.ruled _ c.in-Some.is
     (counted l.result.day.curve) (counted c.used_before-used.result) L.counts c.used_before-used.ensures in
     let p = stands_in _ _ _ _ _ _ _ _ placed _ c.order_words-job.ensures _ c.order_at.ensures _ c.stand_at-stand.ensures in (
       L,

@@ -26,8 +26,8 @@ returns c =
       b_used = refl;
       deals_used = refl;
       fetches = λ h e. read_at 32 _ h
-          (c.gate_at-g.ensures ∙ gate_there 32 (rows a.table.now) a.o a.gate _ (piece_stands c.piece_at-p.ensures) h e);
+          (c.gate_at-g.ensures ∙ gate_there 32 (rows a.table.now) a.o a.place.gate _ (piece_stands c.piece_at-p.ensures) h e);
       places = c.places_with.ensures
-          ∙ ap (λ (y : Used). stored_places (a.used.a + a.a + y.a) (a.used.b + a.turn + 1) (a.used.deals + a.dealt + y.deals))
+          ∙ ap (λ (y : Used). stored_places (a.used.a + a.place.a + y.a) (a.used.b + a.turn + 1) (a.used.deals + a.place.deals + y.deals))
           c.used_by.ensures;
     }
