@@ -1,9 +1,9 @@
 -- A day's check by the tests that the code makes: its list's length, its hours, its table's rules, and the counts from the table's rows.
 -- Assumes nothing.
-use mathlib.Core.Path.{◌≡◌, refl, sym, ap, ap₂, ◌∙◌}
+use mathlib.Core.Path.{◌≡◌, sym, ap, ap₂, ◌∙◌}
 use mathlib.Core.Bool.{true, false}
 use mathlib.Core.List.{List}
-use Prim.Native.Nat.{ℕ, zero, suc, ◌/◌, ◌≤◌}
+use Prim.Native.Nat.{ℕ, ◌/◌, ◌≤◌}
 use native.Mathlib.Omega.{arith}
 use borrow.Author.Tests.{eq-eqb, ne_eqb}
 use lib.ListN.{length}
@@ -14,47 +14,18 @@ use Rattle.jobs.specs.Job.{Fault}
 use Rattle.jobs.specs.CostTable.{curve_cost, kind_costs, kind_cost}
 use Rattle.calls.specs.Lent.{or_else, dealer_lists_fault}
 use Rattle.calls.specs.Scripts.{script_cost}
-use Rattle.gates.specs.Costs.{cost_of}
-use Rattle.jobs.specs.declared.Counts.{Counts}
 use Rattle.jobs.specs.Counts.{counted}
-use Rattle.calls.specs.Lent.{passed}
-use Rattle.calls.proofs.Faults.{none_passed}
 use Rattle.calendars.specs.Calendar.{counted_quarters, calendar_number}
-use Rattle.calendars.specs.declared.answers.Counted.{Counted}
+use Rattle.calendars.specs.Answers.{Counted}
 use Rattle.calendars.specs.Quarters.{quarters_where}
 use Rattle.calendars.specs.Answers as Answers
 use Rattle.calendars.proofs.OpeningHours.{opening_hours}
 use Rattle.calendars.proofs.Counting.{answered}
 use Rattle.days.specs.Day.{Hours, counting, day_fault, day_script, day_of}
 use Rattle.days.proofs.Counts.{day_counts}
-use Rattle.call_check.specs.declared.day.Day.{Day}
-use Rattle.call_check.specs.declared.day.DayFinding.{DayFinding}
-use Rattle.call_check.specs.Faults.{needs_of}
-use Rattle.call_check.specs.Days.{no_quarters, passed_quarters, passed_n, DayIs}
-
--- a call that is turned down has nothing to walk by
-pub nothing_found : (r : DayFinding) (n : ℕ) (T : List ℕ) (H : Hours)
-    → (r.number ≡ n) × (counted r.day.curve ≡ cost_of 0 0 0 0) × (r.day.quarters ≡ no_quarters) × (r.day.n ≡ 0)
-    × (counted r.whole ≡ cost_of 0 0 0 0)
-    → (n ≡ 0 → ⊥) → DayIs r.number T H r.day r.whole
-unfolding passed_quarters passed_n
-nothing_found r n T H t ne =
-    let some : r.number ≡ 0 → ⊥ = λ z. ne (sym t.0 ∙ z) in
-    record {
-      curve = t.1 ∙ none_passed r.number (curve_cost 0 (length (rows T))) some;
-      quarters = t.2 ∙ no_bits r.number some;
-      n = t.3 ∙ no_number r.number some;
-      counts = t.4
-          ∙ none_passed r.number (day_of (counted_quarters H.calendar H.weekday) (curve_cost 0 (length (rows T)))) some;
-    }
-  where
-    no_bits : (m : ℕ) → (m ≡ 0 → ⊥) → no_quarters ≡ passed_quarters m H
-    no_bits zero h = absurd (h refl)
-    no_bits (suc m) h = refl
-
-    no_number : (m : ℕ) → (m ≡ 0 → ⊥) → 0 ≡ passed_n m H
-    no_number zero h = absurd (h refl)
-    no_number (suc m) h = refl
+use Rattle.call_check.specs.declared.day.CheckedDay.{CheckedDay}
+use Rattle.call_check.specs.Needs.{needs_of}
+use Rattle.call_check.specs.Days.{DayIs}
 
 pub no_day : (table : List ℕ) (n : ℕ) (H : Hours) (x : ℕ) → (n ≡ 192 → ⊥) → (12, 0) ≡ or_else (day_fault table n H) x
 unfolding day_fault or_else
@@ -127,10 +98,9 @@ module _ (table : List ℕ) (n : ℕ) (H : Hours) (day : n ≡ 192) (c : Counted
         day_are : day_of c.n k ≡ day_of (counted_quarters H.calendar H.weekday) (curve_cost 0 (length (rows table)))
         day_are = ap₂ day_of n_is counts_are
 
-        pub day_found : (d : Day) (whole : Counts) → counted d.curve ≡ k → d.quarters ≡ c.quarters → d.n ≡ c.n
-            → counted whole ≡ day_of c.n k → DayIs 0 table H d whole
-        unfolding passed passed_quarters passed_n
-        day_found d whole ed eq en ew =
+        pub day_found : (d : CheckedDay) → counted d.day.curve ≡ k → d.day.quarters ≡ c.quarters → d.day.n ≡ c.n
+            → counted d.whole ≡ day_of c.n k → DayIs table H d
+        day_found d ed eq en ew =
             record { curve = ed ∙ counts_are; quarters = eq ∙ bits_are; n = en ∙ n_is; counts = ew ∙ day_are }
 
         pub few_counts : (k.deals ≤ 1000) × (k.words ≤ 1000) × (k.a ≤ 1000) × (k.b ≤ 1000)

@@ -8,14 +8,12 @@ use borrow.Author.Tests.{le-ltb}
 use lib.Dec.{ltb}
 use lib.ListN.{length, take}
 use lib.Seq.{take_all}
-use Rattle.gates.specs.Costs.{Cost, cost_of}
+use Rattle.gates.specs.Costs.{Cost}
 use Rattle.jobs.specs.Job.{Fault, job_fault, job_cost, short_a, short_b, short_deals}
-use Rattle.jobs.specs.Counts.{counted}
 use Rattle.calls.specs.Scripts.{Script, script_cost}
-use Rattle.calls.specs.Lent.{lent, or_else, lists_fault, lent_fault, passed, dealer_lists_fault}
-use Rattle.calls.proofs.Faults.{Accepts, accepted_tells, or_accepted, no_host, none_passed}
-use Rattle.call_check.specs.declared.checking.Finding.{Finding}
-use Rattle.call_check.specs.Faults.{fault_of, needs_of}
+use Rattle.calls.specs.Lent.{lent, or_else, lists_fault, lent_fault, dealer_lists_fault}
+use Rattle.calls.proofs.Faults.{Accepts, accepted_tells, or_accepted, no_host}
+use Rattle.call_check.specs.Needs.{needs_of}
 
 -- an accepted job has the lists' number
 pub lists_tell : (w : ℕ) (job table A B D : List ℕ) (h x : ℕ) (k need : Cost) → Accepts w job table k → need ≡ needs_of h k
@@ -51,14 +49,9 @@ of_host σ (suc (suc (suc h))) M D f l u e = absurd (omega arith)
 
 module _ (w : ℕ) (job table : List ℕ) where
   -- no order stands after as many places as the job has words
-  pub all_before : (n : ℕ) → passed n (job_cost w (take (length job * 4) job) table) ≡ passed n (job_cost w job table)
-  all_before n = ap (λ (l : List ℕ). passed n (job_cost w l table)) (take_all (length job * 4) job (omega arith))
+  pub all_before : job_cost w (take (length job * 4) job) table ≡ job_cost w job table
+  all_before = ap (λ (l : List ℕ). job_cost w l table) (take_all (length job * 4) job (omega arith))
 
 pub other_host : (h : ℕ) (σ : Script) (M D : List ℕ) → (1 ≤ h → h < 3 → ⊥) → (1, 0) ≡ lent_fault (lent h σ M D)
 other_host h σ M D n =
     no_host h σ M D (λ (z : h ≡ 1). n (omega arith) (omega arith)) (λ (z : h ≡ 2). n (omega arith) (omega arith))
-
--- a call that is turned down has no counts
-pub none_counted : (r : Finding) (n i : ℕ) (k : Cost) → (fault_of r ≡ (n, i)) × (counted r.counts ≡ cost_of 0 0 0 0)
-    → (n ≡ 0 → ⊥) → counted r.counts ≡ passed r.number k
-none_counted r n i k t ne = t.1 ∙ none_passed r.number k (λ z. ne (sym (ap (λ (f : Fault). f.0) t.0) ∙ z))

@@ -1,2 +1,2 @@
-pub mod Faults
+pub mod Needs
 pub mod Days

@@ -1,18 +1,19 @@
 // What a call of a day is lent (R-3, R-6): the checks 1, 12, 16, 17, 5, 6 and 7 for each host.
-ghost use Rattle.std.specs.Prelude.{◌≡◌, ◌≤◌, length};
+ghost use Rattle.std.specs.Prelude.{◌≡◌, ◌≤◌, length, IfOk};
 ghost use Rattle.tables.specs.Table.{rows};
-ghost use Rattle.gates.specs.Costs.{cost_of};
 ghost use Rattle.jobs.specs.CostTable.{curve_cost};
 ghost use Rattle.jobs.specs.Counts.{counted};
+ghost use Rattle.jobs.specs.Refusals.{number_of, number_found};
 ghost use Rattle.calls.specs.Lent.{lent, or_else, lent_fault, dealer_lists_fault, dealer_fault};
 ghost use Rattle.calendars.specs.Calendar.{counted_quarters};
+ghost use Rattle.calendars.specs.Answers as Hours;
 ghost use Rattle.days.specs.Day.{hours, day_fault, day_script, day_of};
-ghost use Rattle.call_check.specs.Faults.{needs_of};
-ghost use Rattle.call_check.specs.Days.{no_quarters, DayIs};
+ghost use Rattle.call_check.specs.Needs.{needs_of};
+ghost use Rattle.call_check.specs.Days.{hours_found, DayIs};
 
-use crate::checking::{lists_fault, needs_of};
-use calendars::Quarters;
-use jobs::Counts;
+use crate::checking::{check_lists, needs_of};
+use calendars::{CountedQuarters, HoursError, Quarters};
+use jobs::{Condition, Counts};
 
 // A day list has 96 shares of two words each.
 const DAY_WORDS: usize = 192;
@@ -25,44 +26,34 @@ const CURVE_END_DEALS: u32 = programs::EXACT.deals as u32 + programs::SATURATION
 const CURVE_END_WORDS_A: u32 = programs::EXACT.a as u32 + programs::SATURATION.a as u32;
 
 // What the walk of a day goes by: the counts of one curve, which quarters count, and how many.
-#[derive(Clone, Copy)]
+#[derive(Clone, Copy, Debug, PartialEq, Eq)]
 pub struct Day {
     pub curve: Counts,
     pub quarters: Quarters,
     pub n: u32,
 }
 
-// The number, 0 for none; where there is one, the day and its counts are all 0. The index is 0 at every number.
-#[derive(Clone, Copy)]
-pub struct DayFinding {
-    pub number: u32,
+// A day whose call is not turned down, and its counts.
+#[derive(Clone, Copy, Debug, PartialEq, Eq)]
+pub struct CheckedDay {
     pub day: Day,
     pub whole: Counts,
 }
 
-fn day_turned_down(number: u32) -> DayFinding
-    ensures { (result.number ≡ number) × (counted result.day.curve ≡ cost_of 0 0 0 0)
-        × (result.day.quarters ≡ no_quarters) × (result.day.n ≡ 0) × (counted result.whole ≡ cost_of 0 0 0 0) }
+fn condition_of(error: HoursError) -> Condition
+    ensures { number_of result ≡ Hours.number_of error }
 {
-    let none = Counts {
-        deals: 0,
-        words: 0,
-        a: 0,
-        b: 0,
-    };
-    DayFinding {
-        number,
-        day: Day {
-            curve: none,
-            quarters: Quarters {
-                low: 0,
-                middle: 0,
-                high: 0,
-            },
-            n: 0,
-        },
-        whole: none,
+    match error {
+        HoursError::UnsoundCalendar => Condition::UnsoundCalendar,
+        HoursError::NoQuarter => Condition::NoQuarter,
     }
+}
+
+// Which quarters of a weekday count; what the calendar is refused with turns the call down.
+fn open_hours(calendar: &[u32], weekday: u32) -> Result<CountedQuarters, Condition>
+    ensures { hours_found result ≡ Hours.counted calendar.now weekday }
+{
+    calendars::counted(calendar, weekday).map_err(condition_of)
 }
 
 // The counts of an exact curve on a table of so many rows: a kind 9 for each, a kind 8, and R-1's last steps.
@@ -103,41 +94,33 @@ fn check_day(
     a: &[u32],
     b: &[u32],
     deals: &[u32],
-) -> DayFinding
-    ensures fault { (result.number, 0)
+) -> Result<CheckedDay, Condition>
+    ensures fault { (number_found result, 0)
         ≡ or_else
         (day_fault table.now (length shares.now) (hours calendar.now weekday))
         (dealer_lists_fault (needs_of host (day_of (counted_quarters calendar.now weekday)
         (curve_cost 0 (length (rows table.now)))))
         a.now b.now deals.now) }
-    ensures day { DayIs result.number table.now (hours calendar.now weekday) result.day result.whole }
+    ensures day { IfOk result (DayIs table.now (hours calendar.now weekday)) }
 {
     if shares.len() != DAY_WORDS {
-        return day_turned_down(12);
+        return Err(Condition::IllDayList);
     }
-    let found = calendars::counted(calendar, weekday);
-    if found.number != 0 {
-        return day_turned_down(found.number);
-    }
+    let found = open_hours(calendar, weekday)?;
     if !tables::keeps_rules(table) {
-        return day_turned_down(5);
+        return Err(Condition::IllOperand);
     }
     let curve = curve_counts((table.len() / 2) as u32);
     let whole = day_counts(curve, found.n);
-    let number = lists_fault(needs_of(host, whole), a, b, deals);
-    if number != 0 {
-        return day_turned_down(number);
-    }
-    let quarters = found.quarters;
-    DayFinding {
-        number: 0,
+    check_lists(needs_of(host, whole), a, b, deals)?;
+    Ok(CheckedDay {
         day: Day {
             curve,
-            quarters,
+            quarters: found.quarters,
             n: found.n,
         },
         whole,
-    }
+    })
 }
 
 // Hosts 1 and 2: 1, 12, 16, 17, 5, 6 and 7, and what the walk goes by. The one list is lent as A and as B.
@@ -149,17 +132,17 @@ pub fn check_day_lent(
     weekday: u32,
     masks: &[u32],
     deals: &[u32],
-) -> DayFinding
-    ensures fault { (result.number, 0)
+) -> Result<CheckedDay, Condition>
+    ensures fault { (number_found result, 0)
         ≡ lent_fault
         (lent host
         (day_script 32 table.now (length shares.now) (hours calendar.now weekday))
         masks.now deals.now) }
-    ensures day { DayIs result.number table.now (hours calendar.now weekday) result.day result.whole }
+    ensures day { IfOk result (DayIs table.now (hours calendar.now weekday)) }
 {
     match host {
         1 | 2 => check_day(host, table, shares, calendar, weekday, masks, masks, deals),
-        _ => day_turned_down(1),
+        _ => Err(Condition::OtherHost),
     }
 }
 
@@ -172,12 +155,12 @@ pub fn check_day_dealer(
     a: &[u32],
     b: &[u32],
     deals: &[u32],
-) -> DayFinding
-    ensures fault { (result.number, 0)
+) -> Result<CheckedDay, Condition>
+    ensures fault { (number_found result, 0)
         ≡ dealer_fault
         (day_script 32 table.now (length shares.now) (hours calendar.now weekday))
         a.now b.now deals.now }
-    ensures day { DayIs result.number table.now (hours calendar.now weekday) result.day result.whole }
+    ensures day { IfOk result (DayIs table.now (hours calendar.now weekday)) }
 {
     check_day(0, table, shares, calendar, weekday, a, b, deals)
 }

@@ -4,5 +4,5 @@
 mod checking;
 mod day;
 
-pub use checking::{Finding, check_dealer, check_lent};
-pub use day::{Day, DayFinding, check_day_dealer, check_day_lent};
+pub use checking::{check_dealer, check_lent};
+pub use day::{CheckedDay, Day, check_day_dealer, check_day_lent};

@@ -9,7 +9,7 @@ use lib.Dec.{eqb, ltb}
 use lib.ListN.{length, take}
 use Rattle.gates.specs.Costs.{Cost, cost_of}
 use Rattle.jobs.specs.Job.{Fault, job_fault, job_cost, short_a, short_b, short_deals}
-use Rattle.jobs.specs.Answers.{Verdict, refusal, judged, check_job, counts_before}
+use Rattle.jobs.specs.Answers.{Verdict, refusal, acceptance, judged, check_job, counts_before}
 use Rattle.calls.specs.Scripts.{Script, script_cost}
 use Rattle.calls.specs.Lent.{lent, or_else, lists_fault, lent_fault, dealer_lists_fault, dealer_fault, passed}
 
@@ -18,7 +18,7 @@ use Rattle.calls.specs.Lent.{lent, or_else, lists_fault, lent_fault, dealer_list
 module _ (w : ℕ) (job table : List ℕ) where
   -- it is accepted, with these counts
   abbrev pub Accepts : Cost → Type 0
-  Accepts k = record { accepted = true; number = 0; index = 0; counts = k } ≡ check_job w job table
+  Accepts k = acceptance k ≡ check_job w job table
 
   pub or_refused : (x n i : ℕ) → refusal (n, i) ≡ check_job w job table → (n ≡ 0 → ⊥) → (n, i) ≡ or_else (job_fault w job table) x
   unfolding check_job judged or_else
@@ -33,7 +33,7 @@ module _ (w : ℕ) (job table : List ℕ) where
   accepted_tells k e = go (job_fault w job table).0 (job_fault w job table) refl e
     where
       go : (m : ℕ) (f : Fault) → f.0 ≡ m
-          → record { accepted = true; number = 0; index = 0; counts = k } ≡ judged m f (job_cost w job table)
+          → acceptance k ≡ judged m f (job_cost w job table)
           → (m ≡ 0) × (job_cost w job table ≡ k)
       go zero f q p = (refl, sym (ap (λ (v : Verdict). v.counts) p))
       go (suc m) f q p = let z : 0 ≡ f.0 = ap (λ (v : Verdict). v.number) p in absurd (omega arith)

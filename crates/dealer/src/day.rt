@@ -7,13 +7,15 @@ ghost use Rattle.calendars.specs.Quarters.{held};
 ghost use Rattle.days.specs.Day.{hours, day_steps};
 ghost use Rattle.days.specs.DayCalls.{day_prepare};
 ghost use Rattle.days.specs.Orders.{within, first_tail, second_tail};
+ghost use Rattle.day_order.specs.Long.{Long};
 ghost use Rattle.dealer.specs.Answers.{answer};
 
 use crate::preparing::{deal_job, registers};
 use crate::{Masks, Prepared};
 use call_check::{Day, check_day_dealer};
 use day_order::{QUARTERS, SHARE_SLOT, enter, is_run, leave, order_words, take_share};
-use gates::Used;
+use dealer_gate::Lists;
+use gates::{Lanes, Used};
 use word_lists::put;
 
 // The orders of a day, from the first quarter to the mean; a quarter that is left out has no gates.
@@ -21,22 +23,19 @@ fn deal_day(
     table: &[u32],
     shares: &[u32],
     day: Day,
-    a: &[u32],
-    b: &[u32],
-    l1: &mut [u32; 24],
-    l2: &mut [u32; 24],
+    lists: Lists<'_>,
+    lanes: &mut Lanes,
     deals: &mut [u32],
 ) -> Used
-    requires { (length shares.now ≡ 192) × (length l1.old ≡ 24) × (length l2.old ≡ 24)
-        × (day.n ≡ number (held day.quarters) 0 96)
-        × Room a.now b.now (day_steps 32 table.now (held day.quarters))
-        (outset l1.old l2.old deals.old) }
-    ensures long { (length l1.new ≡ 24) × (length l2.new ≡ 24) }
-    ensures dealt { dealer result (within 0 (first_tail shares.now) l1.new)
-        (within 0 (second_tail shares.now) l2.new) deals.new
-        ≡ deal_all a.now b.now (day_steps 32 table.now (held day.quarters))
-        (outset (within 0 (first_tail shares.now) l1.old)
-        (within 0 (second_tail shares.now) l2.old) deals.old) }
+    requires { (length shares.now ≡ 192) × Long lanes.old × (day.n ≡ number (held day.quarters) 0 96)
+        × Room lists.a.now lists.b.now (day_steps 32 table.now (held day.quarters))
+        (outset lanes.old.first lanes.old.second deals.old) }
+    ensures long { Long lanes.new }
+    ensures dealt { dealer result (within 0 (first_tail shares.now) lanes.new.first)
+        (within 0 (second_tail shares.now) lanes.new.second) deals.new
+        ≡ deal_all lists.entry.a.now lists.entry.b.now (day_steps 32 table.now (held day.quarters))
+        (outset (within 0 (first_tail shares.now) lanes.old.first)
+        (within 0 (second_tail shares.now) lanes.old.second) deals.old) }
 {
     let quarters = day.quarters;
     let mut used = Used {
@@ -44,18 +43,15 @@ fn deal_day(
         b: 0,
         deals: 0,
     };
-    let mut o = 0;
-    while o <= QUARTERS {
+    for o in 0..=QUARTERS {
         if !is_run(quarters, o) {
-            o += 1;
             continue;
         }
-        take_share(shares, o, l1, l2);
-        enter(o, day.n, l1, l2);
+        take_share(shares, o, lanes);
+        enter(o, day.n, lanes);
         let job = order_words(o);
-        used = deal_job(&job, table, a, b, used, l1, l2, deals);
-        leave(o, l1, l2);
-        o += 1;
+        used = deal_job(&job, table, lists, used, lanes, deals);
+        leave(o, lanes);
     }
     used
 }
@@ -86,13 +82,15 @@ pub fn prepare_day(
             },
         };
     }
-    let mut l1 = [0u32; 24];
-    let mut l2 = [0u32; 24];
-    let used = deal_day(table, shares, found.day, a, b, &mut l1, &mut l2, deals);
-    put(&mut l1, SHARE_SLOT, 0);
-    put(&mut l2, SHARE_SLOT, 0);
-    let kept1 = registers(l1);
-    let kept2 = registers(l2);
+    let mut lanes = Lanes {
+        first: [0u32; 24],
+        second: [0u32; 24],
+    };
+    let used = deal_day(table, shares, found.day, Lists { a, b }, &mut lanes, deals);
+    put(&mut lanes.first, SHARE_SLOT, 0);
+    put(&mut lanes.second, SHARE_SLOT, 0);
+    let kept1 = registers(lanes.first);
+    let kept2 = registers(lanes.second);
     Prepared {
         number: 0,
         index: 0,

@@ -9,13 +9,14 @@ ghost use Rattle.calls.specs.Scripts.{job_script};
 ghost use Rattle.calls.specs.Calls as Calls;
 ghost use Rattle.gates.specs.Steps.{Lane};
 ghost use Rattle.walks.specs.Dealers.{dealer, Counts, dealing, deal_all, Room};
+ghost use Rattle.dealer_gate.specs.Dealers.{dealer_on};
 ghost use Rattle.dealer.specs.Answers.{answer};
 
 use crate::{Masks, Prepared};
 use call_check::check_dealer;
-use dealer_gate::deal_gate;
+use dealer_gate::{Lists, deal_gate};
 use gate_shape::used_by;
-use gates::{GateCode, Used};
+use gates::{GateCode, Lanes, Used};
 use job_add::{add_in_place, adds_here};
 use job_order::order_at;
 use program_fetch::{Piece, gate_at, piece_at};
@@ -48,48 +49,43 @@ fn behind(g: GateCode, used: Used) -> Used
 fn deal_piece(
     p: Piece,
     table: &[u32],
-    a: &[u32],
-    b: &[u32],
+    lists: Lists<'_>,
     used: Used,
-    l1: &mut [u32; 24],
-    l2: &mut [u32; 24],
+    lanes: &mut Lanes,
     deals: &mut [u32],
 ) -> Used
     requires { (p.end ≡ length (piece_gates 32 (rows table.now) p))
-        × Room a.now b.now (map (meaning 32) (drop p.from (piece_gates 32 (rows table.now) p)))
-        (dealer used l1.old l2.old deals.old) }
-    ensures { dealer result l1.new l2.new deals.new
-        ≡ deal_all a.now b.now
+        × Room lists.a.now lists.b.now (map (meaning 32) (drop p.from (piece_gates 32 (rows table.now) p)))
+        (dealer_on used lanes.old deals.old) }
+    ensures { dealer_on result lanes.new deals.new
+        ≡ deal_all lists.entry.a.now lists.entry.b.now
         (map (meaning 32) (drop p.from (piece_gates 32 (rows table.now) p)))
-        (dealer used l1.old l2.old deals.old) }
+        (dealer_on used lanes.old deals.old) }
 {
     let mut at = used;
-    let mut i = p.from;
-    while i < p.end {
+    for i in p.from..p.end {
         let gate = gate_at(p, table, i);
-        deal_gate(gate, a, b, at, l1, l2, deals);
+        deal_gate(gate, lists, at, lanes, deals);
         at = behind(gate, at);
-        i += 1;
     }
     at
 }
 
 // The orders of a job, from its first to its last: an addition or subtraction at once (R-2), the others piece by piece.
+// No count runs over these turns: an order has one turn or several.
 pub(crate) fn deal_job(
     job: &[u32],
     table: &[u32],
-    a: &[u32],
-    b: &[u32],
+    lists: Lists<'_>,
     used: Used,
-    l1: &mut [u32; 24],
-    l2: &mut [u32; 24],
+    lanes: &mut Lanes,
     deals: &mut [u32],
 ) -> Used
-    requires { Room a.now b.now (steps_of 32 job.now table.now)
-        (dealer used l1.old l2.old deals.old) }
-    ensures { dealer result l1.new l2.new deals.new
-        ≡ deal_all a.now b.now (steps_of 32 job.now table.now)
-        (dealer used l1.old l2.old deals.old) }
+    requires { Room lists.a.now lists.b.now (steps_of 32 job.now table.now)
+        (dealer_on used lanes.old deals.old) }
+    ensures { dealer_on result lanes.new deals.new
+        ≡ deal_all lists.entry.a.now lists.entry.b.now (steps_of 32 job.now table.now)
+        (dealer_on used lanes.old deals.old) }
 {
     let n = job.len() / 4;
     let mut at = used;
@@ -98,12 +94,12 @@ pub(crate) fn deal_job(
     while o < n {
         let order = order_at(job, o);
         if adds_here(order, gate) {
-            add_in_place(order, l1, l2);
+            add_in_place(order, lanes);
             o += 1;
             continue;
         }
         let piece = piece_at(order, table, gate);
-        at = deal_piece(piece, table, a, b, at, l1, l2, deals);
+        at = deal_piece(piece, table, lists, at, lanes, deals);
         if piece.last {
             o += 1;
             gate = 0;
@@ -130,10 +126,12 @@ pub fn prepare(
 {
     let first = masks.l1;
     let second = masks.l2;
-    let mut l1 = [0u32; 24];
-    let mut l2 = [0u32; 24];
-    copy_front(&first, &mut l1, 16);
-    copy_front(&second, &mut l2, 16);
+    let mut lanes = Lanes {
+        first: [0u32; 24],
+        second: [0u32; 24],
+    };
+    copy_front(&first, &mut lanes.first, 16);
+    copy_front(&second, &mut lanes.second, 16);
     let found = check_dealer(job, table, a, b, deals);
     if found.number != 0 {
         return Prepared {
@@ -148,9 +146,9 @@ pub fn prepare(
         b: 0,
         deals: 0,
     };
-    let used = deal_job(job, table, a, b, none, &mut l1, &mut l2, deals);
-    let kept1 = registers(l1);
-    let kept2 = registers(l2);
+    let used = deal_job(job, table, Lists { a, b }, none, &mut lanes, deals);
+    let kept1 = registers(lanes.first);
+    let kept2 = registers(lanes.second);
     Prepared {
         number: 0,
         index: 0,

@@ -2,7 +2,8 @@
 #![tactic(auto)]
 
 ghost use Rattle.gates.specs.Codes.{step_of};
-ghost use Rattle.walks.specs.Dealers.{dealer, Holds, dealing};
+ghost use Rattle.walks.specs.Dealers.{Holds, dealing};
+ghost use Rattle.dealer_gate.specs.Dealers.{dealer_on};
 
 use gate_deal::deal_word;
 use gate_local::step_mask;
@@ -22,8 +23,7 @@ pub struct Lists<'a> {
 // known value are the next words of both, and there is no deal. Host 2 knows a deal's second mask from the deal alone.
 pub fn deal_gate(g: GateCode, lists: Lists<'_>, used: Used, lanes: &mut Lanes, deals: &mut [u32])
     ensures { Holds
-        (dealing lists.entry.a.now lists.entry.b.now (step_of 32 g)
-        (dealer used lanes.old.first lanes.old.second deals.old))
+        (dealing lists.entry.a.now lists.entry.b.now (step_of 32 g) (dealer_on used lanes.old deals.old))
         lanes.new.first lanes.new.second deals.new }
 {
     let shape = shape_of(g);

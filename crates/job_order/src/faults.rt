@@ -60,7 +60,7 @@ pub fn order_fault(o: Order, ruled: bool) -> Option<Condition>
         return Some(Condition::UnknownRegister);
     }
     if ill_fourth(o, ruled) {
-        return Some(Condition::IllFourth);
+        return Some(Condition::IllOperand);
     }
     None
 }

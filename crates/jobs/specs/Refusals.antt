@@ -2,9 +2,9 @@
 use Rattle.std.specs.Prelude.{ℕ, Option, None, Some, Result, Ok, Err}
 use Rattle.jobs.specs.Job.{Fault}
 use Rattle.jobs.specs.declared.Condition.{Condition}
-use Rattle.jobs.specs.declared.Condition.TheVariants.{OtherHost, IllSized, UnknownKind, UnknownRegister, IllFourth}
+use Rattle.jobs.specs.declared.Condition.TheVariants.{OtherHost, IllSized, UnknownKind, UnknownRegister, IllOperand}
 use Rattle.jobs.specs.declared.Condition.TheVariants.{ShortMasks, ShortDeals, NoPlace, AtEnd}
-use Rattle.jobs.specs.declared.Condition.TheVariants.{IllDayList, IllCalendar, NoQuarter, OtherPlaces}
+use Rattle.jobs.specs.declared.Condition.TheVariants.{IllDayList, UnsoundCalendar, NoQuarter, OtherPlaces}
 use Rattle.jobs.specs.declared.Refusal.{Refusal}
 
 -- "Each enum answer has a definition that gives this paper's number"
@@ -19,7 +19,7 @@ number_of UnknownKind = 3
 number_of UnknownRegister = 4
 -- "5. A shift or mode lies outside its range, a fourth word due to be 0 is not, or the order is a curve and the table
 -- breaks its rules."; R-3: "a faulty table is 5 with index 0"
-number_of IllFourth = 5
+number_of IllOperand = 5
 -- "6. A list that this host uses .. is shorter than the job needs."
 number_of ShortMasks = 6
 -- "7. The deal list or deal buffer is shorter than the job's deals (hosts 0 and 2)."
@@ -32,7 +32,7 @@ number_of AtEnd = 9
 number_of IllDayList = 12
 -- R-6: "16, a weekday above 6, or on any weekday too many windows or one whose end is not after its start or is above
 -- 1440"
-number_of IllCalendar = 16
+number_of UnsoundCalendar = 16
 -- R-6: "17, no quarter counted"
 number_of NoQuarter = 17
 -- R-7: "18, stored places unequal to the walk's"

@@ -21,14 +21,14 @@ pub enum Condition {
     IllSized = 2,
     UnknownKind = 3,
     UnknownRegister = 4,
-    // An order's fourth word, or the table that its curve is lent.
-    IllFourth = 5,
+    // An order's fourth word, or the table that a curve is lent.
+    IllOperand = 5,
     ShortMasks = 6,
     ShortDeals = 7,
     NoPlace = 8,
     AtEnd = 9,
     IllDayList = 12,
-    IllCalendar = 16,
+    UnsoundCalendar = 16,
     NoQuarter = 17,
     OtherPlaces = 18,
 }
@@ -46,6 +46,15 @@ impl Condition {
 pub struct Refusal {
     pub condition: Condition,
     pub index: u32,
+}
+
+// "The order's index (0 except for 3 to 5)": of a condition that no order meets.
+impl From<Condition> for Refusal {
+    ghost from_gives = { λ condition refusal. refusal ≡ record { condition = condition; index = 0 } };
+
+    fn from(condition: Condition) -> Refusal {
+        Refusal { condition, index: 0 }
+    }
 }
 
 // Where a call gives no index.

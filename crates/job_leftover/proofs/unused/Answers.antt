@@ -1,13 +1,13 @@
 use mathlib.Core.Path.{ap, ◌∙◌}
 use Rattle.jobs.specs.Refusals.{number_found}
-use Rattle.jobs.proofs.Refusals.{without_index}
+use Rattle.jobs.proofs.Refusals.{exits_with}
 use Rattle.jobs.proofs.Unused.{after_refusal, too_short, long_enough}
 use Rattle.job_leftover.specs.Unused.{part_of}
 use Rattle.job_leftover.proofs.unused.Goals as goal
 
 pub returns-in_err-counts : goal.returns-in_err-counts
 returns-in_err-counts c =
-    let e = without_index c.from_residual.result c.from_residual.ensures.1 in
+    let e = exits_with c.from_residual.result c.from_residual.ensures.1 in
     let answered = after_refusal 32 _ _ c.args.which c.args.list.now _ _ c.in_err-counts.ensures in
     record { part = ap (λ r. part_of r c.args.list.now) e ∙ answered.0; said = ap number_found e ∙ answered.1 }
 

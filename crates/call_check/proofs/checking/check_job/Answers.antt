@@ -1,30 +1,25 @@
-use mathlib.Core.Path.{sym, ap, ◌∙◌}
-use Prim.Native.Nat.{ℕ}
-use Rattle.jobs.specs.Job.{Fault}
-use Rattle.jobs.proofs.Turns.{as_refusal, as_counts}
-use Rattle.calls.proofs.Faults.{or_refused, all_passed, counts_passed}
-use Rattle.call_check.proofs.Hosts.{lists_tell, none_counted}
+use mathlib.Core.Path.{ap, ◌∙◌}
+use Rattle.jobs.specs.Refusals.{fault_found}
+use Rattle.jobs.proofs.Refusals.{numbered, exits_with}
+use Rattle.calls.proofs.Faults.{or_refused, counts_passed}
+use Rattle.call_check.proofs.Hosts.{lists_tell}
 use Rattle.call_check.proofs.checking.check_job.Goals as goal
 
-pub returns-then-found-ne0 : goal.returns-then-found-ne0
-returns-then-found-ne0 c =
-    let t = c.turned_down.ensures in
-    let ne = c.if-found-ne0.true in record { fault = t.0 ∙ or_refused 32 _ _ _ _ _ (as_refusal _ _ _ 32 _ _ c.survey-found.ensures.found ne) ne; counts = none_counted _ _ _ _ t ne }
+pub returns-in_err-found-clause-fault : goal.returns-in_err-found-clause-fault
+returns-in_err-found-clause-fault c =
+    let refusal = c.in_err-found.field-0.0 in
+    ap fault_found (exits_with c.from_residual.result c.from_residual.ensures.1)
+    ∙ or_refused 32 _ _ _ _ _ c.in_err-found.ensures.found (numbered refusal.condition)
 
-pub returns-then-number-ne0 : goal.returns-then-number-ne0
-returns-then-number-ne0 c =
-    let t = c.turned_down-then-number-ne0.ensures in
-    let ne = c.if-number-ne0.true in
-    let l = c in
-    let e = as_counts _ _ _ 32 _ _ l.survey-found.ensures.found l.if-found-ne0.false in
-    record { fault = t.0 ∙ lists_tell 32 _ _ _ _ _ _ _ _ _ e l.needs_of.ensures l.lists_fault-number.ensures; counts = none_counted _ _ _ _ t ne }
+pub returns-in_err-check_lists-clause-fault : goal.returns-in_err-check_lists-clause-fault
+returns-in_err-check_lists-clause-fault c =
+    ap fault_found (exits_with c.from_residual-in_err-check_lists.result c.from_residual-in_err-check_lists.ensures.1)
+    ∙ lists_tell 32 _ _ _ _ _ _ _ _ _ c.in_ok-found.ensures.found c.needs_of.ensures c.in_err-check_lists.ensures
 
-pub returns : goal.returns
-returns c =
-    let l = c in
-    let s = l.survey-found.ensures in
-    let e = as_counts _ _ _ 32 _ _ s.found l.if-found-ne0.false in record {
-      fault = ap {B = Fault} (λ (n : ℕ). (n, 0)) (sym c.if-number-ne0.false)
-          ∙ lists_tell 32 _ _ _ _ _ _ _ _ _ e l.needs_of.ensures l.lists_fault-number.ensures;
-      counts = s.passed ∙ counts_passed 32 _ _ _ _ e ∙ all_passed _;
-    }
+pub returns-clause-fault : goal.returns-clause-fault
+returns-clause-fault c = lists_tell 32 _ _ _ _ _ _ _ _ _ c.in_ok-found.ensures.found c.needs_of.ensures c.in_ok-check_lists.ensures
+
+pub returns-clause-counts : goal.returns-clause-counts
+returns-clause-counts c =
+    let s = c.in_ok-found.ensures in
+    s.passed ∙ counts_passed 32 _ _ _ _ s.found

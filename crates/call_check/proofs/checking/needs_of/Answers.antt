@@ -1,5 +1,5 @@
 use borrow.Author.Tests.{ne_eqb}
-use Rattle.call_check.specs.Faults.{needs_of}
+use Rattle.call_check.specs.Needs.{needs_of}
 use Rattle.call_check.proofs.checking.needs_of.Goals as goal
 
 pub returns-in-1 : goal.returns-in-1

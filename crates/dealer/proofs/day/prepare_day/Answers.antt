@@ -22,8 +22,7 @@ deal_day-used-requires c =
     let day = subst (λ (n : ℕ). DayIs n c.args.table.now H found.result.day found.result.whole) c.if-found-ne0.false found.ensures.day in
     let s = c.args in (
       (day_lent s.table.now s.shares.now H s.a.now s.b.now s.deals.now none).0,
-      refl,
-      refl,
+      (refl, refl),
       n_is s.table.now s.shares.now H s.a.now s.b.now s.deals.now none _ day,
       day_room s.table.now s.shares.now H s.a.now s.b.now s.deals.now none _ day _ _,
     )

@@ -6,20 +6,16 @@ use Rattle.dealer.proofs.preparing.behind.Goals as goal
 
 pub overflow_add-result : goal.overflow_add-result
 overflow_add-result c =
-    let u = c in
-    omega (arith, few_used (step_of 32 u.args.g) _ u.used_by-more.ensures, u.requires)
+    omega (arith, few_used (step_of 32 c.args.g) _ c.used_by-more.ensures, c.requires)
 
 pub overflow_add-result-2 : goal.overflow_add-result-2
 overflow_add-result-2 c =
-    let u = c in
-    omega (arith, few_used (step_of 32 u.args.g) _ u.used_by-more.ensures, u.requires)
+    omega (arith, few_used (step_of 32 c.args.g) _ c.used_by-more.ensures, c.requires)
 
 pub overflow_add-result-3 : goal.overflow_add-result-3
 overflow_add-result-3 c =
-    let u = c in
-    omega (arith, few_used (step_of 32 u.args.g) _ u.used_by-more.ensures, u.requires)
+    omega (arith, few_used (step_of 32 c.args.g) _ c.used_by-more.ensures, c.requires)
 
 pub returns : goal.returns
 returns c =
-    let u = c in
-    λ A B l1 l2 buf. counts_behind A B (step_of 32 u.args.g) _ _ u.used_by-more.ensures
+    λ A B l1 l2 buf. counts_behind A B (step_of 32 c.args.g) _ _ c.used_by-more.ensures

@@ -1,5 +1,4 @@
 use mathlib.Core.List.{map}
-use Prim.Native.Nat.{◌-◌}
 use lib.ListN.{drop}
 use Rattle.tables.specs.Table.{rows}
 use Rattle.gates.specs.Meaning.{meaning}
@@ -10,7 +9,4 @@ use Rattle.dealer.proofs.preparing.deal_piece.Given as goal
 
 abbrev pub invariant-loop-i : goal.invariant-loop-i
 invariant-loop-i l = let gs = piece_gates 32 (rows l.table) l.p in
-    Midway l.a l.b (map (meaning 32) (drop l.p.from gs)) (map (meaning 32) (drop l.i gs)) (dealer l.initial.at l.initial.l1 l.initial.l2 l.initial.deals) (dealer l.at l.l1 l.l2 l.deals)
-
-abbrev pub decreases-loop-i : goal.decreases-loop-i
-decreases-loop-i l = l.p.end - l.i
+    Midway l.lists.a.now l.lists.b.now (map (meaning 32) (drop l.p.from gs)) (map (meaning 32) (drop l.i gs)) (dealer l.initial.at l.initial.lanes.first l.initial.lanes.second l.initial.deals) (dealer l.at l.lanes.first l.lanes.second l.deals)

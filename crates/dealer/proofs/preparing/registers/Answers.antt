@@ -5,5 +5,4 @@ use Rattle.dealer.proofs.preparing.registers.Goals as goal
 
 pub returns : goal.returns
 returns c =
-    let x = c in
-    x.copy_front.ensures ∙ taken_registers x.args.lane (search rules)
+    c.copy_front.ensures ∙ taken_registers c.args.lane (search rules)

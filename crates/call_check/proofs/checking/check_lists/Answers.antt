@@ -1,5 +1,5 @@
 use Rattle.calls.proofs.Faults.{short_list_a, short_list_b, short_buffer, long_enough}
-use Rattle.call_check.proofs.checking.lists_fault.Goals as goal
+use Rattle.call_check.proofs.checking.check_lists.Goals as goal
 
 pub returns-then-a-need : goal.returns-then-a-need
 returns-then-a-need c = short_list_a _ _ _ _ _ _ _ c.if-a-need.true

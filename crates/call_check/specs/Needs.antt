@@ -1,11 +1,6 @@
--- The code's finding as the definitions' fault, and what each host needs of a job's counts. Assumes nothing.
+-- What each host needs of a job's counts. Assumes nothing.
 use Rattle.std.specs.Prelude.{cond, ℕ, eqb}
 use Rattle.gates.specs.Costs.{Cost, cost_of}
-use Rattle.jobs.specs.Job.{Fault}
-use Rattle.call_check.specs.declared.checking.Finding.{Finding}
-
-abbrev pub fault_of : Finding → Fault
-fault_of f = (f.number, f.index)
 
 -- host 1: A; host 2: B and the deals; host 0: all three
 unfoldable pub needs_of : (host : ℕ) → Cost → Cost
