@@ -20,7 +20,7 @@ use Rattle.jobs.specs.Counts.{counted}
 use Rattle.calls.specs.Lent.{passed}
 use Rattle.calls.proofs.Faults.{none_passed}
 use Rattle.calendars.specs.Calendar.{counted_quarters, calendar_number}
-use Rattle.calendars.specs.declared.answers.Counted.{Counted}
+use Rattle.calendars.specs.Answers.{Counted}
 use Rattle.calendars.specs.Quarters.{quarters_where}
 use Rattle.calendars.specs.Answers as Answers
 use Rattle.calendars.proofs.OpeningHours.{opening_hours}

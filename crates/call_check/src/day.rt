@@ -115,10 +115,10 @@ fn check_day(
     if shares.len() != DAY_WORDS {
         return day_turned_down(12);
     }
-    let found = calendars::counted(calendar, weekday);
-    if found.number != 0 {
-        return day_turned_down(found.number);
-    }
+    let found = match calendars::counted(calendar, weekday) {
+        Ok(found) => found,
+        Err(e) => return day_turned_down(e.number()),
+    };
     if !tables::keeps_rules(table) {
         return day_turned_down(5);
     }
