@@ -3,9 +3,8 @@
 
 mod curve_cases;
 mod draw;
-mod groups;
 mod line;
-mod lists;
+mod orders;
 mod output;
 mod plain;
 mod refusals;
@@ -15,53 +14,143 @@ mod sweeps;
 mod trials;
 mod unmarked;
 
-use crate::groups::group_line;
-use crate::output::{ALL_KINDS, ANY_WORDS, IN_RANGE, KIND, NOTHING, numbered, print};
-use crate::sums::{NO_TRIALS, Sums, print_rest};
+use crate::curve_cases::{house_rows, is_wrong_end};
+use crate::orders::{Kind, Mode};
+use crate::output::group;
+use crate::rejected::{at_place, bad_table, faulty_order, ill_sized, no_host, short, unequal};
+use crate::sums::{Sums, print_rest};
 use crate::sweeps::{Readings, sweep};
+use crate::unmarked::{is_opened, is_slack_wrong, is_split_wrong};
 use std::io;
 
 // The trials of a kind, and their line.
-fn kind_sweep(rt: &impl Print, kind: u32, readings: Readings, name: u32) -> io::Result<Sums> {
-    let t = sweep(kind, 0, readings, 1, &tables::HOUSE, 2000);
-    numbered(rt, KIND, kind)?;
-    print(rt, name, NOTHING, NOTHING, t.cases, t.value, t.first)?;
+fn kind_line(rt: &impl Print, kind: Kind, readings: Readings, name: &str) -> io::Result<Sums> {
+    let t = sweep(kind, readings, 1, &house_rows(), 2000);
+    println!(rt; "kind {}, {name}: {}", kind.number(), t.values())?;
     Ok(t)
 }
 
 // Any words at each kind, then readings in range at kind 7.
 fn kinds(rt: &impl Print) -> io::Result<()> {
-    let mut sum = NO_TRIALS;
-    let mut kind: u32 = 0;
-    while kind < 10 {
-        sum = sum.plus(kind_sweep(rt, kind, Readings::Words, ANY_WORDS)?);
-        kind += 1;
+    let mut sum = Sums::default();
+    for kind in Kind::BELOW_CURVE {
+        sum = sum + kind_line(rt, kind, Readings::Words, "any words")?;
     }
-    sum = sum.plus(kind_sweep(rt, 7, Readings::Range, IN_RANGE)?);
-    print_rest(rt, ALL_KINDS, NOTHING, sum)
+    sum = sum + kind_line(rt, Kind::OneBit, Readings::Range, "readings in range")?;
+    print_rest(rt, &"kinds 0 to 9", sum)
 }
 
-// Each group by the number of its name in `output`, from its first case to before the one after its last.
+// What document 01 says of single values, and the limits of splitting.
+fn single_values(rt: &impl Print) -> io::Result<()> {
+    group(
+        rt,
+        "kind 6, x = 0, k = 1, L = 2^31 opens -2^31",
+        0..4,
+        is_slack_wrong,
+    )?;
+    group(
+        rt,
+        "splitting -2^30, -1, 0 and 2^30 - 1, opened again",
+        0..4,
+        is_split_wrong,
+    )?;
+    group(
+        rt,
+        "refused 11, splitting 2^30, -2^30 - 1, 2^31 - 1 and -2^31",
+        4..8,
+        is_split_wrong,
+    )
+}
+
+fn curves(rt: &impl Print) -> io::Result<()> {
+    for mode in [Mode::Exact, Mode::OneBit] {
+        curve_cases::house(rt, mode)?;
+    }
+    for mode in [Mode::Exact, Mode::OneBit] {
+        curve_cases::others(rt, mode)?;
+    }
+    group(
+        rt,
+        "curve, at the last row its value, above it to 2^31 - 1 always -1",
+        0..528,
+        is_wrong_end,
+    )
+}
+
+// Jobs and tables that are turned down.
+fn refused_jobs(rt: &impl Print) -> io::Result<()> {
+    group(rt, "refused 1, hosts 0, 3 and 2^32 - 1", 0..12, no_host)?;
+    group(
+        rt,
+        "refused 2, jobs of 0, 1, 3, 6, 255, 257 and 260 words",
+        0..56,
+        ill_sized,
+    )?;
+    group(
+        rt,
+        "refused 3, kinds above 10",
+        0..48,
+        |i| faulty_order(3, i),
+    )?;
+    group(
+        rt,
+        "refused 4, registers above 15",
+        48..256,
+        |i| faulty_order(4, i),
+    )?;
+    group(
+        rt,
+        "refused 5, fourth words",
+        256..448,
+        |i| faulty_order(5, i),
+    )?;
+    group(
+        rt,
+        "refused 5, tables that break their rules",
+        0..160,
+        bad_table,
+    )
+}
+
+// Lists, places and shares that are turned down.
+fn refused_places(rt: &impl Print) -> io::Result<()> {
+    group(rt, "refused 6, lists one word short", 0..8, |i| short(6, i))?;
+    group(
+        rt,
+        "refused 7, deals one word short",
+        8..12,
+        |i| short(7, i),
+    )?;
+    group(
+        rt,
+        "refused 8, places that are no product or refresh",
+        0..16,
+        |i| at_place(8, i),
+    )?;
+    group(
+        rt,
+        "refused 9, hearing at the end",
+        16..20,
+        |i| at_place(9, i),
+    )?;
+    group(
+        rt,
+        "refused 10, shares that disagree in L1, in L2 or in m",
+        0..5,
+        is_opened,
+    )?;
+    group(
+        rt,
+        "refused 18, stored places unequal to the walk's",
+        0..24,
+        unequal,
+    )
+}
+
 fn main(rt: HostRuntime) -> io::Result<()> {
-    group_line(&rt, 0, 0, 4)?;
-    group_line(&rt, 1, 0, 4)?;
-    group_line(&rt, 2, 4, 8)?;
+    single_values(&rt)?;
     kinds(&rt)?;
-    curve_cases::house(&rt, 0)?;
-    curve_cases::house(&rt, 1)?;
-    curve_cases::others(&rt, 0)?;
-    curve_cases::others(&rt, 1)?;
-    group_line(&rt, 3, 0, 528)?;
-    group_line(&rt, 4, 0, 12)?;
-    group_line(&rt, 5, 0, 56)?;
-    group_line(&rt, 6, 0, 48)?;
-    group_line(&rt, 7, 48, 256)?;
-    group_line(&rt, 8, 256, 448)?;
-    group_line(&rt, 9, 0, 160)?;
-    group_line(&rt, 10, 0, 8)?;
-    group_line(&rt, 11, 8, 12)?;
-    group_line(&rt, 12, 0, 16)?;
-    group_line(&rt, 13, 16, 20)?;
-    group_line(&rt, 14, 0, 5)?;
-    group_line(&rt, 15, 0, 24)
+    curves(&rt)?;
+    refused_jobs(&rt)?;
+    refused_places(&rt)
 }

@@ -1,12 +1,12 @@
 // What a sweep of trials counted, and the lines that say so.
-use crate::output::{CLOSE_TO_LINE, COUNTS, NOTHING, OTHER_REGISTERS, print};
-use std::io;
-use std::num::wrapping_add_u32;
+use crate::output::Tally;
+use std::ops::Add;
+use std::{fmt, io};
 
 // The trials, and of these the ones with a wrong value, those of a curve up to the last row, of these the ones too far
 // from its line, those with another register changed and with wrong counts or a changed rest of the deal buffer; the
 // reading of the first that went wrong.
-#[derive(Clone, Copy)]
+#[derive(Clone, Copy, Debug, Default, PartialEq, Eq)]
 pub(crate) struct Sums {
     pub(crate) cases: u32,
     pub(crate) value: u32,
@@ -14,46 +14,57 @@ pub(crate) struct Sums {
     pub(crate) line: u32,
     pub(crate) kept: u32,
     pub(crate) counts: u32,
-    pub(crate) first: u32,
+    pub(crate) first: Option<u32>,
 }
 
-pub(crate) const NO_TRIALS: Sums = Sums {
-    cases: 0,
-    value: 0,
-    on_line: 0,
-    line: 0,
-    kept: 0,
-    counts: 0,
-    first: 0,
-};
+// Both together.
+impl Add for Sums {
+    type Output = Self;
 
-impl Sums {
-    // Both together.
-    pub(crate) fn plus(self, more: Sums) -> Sums {
-        let wrong = self.value | self.line | self.kept | self.counts;
-        let first = match wrong {
-            0 => more.first,
-            _ => self.first,
-        };
+    fn add(self, more: Self) -> Self {
         Sums {
-            cases: wrapping_add_u32(self.cases, more.cases),
-            value: wrapping_add_u32(self.value, more.value),
-            on_line: wrapping_add_u32(self.on_line, more.on_line),
-            line: wrapping_add_u32(self.line, more.line),
-            kept: wrapping_add_u32(self.kept, more.kept),
-            counts: wrapping_add_u32(self.counts, more.counts),
-            first,
+            cases: self.cases.wrapping_add(more.cases),
+            value: self.value.wrapping_add(more.value),
+            on_line: self.on_line.wrapping_add(more.on_line),
+            line: self.line.wrapping_add(more.line),
+            kept: self.kept.wrapping_add(more.kept),
+            counts: self.counts.wrapping_add(more.counts),
+            first: self.first.or(more.first),
         }
     }
 }
 
-// The lines of a curve's values, whose name has these two pieces.
-pub(crate) fn print_values(rt: &impl Print, curve: u32, table: u32, t: Sums) -> io::Result<()> {
-    print(rt, curve, table, NOTHING, t.cases, t.value, t.first)?;
-    print(rt, curve, table, CLOSE_TO_LINE, t.on_line, t.line, t.first)
+impl Sums {
+    // So many of so many cases went wrong.
+    fn tally(&self, cases: u32, wrong: u32) -> Tally {
+        Tally {
+            cases,
+            wrong,
+            first: self.first,
+        }
+    }
+
+    pub(crate) fn values(&self) -> Tally {
+        self.tally(self.cases, self.value)
+    }
 }
 
-pub(crate) fn print_rest(rt: &impl Print, orders: u32, table: u32, t: Sums) -> io::Result<()> {
-    print(rt, orders, table, OTHER_REGISTERS, t.cases, t.kept, t.first)?;
-    print(rt, orders, table, COUNTS, t.cases, t.counts, t.first)
+// The lines of a curve's values.
+pub(crate) fn print_values<N: fmt::Display>(rt: &impl Print, name: &N, t: Sums) -> io::Result<()> {
+    println!(rt; "{name}: {}", t.values())?;
+    println!(rt;
+        "{name}, up to the last row above C - 2 and below C + 1: {}",
+        t.tally(t.on_line, t.line)
+    )
+}
+
+pub(crate) fn print_rest<N: fmt::Display>(rt: &impl Print, name: &N, t: Sums) -> io::Result<()> {
+    println!(rt;
+        "{name}, the fifteen other registers: {}",
+        t.tally(t.cases, t.kept)
+    )?;
+    println!(rt;
+        "{name}, deals, words spoken, rest of the deal buffer: {}",
+        t.tally(t.cases, t.counts)
+    )
 }

@@ -1,19 +1,19 @@
 // One order run by the engine's three hosts and compared with plain arithmetic.
-use crate::draw::{changed, list, registers, word};
-use crate::line::{Curve, close_to_line, curve_at};
-use crate::lists::part;
+use crate::draw::{drawn, word};
+use crate::line::Curve;
+use crate::orders::{Kind, Mode};
 use crate::plain::{carry, floor_shift, number, one_bit, positive, product};
 use crate::sums::Sums;
+use calls::Stored;
 use shares::Opening;
-use std::num::{wrapping_add_u32, wrapping_sub_u32};
 use trio::{Shared, Trio};
 use worker::State;
 
 // An order, what its source opens, and the seed of everything else: of l1, l2 and m of the registers, A, B and the deal
 // buffer.
-#[derive(Clone, Copy)]
+#[derive(Clone, Copy, Debug, PartialEq, Eq)]
 pub(crate) struct Trial {
-    pub(crate) kind: u32,
+    pub(crate) kind: Kind,
     pub(crate) target: u32,
     pub(crate) source: u32,
     pub(crate) fourth: u32,
@@ -21,159 +21,167 @@ pub(crate) struct Trial {
     pub(crate) seed: u32,
 }
 
-fn mask_sum(seed: u32, r: u32) -> u32 {
-    wrapping_add_u32(word(word(seed, 1), r), word(word(seed, 2), r))
-}
-
-// What a register's shares stand for.
-fn value(c: Trial, r: u32) -> u32 {
-    if r == c.source {
-        c.x
-    } else {
-        wrapping_sub_u32(word(word(c.seed, 3), r), mask_sum(c.seed, r))
-    }
-}
-
-// -1 above the last row, else the floor of Y / 4096. The one-bit curve, mode 1, adds a carry under the mask sum of its
-// refresh: each row's kind 9 uses 24 words of A and 12 of B before that.
-fn curve_value(c: Trial, curve: Curve) -> u32 {
-    if curve.above {
-        return 4294967295;
-    }
-    let l1 = word(word(c.seed, 4), product(curve.rows, 24));
-    let l2 = word(word(c.seed, 5), product(curve.rows, 12));
-    let carried = carry(curve.sum, wrapping_add_u32(l1, l2), 12);
-    wrapping_add_u32(floor_shift(curve.sum, 12), product(c.fourth, carried))
-}
-
-// What the target is to open. Kind 6: the two floors that its steps add.
-fn plain_value(c: Trial, curve: Curve) -> u32 {
-    let y = value(c, c.fourth);
-    let l = mask_sum(c.seed, c.source);
-    let m = wrapping_add_u32(c.x, l);
-    let k = c.fourth;
-    let kind = c.kind;
-    match kind {
-        0 => wrapping_add_u32(c.x, y),
-        1 => wrapping_sub_u32(c.x, y),
-        2 => wrapping_add_u32(c.x, k),
-        3 => product(c.x, k),
-        4 => product(c.x, y),
-        5 => c.x,
-        6 => wrapping_add_u32(floor_shift(wrapping_sub_u32(0, l), k), floor_shift(m, k)),
-        7 => one_bit(c.x, l, k),
-        8 => floor_shift(c.x, k),
-        9 => positive(c.x),
-        _ => curve_value(c, curve),
-    }
-}
-
-// Deals, and words spoken by both hosts.
+// A job run by the three hosts, and whether the deal buffer's words past the deals are as before.
 #[derive(Clone, Copy)]
-struct Cost(u32, u32);
-
-// Document 01's table of costs, as R-4 leaves it. Here 10 is what the exact curve has after its rows, a kind 8, and 11
-// what the one-bit curve has, the kinds 5 and 7; then each has a sign made a number and a product, which cost what
-// kind 9 does.
-fn due_cost(kind: u32) -> Cost {
-    match kind {
-        4 => Cost(1, 2),
-        5 => Cost(0, 2),
-        6 => Cost(1, 0),
-        7 => Cost(2, 2),
-        8 => Cost(13, 24),
-        9 => Cost(12, 24),
-        10 => Cost(25, 48),
-        11 => Cost(14, 28),
-        _ => Cost(0, 0),
-    }
+pub(crate) struct Ran {
+    pub(crate) hosts: Trio,
+    kept: bool,
 }
 
-// What shares open; those that disagree open what is no word's number.
-pub(crate) fn opening(o: Opening) -> i64 {
+// The value that shares stand for; none where they disagree.
+pub(crate) fn opening(o: Opening) -> Option<i64> {
     match o {
-        Opening::Opened(z) => z,
-        Opening::Disagree => 1099511627776,
+        Opening::Opened(z) => Some(z),
+        Opening::Disagree => None,
     }
 }
 
-// What a register opens on the three hosts' shares.
-pub(crate) fn opened(s: Trio, r: u32) -> i64 {
-    opening(trio_open::opened(s.masks, s.one.state, s.two.state, r as usize))
+// A job run on drawn lists, with so many words of B.
+pub(crate) fn run(job: &[u32], table: &[u32], seed: u32, b_words: usize, shares: Shared) -> Ran {
+    let a = drawn::<512>(word(seed, 4));
+    let b = drawn::<512>(word(seed, 5));
+    let buffer = drawn::<512>(word(seed, 6));
+    let mut deals = buffer;
+    let hosts = trio::run(job, table, &a, front(&b, b_words), &mut deals, shares);
+    let written = hosts.deals as usize;
+    let kept = deals
+        .iter()
+        .zip(&buffer)
+        .skip(written)
+        .all(|(now, then)| now == then);
+    Ran { hosts, kept }
 }
 
-// 1 where a register beside the target opens something else than before.
-fn others_changed(s: Trio, c: Trial) -> u32 {
-    let mut any = false;
-    let mut r: u32 = 0;
-    while r < 16 {
-        let found = opened(s, r);
-        any = any | ((r != c.target) & (found != number(value(c, r))));
-        r += 1;
+// The first n words; all where there are fewer.
+pub(crate) fn front(list: &[u32], n: usize) -> &[u32] {
+    list.get(..n).unwrap_or(list)
+}
+
+// Whether a host at the end of one order has spoken so many words and stored the places of these and of the deals.
+fn is_at_end(s: State, said: u32, spoken: u32, deals: u32) -> bool {
+    let Stored { a, b, deals: used } = s.stored;
+    let placed = a == spoken.wrapping_add(deals) && b == spoken && used == deals;
+    s.order == 1 && s.turn == 0 && said == spoken && placed
+}
+
+impl Ran {
+    // What a register opens on the three hosts' shares.
+    pub(crate) fn opened(&self, r: u32) -> Option<i64> {
+        let s = self.hosts;
+        opening(trio_open::opened(s.masks, s.one.state, s.two.state, r as usize))
     }
-    any as u32
+
+    // Whether any of the three turned the job down.
+    fn is_refused(&self) -> bool {
+        let s = self.hosts;
+        s.number != 0 || s.one.number != 0 || s.two.number != 0
+    }
 }
 
-// 1 where a host's stored places are not those of so many words spoken by it, and so many deals.
-fn misplaced(s: State, spoken: u32, deals: u32) -> u32 {
-    let left = s.stored;
-    let a = left.a ^ wrapping_add_u32(spoken, deals);
-    ((a | (left.b ^ spoken) | (left.deals ^ deals)) != 0) as u32
-}
+impl Trial {
+    fn mask_sum(&self, r: u32) -> u32 {
+        word(word(self.seed, 1), r).wrapping_add(word(word(self.seed, 2), r))
+    }
 
-// 0 where nothing is refused, and both hosts at the end of one order have spoken half the words and stored the places
-// there. A curve has a kind 9 for each row.
-fn miscounted(s: Trio, c: Trial, rows: u32) -> u32 {
-    let curve = (c.kind == 10) as u32;
-    let relus = product(curve, rows);
-    let due = due_cost(wrapping_add_u32(c.kind, product(curve, c.fourth)));
-    let due_deals = wrapping_add_u32(due.0, product(relus, 12));
-    let half = wrapping_add_u32(due.1, product(relus, 24)) / 2;
-    let refusal = s.number | s.one.number | s.two.number;
-    let turn = s.one.state.turn | s.two.state.turn;
-    let order = (s.one.state.order ^ 1) | (s.two.state.order ^ 1);
-    let spoken = (s.one.spoken ^ half) | (s.two.spoken ^ half);
-    let places = misplaced(s.one.state, half, due_deals) | misplaced(s.two.state, half, due_deals);
-    ((refusal | turn | order | spoken | places | (s.deals ^ due_deals)) != 0) as u32
-}
+    // What a register's shares stand for.
+    fn value(&self, r: u32) -> u32 {
+        if r == self.source {
+            self.x
+        } else {
+            word(word(self.seed, 3), r).wrapping_sub(self.mask_sum(r))
+        }
+    }
 
-// A job run by the three hosts on drawn lists, with so many words of B. Where a word of the deal buffer past the deals
-// has changed, a number says so.
-pub(crate) fn run(job: &[u32], table: &[u32], seed: u32, b_words: u32, shares: Shared) -> Trio {
-    let a = list(word(seed, 4));
-    let b = list(word(seed, 5));
-    let buffer = word(seed, 6);
-    let mut deals = list(buffer);
-    let mut s = trio::run(job, table, &a, part(&b, 0, b_words), &mut deals, shares);
-    s.number = s.number | changed(&deals, buffer, s.deals, 512);
-    s
-}
+    // -1 above the last row, else the floor of Y / 4096. The one-bit curve adds a carry under the mask sum of its
+    // refresh: each row's kind 9 uses 24 words of A and 12 of B before that.
+    fn curve_value(&self, mode: Mode, curve: &Curve) -> u32 {
+        if curve.above {
+            return u32::MAX;
+        }
+        let below = floor_shift(curve.sum, 12);
+        match mode {
+            Mode::Exact => below,
+            Mode::OneBit => {
+                let l1 = word(word(self.seed, 4), product(curve.rows, 24));
+                let l2 = word(word(self.seed, 5), product(curve.rows, 12));
+                below.wrapping_add(carry(curve.sum, l1.wrapping_add(l2), 12))
+            }
+        }
+    }
 
-// A trial's order on drawn shares of every register, the source's of x.
-pub(crate) fn run_trial(c: Trial, table: &[u32]) -> Trio {
-    let l1 = registers(word(c.seed, 1));
-    let l2 = registers(word(c.seed, 2));
-    let mut m = registers(word(c.seed, 3));
-    let at = (c.source % 16) as usize;
-    m[at] = wrapping_add_u32(c.x, mask_sum(c.seed, c.source));
-    let job = [c.kind, c.target, c.source, c.fourth];
-    run(&job, table, c.seed, 512, Shared { m, l1, l2 })
-}
+    // What the target is to open. Kind 6: the two floors that its steps add.
+    fn plain_value(&self, curve: &Curve) -> u32 {
+        let x = self.x;
+        let k = self.fourth;
+        let y = self.value(k);
+        let l = self.mask_sum(self.source);
+        match self.kind {
+            Kind::Add => x.wrapping_add(y),
+            Kind::Subtract => x.wrapping_sub(y),
+            Kind::AddConstant => x.wrapping_add(k),
+            Kind::TimesConstant => product(x, k),
+            Kind::Product => product(x, y),
+            Kind::Refresh => x,
+            Kind::LargeSlack => {
+                floor_shift(l.wrapping_neg(), k).wrapping_add(floor_shift(x.wrapping_add(l), k))
+            }
+            Kind::OneBit => one_bit(x, l, k),
+            Kind::Exact => floor_shift(x, k),
+            Kind::Relu => positive(x),
+            Kind::Curve(mode) => self.curve_value(mode, curve),
+        }
+    }
 
-// A trial run and compared. The line C holds a curve up to the last row.
-pub(crate) fn compared(c: Trial, table: &[u32]) -> Sums {
-    let s = run_trial(c, table);
-    let found = opened(s, c.target);
-    let curve = curve_at(positive(c.x), table);
-    let close = close_to_line(words::word_of(found), curve);
-    let on_line = (c.kind == 10) & !curve.above;
-    Sums {
-        cases: 1,
-        value: (found != number(plain_value(c, curve))) as u32,
-        on_line: on_line as u32,
-        line: (on_line & !close) as u32,
-        kept: others_changed(s, c),
-        counts: miscounted(s, c, curve.rows),
-        first: c.x,
+    // The order on drawn shares of every register, the source's of x.
+    pub(crate) fn run(&self, table: &[[u32; 2]]) -> Ran {
+        let l1 = drawn(word(self.seed, 1));
+        let l2 = drawn(word(self.seed, 2));
+        let mut m = drawn::<16>(word(self.seed, 3));
+        m[(self.source % 16) as usize] = self.x.wrapping_add(self.mask_sum(self.source));
+        let job = [self.kind.number(), self.target, self.source, self.fourth];
+        run(
+            &job,
+            table.as_flattened(),
+            self.seed,
+            512,
+            Shared { m, l1, l2 },
+        )
+    }
+
+    // Whether a register beside the target opens something else than before.
+    fn others_changed(&self, ran: &Ran) -> bool {
+        (0..16).any(|r| r != self.target && ran.opened(r) != Some(number(self.value(r))))
+    }
+
+    // Whether something is refused, or the counts of the hosts, each of which speaks half the words, are not the kind's.
+    fn is_miscounted(&self, ran: &Ran, rows: u32) -> bool {
+        let due = self.kind.cost(rows);
+        let half = due.words / 2;
+        let s = ran.hosts;
+        let ended = is_at_end(s.one.state, s.one.spoken, half, due.deals)
+            && is_at_end(s.two.state, s.two.spoken, half, due.deals);
+        ran.is_refused() || !ran.kept || !ended || s.deals != due.deals
+    }
+
+    // The trial run and compared. The line C holds a curve up to the last row.
+    pub(crate) fn compared(&self, table: &[[u32; 2]]) -> Sums {
+        let ran = self.run(table);
+        let found = ran.opened(self.target);
+        let curve = Curve::new(positive(self.x), table);
+        let on_line = matches!(self.kind, Kind::Curve(_)) && !curve.above;
+        let close = found.is_some_and(|z| curve.is_close(words::word_of(z)));
+        let value = found != Some(number(self.plain_value(&curve)));
+        let line = on_line && !close;
+        let kept = self.others_changed(&ran);
+        let counts = self.is_miscounted(&ran, curve.rows);
+        Sums {
+            cases: 1,
+            value: u32::from(value),
+            on_line: u32::from(on_line),
+            line: u32::from(line),
+            kept: u32::from(kept),
+            counts: u32::from(counts),
+            first: (value || line || kept || counts).then_some(self.x),
+        }
     }
 }

@@ -1,6 +1,7 @@
 // Digit 9, a day (R-3) on the house table: all of it, with all quarters counted or 48 of them (R-6), or one hearing;
 // and, beside that, the same of a job of one curve.
-use crate::add;
+use crate::lists::Lists;
+use crate::turns;
 use calls::Stored;
 use dealer::prepare_day;
 use tables::HOUSE;
@@ -10,18 +11,36 @@ use worker::{Answer, State, start_day};
 // The order behind a day's last one.
 const END: u32 = 97;
 
-// Named instead of a quarter: the hearing of a job, and this job, an exact curve.
-const JOB: u32 = 98;
-
 const CURVE: [u32; 4] = [10, 0, 0, 0];
-
-// Named instead of a quarter: a day of 48 counted quarters.
-const HALF: u32 = 99;
 
 const WEEKDAY: u32 = 0;
 
 // More than the hearings of a host in a day.
 const HEARINGS: u32 = 12000;
+
+// What the input names in place of a job's orders.
+#[derive(Clone, Copy, Debug, PartialEq, Eq)]
+enum Named {
+    // the whole day, open at all hours
+    Day,
+    // the day that is open from 8 to 20 o'clock: 48 counted quarters
+    HalfDay,
+    // a hearing of a job, of an exact curve
+    JobHearing,
+    // a hearing in a quarter of the day
+    Hearing(u32),
+}
+
+impl From<u32> for Named {
+    fn from(number: u32) -> Self {
+        match number {
+            END => Named::Day,
+            98 => Named::JobHearing,
+            99 => Named::HalfDay,
+            quarter => Named::Hearing(quarter),
+        }
+    }
+}
 
 // The last answers of hosts 1 and 2.
 #[derive(Clone, Copy)]
@@ -30,175 +49,163 @@ struct Workers {
     two: Answer,
 }
 
-// A host's list: the first words of its shares, and the second ones, each a number and a step more at each quarter.
-fn day_list(first: u32, first_step: u32, second: u32, second_step: u32) -> [u32; 192] {
-    let mut list = [0u32; 192];
-    let mut x = first;
-    let mut y = second;
-    let mut q = 0;
-    while q < 96 {
-        list[2 * q] = x;
-        list[2 * q + 1] = y;
-        x = add(x, first_step);
-        y = add(y, second_step);
-        q += 1;
+// What the hosts are lent of a day beside masks and deals: their shares of its readings, two words to a quarter, and
+// the calendar, 26 words to a weekday.
+#[derive(Drop)]
+struct Day {
+    zero: [[u32; 2]; 96],
+    one: [[u32; 2]; 96],
+    two: [[u32; 2]; 96],
+    calendar: [[u32; 26]; 7],
+}
+
+// A host's shares: two words, each a step more at each quarter.
+fn shares(first: [u32; 2], step: [u32; 2]) -> [[u32; 2]; 96] {
+    let mut list = [first; 96];
+    let [mut x, mut y] = first;
+    for quarter in &mut list {
+        *quarter = [x, y];
+        x = x.wrapping_add(step[0]);
+        y = y.wrapping_add(step[1]);
     }
     list
 }
 
-// A calendar with one open window on each weekday.
-fn open_calendar(start: u32, end: u32) -> [u32; 182] {
-    let mut calendar = [0u32; 182];
-    let mut day = 0;
-    while day < 7 {
-        calendar[26 * day] = 1;
-        calendar[26 * day + 2] = start;
-        calendar[26 * day + 3] = end;
-        day += 1;
-    }
-    calendar
+// One open window on each weekday.
+fn calendar(start: u32, end: u32) -> [[u32; 26]; 7] {
+    let mut weekday = [0; 26];
+    weekday[0] = 1;
+    weekday[2] = start;
+    weekday[3] = end;
+    [weekday; 7]
 }
 
-// Each host hears the word that the other spoke last.
-fn exchange(
-    table: &[u32],
-    one: &[u32],
-    two: &[u32],
-    calendar: &[u32],
-    a: &[u32],
-    b: &[u32],
-    deals: &[u32],
-    s: Workers,
-) -> Workers {
-    let first = s.one.state;
-    let second = s.two.state;
-    let none = [0u32; 0];
-    Workers {
-        one: first.hear_day(1, table, one, calendar, WEEKDAY, a, &none, s.two.word),
-        two: second.hear_day(2, table, two, calendar, WEEKDAY, b, deals, s.one.word),
-    }
-}
-
-// Both hosts from their startings to the end.
-fn to_the_end(
-    table: &[u32],
-    one: &[u32],
-    two: &[u32],
-    calendar: &[u32],
-    a: &[u32],
-    b: &[u32],
-    deals: &[u32],
-) -> Workers {
-    let none = [0u32; 0];
-    let mut s = Workers {
-        one: start_day(1, table, one, calendar, WEEKDAY, a, &none),
-        two: start_day(2, table, two, calendar, WEEKDAY, b, deals),
-    };
-    let mut i = 0;
-    while i < HEARINGS {
-        if s.one.state.order == END {
-            return s;
+impl Day {
+    // A day that is open between two minutes.
+    fn open(start: u32, end: u32) -> Self {
+        Day {
+            zero: shares([1, 2], [3, 5]),
+            one: shares([3, 1], [48, 3]),
+            two: shares([3, 2], [48, 5]),
+            calendar: calendar(start, end),
         }
-        s = exchange(table, one, two, calendar, a, b, deals, s);
-        i += 1;
     }
-    s
-}
 
-fn running(
-    zero: &[u32],
-    one: &[u32],
-    two: &[u32],
-    calendar: &[u32],
-    a: &[u32],
-    b: &[u32],
-    deals: &mut [u32],
-) -> u32 {
-    let table = HOUSE;
-    let p = prepare_day(&table, zero, calendar, WEEKDAY, a, b, deals);
-    let s = to_the_end(&table, one, two, calendar, a, b, deals);
-    let left = p.masks;
-    let state = s.one.state;
-    let results = add(state.m[0], state.m[1]);
-    add(add(results, s.two.spoken), add(left.l1[0], p.deals))
+    fn begun(&self, lists: &Lists) -> Workers {
+        let one = self.one.as_flattened();
+        let two = self.two.as_flattened();
+        let calendar = self.calendar.as_flattened();
+        Workers {
+            one: start_day(1, &HOUSE, one, calendar, WEEKDAY, &lists.a, &[]),
+            two: start_day(2, &HOUSE, two, calendar, WEEKDAY, &lists.b, &lists.deals),
+        }
+    }
+
+    // Host 1's hearing.
+    fn heard(&self, lists: &Lists, state: State, word: u32) -> Answer {
+        let one = self.one.as_flattened();
+        let calendar = self.calendar.as_flattened();
+        state.hear_day(1, &HOUSE, one, calendar, WEEKDAY, &lists.a, &[], word)
+    }
+
+    // Each host hears the word that the other spoke last.
+    fn exchanged(&self, lists: &Lists, s: Workers) -> Workers {
+        let two = self.two.as_flattened();
+        let calendar = self.calendar.as_flattened();
+        let second = s.two.state;
+        Workers {
+            one: self.heard(lists, s.one.state, s.two.word),
+            two: second.hear_day(
+                2,
+                &HOUSE,
+                two,
+                calendar,
+                WEEKDAY,
+                &lists.b,
+                &lists.deals,
+                s.one.word,
+            ),
+        }
+    }
+
+    // Both hosts from their startings to the end.
+    fn ended(&self, lists: &Lists) -> Workers {
+        let mut s = self.begun(lists);
+        for _ in 0..HEARINGS {
+            if s.one.state.order == END {
+                break;
+            }
+            s = self.exchanged(lists, s);
+        }
+        s
+    }
+
+    fn running(&self, lists: &mut Lists) -> u32 {
+        let zero = self.zero.as_flattened();
+        let calendar = self.calendar.as_flattened();
+        let p = prepare_day(
+            &HOUSE,
+            zero,
+            calendar,
+            WEEKDAY,
+            &lists.a,
+            &lists.b,
+            &mut lists.deals,
+        );
+        let s = self.ended(lists);
+        let left = p.masks;
+        let state = s.one.state;
+        state.m[0]
+            .wrapping_add(state.m[1])
+            .wrapping_add(s.two.spoken)
+            .wrapping_add(left.l1[0])
+            .wrapping_add(p.deals)
+    }
 }
 
 // Host 1 at turn 60 of a house curve behind so many of them. A house curve uses 241 words of A, 120 of B and 121 deals,
 // each turn of its rows 2, 1 and 1.
 fn in_curve(order: u32, x: u32) -> State {
-    let m = [x; 24];
-    let mask = [7; 24];
     State {
-        m,
-        mask,
+        m: [x; 24],
+        mask: [7; 24],
         order,
         turn: 60,
         stored: Stored {
-            a: add(wrapping_mul(order, 241), 122),
-            b: add(wrapping_mul(order, 120), 61),
-            deals: add(wrapping_mul(order, 121), 61),
+            a: wrapping_mul(order, 241).wrapping_add(122),
+            b: wrapping_mul(order, 120).wrapping_add(61),
+            deals: wrapping_mul(order, 121).wrapping_add(61),
         },
     }
 }
 
-// Its hearing in a quarter, refused in the mean, which has no such turn; or in the job's curve.
-fn heard(quarter: u32, one: &[u32], calendar: &[u32], a: &[u32], x: u32) -> Answer {
-    let none = [0u32; 0];
-    if quarter == JOB {
-        return in_curve(0, x).hear(1, &CURVE, &HOUSE, a, &none, 5);
-    }
-    in_curve(quarter, x).hear_day(1, &HOUSE, one, calendar, WEEKDAY, a, &none, 5)
-}
-
-fn hearing(quarter: u32, one: &[u32], calendar: &[u32], a: &[u32], x: u32) -> u32 {
-    let r = heard(quarter, one, calendar, a, x);
+fn told(r: Answer) -> u32 {
     let state = r.state;
-    let said = add(wrapping_mul(r.number, 65537), wrapping_mul(r.spoken, 257));
-    let place = add(wrapping_mul(state.order, 31), state.turn);
-    add(said, add(place, state.m[0]))
+    let said = wrapping_mul(r.number, 65537).wrapping_add(wrapping_mul(r.spoken, 257));
+    let place = wrapping_mul(state.order, 31).wrapping_add(state.turn);
+    said.wrapping_add(place).wrapping_add(state.m[0])
 }
 
-// One turn: a hearing in a quarter, or, where the end or the day of 48 quarters is named, the whole day.
-fn once(
-    quarter: u32,
-    zero: &[u32],
-    one: &[u32],
-    two: &[u32],
-    calendar: &[u32],
-    a: &[u32],
-    b: &[u32],
-    deals: &mut [u32],
-    x: u32,
-) -> u32 {
-    match quarter {
-        END | HALF => running(zero, one, two, calendar, a, b, deals),
-        _ => hearing(quarter, one, calendar, a, x),
-    }
+// Host 1's hearing in a job of one curve.
+fn job_hearing(lists: &Lists, x: u32) -> u32 {
+    told(in_curve(0, x).hear(1, &CURVE, &HOUSE, &lists.a, &[], 5))
 }
 
-// The day of 48 quarters is open from 8 to 20 o'clock, the others all day.
-fn calendar_of(quarter: u32) -> [u32; 182] {
-    if quarter == HALF {
-        return open_calendar(480, 1200);
-    }
-    open_calendar(0, 1440)
+// Its hearing in a quarter; refused in the mean, which has no such turn.
+fn hearing(day: &Day, lists: &Lists, quarter: u32, x: u32) -> u32 {
+    told(day.heard(lists, in_curve(quarter, x), 5))
 }
 
-// The sum over n turns.
-pub(crate) fn summed_day(quarter: u32, a: &[u32], b: &[u32], deals: &mut [u32], n: u32) -> u32 {
-    let zero = day_list(1, 3, 2, 5);
-    let one = day_list(3, 48, 1, 3);
-    let two = day_list(3, 48, 2, 5);
-    let calendar = calendar_of(quarter);
-    let mut sum = 0;
-    let mut i = 0;
-    while i < n {
-        let x = add(sum, i);
-        sum = add(
-            sum,
-            once(quarter, &zero, &one, &two, &calendar, a, b, deals, x),
-        );
-        i += 1;
+// The sum over n turns of what a number names.
+pub(crate) fn summed(number: u32, lists: &mut Lists, n: u32) -> u32 {
+    let named = Named::from(number);
+    let day = match named {
+        Named::HalfDay => Day::open(480, 1200),
+        _ => Day::open(0, 1440),
+    };
+    match named {
+        Named::Day | Named::HalfDay => turns::summed(n, |_| day.running(lists)),
+        Named::JobHearing => turns::summed(n, |x| job_hearing(lists, x)),
+        Named::Hearing(quarter) => turns::summed(n, |x| hearing(&day, lists, quarter, x)),
     }
-    sum
 }

@@ -4,204 +4,55 @@
 #![tactic(auto)]
 
 mod day;
+mod lists;
+mod turns;
 
-use calls::Stored;
-use day::summed_day;
-use dealer::{Masks, prepare};
-use sample_masks::fill;
+use crate::lists::Lists;
 use std::io;
 use std::io::Read;
-use tables::HOUSE;
-use trio::{Shared, run};
 use words::wrapping_mul;
-use worker::{Registers, State, start};
 
-fn add(x: u32, y: u32) -> u32 {
-    std::num::wrapping_add_u32(x, y)
-}
+// Exact curves, of register 0 into itself.
+const CURVES: [[u32; 4]; 64] = [[10, 0, 0, 0]; 64];
 
-// Register 0, and zeros behind it.
-fn lane(word: u32) -> [u32; 16] {
-    let mut l = [0u32; 16];
-    l[0] = word;
-    l
-}
-
-fn preparing(job: &[u32], a: &[u32], b: &[u32], deals: &mut [u32], x: u32) -> u32 {
-    let l1 = lane(x);
-    let l2 = lane(add(x, 7));
-    let p = prepare(job, &HOUSE, a, b, deals, Masks { l1, l2 });
-    let left = p.masks;
-    add(p.deals, add(left.l1[0], left.l2[0]))
-}
-
-fn starting(host: u32, job: &[u32], list: &[u32], deals: &[u32], x: u32) -> u32 {
-    let m = lane(add(x, 202));
-    let mask = lane(x);
-    let s = start(host, job, &HOUSE, list, deals, Registers { m, mask });
-    let state = s.state;
-    add(add(s.word, s.spoken), add(state.m[0], state.mask[1]))
-}
-
-fn running(job: &[u32], a: &[u32], b: &[u32], deals: &mut [u32], x: u32) -> u32 {
-    let m = lane(add(add(x, x), 209));
-    let l1 = lane(x);
-    let l2 = lane(add(x, 7));
-    let r = run(job, &HOUSE, a, b, deals, Shared { m, l1, l2 });
-    let one = r.one;
-    let state = one.state;
-    let left = r.masks;
-    add(add(state.m[0], r.two.spoken), add(left.l1[0], r.deals))
-}
-
-// The first n words, or all where there are fewer.
-fn front(list: &[u32], n: usize) -> &[u32] {
-    if n <= list.len() {
-        return &list[..n];
+// Additions and subtractions in turn, over all registers; at times the target is a source.
+fn sum_orders() -> [[u32; 4]; 64] {
+    let mut orders = [[0; 4]; 64];
+    for (i, order) in orders.iter_mut().enumerate() {
+        let i = i as u32;
+        *order = [i % 2, (i + i / 8) % 16, i % 16, (14 * i + 2) % 16];
     }
-    list
+    orders
 }
 
-const PROBED: [u32; 32] = [
-    10, 1, 0, 1, 4, 2, 0, 1, 0, 3, 1, 2, 8, 4, 2, 5, 5, 1, 2, 0, 7, 1, 2, 3, 9, 1, 1, 0, 6, 2, 2, 4,
-];
-
-// At the first turn of each order of that job: words of B used, and deals.
-const PROBED_B: [u32; 10] = [1, 111, 112, 112, 124, 125, 126, 138, 137, 137];
-
-const PROBED_DEALS: [u32; 10] = [1, 111, 111, 113, 124, 126, 127, 138, 139, 139];
-
-// The stored places at a place of that job; wrong ones at the refresh of its curve, and elsewhere now and then one of
-// the three.
-fn probed(order: u32, turn: u32, x: u32) -> Stored {
-    let b = add(PROBED_B[(order % 10) as usize], turn);
-    let deals = add(PROBED_DEALS[(order % 10) as usize], turn);
-    let off = x / 7 % 16;
-    Stored {
-        a: add(add(b, deals), (off == 0) as u32),
-        b: add(b, (off == 1) as u32),
-        deals: add(deals, (off == 2) as u32),
-    }
-}
-
-// Hearing at places and with lists that a number names, refused or not.
-fn probing(a: &[u32], deals: &[u32], x: u32) -> u32 {
-    let m = [x; 24];
-    let mask = [7; 24];
-    let order = x / 4 % 10;
-    let turn = x / 40 % 260;
-    let s = State {
-        m,
-        mask,
-        order,
-        turn,
-        stored: probed(order, turn, x),
-    };
-    let short = front(a, (x / 1000 % 330) as usize);
-    let fewer = front(deals, (x / 1300 % 200) as usize);
-    let r = s.hear(x % 4, &PROBED, &HOUSE, short, fewer, 5);
-    let fault = wrapping_mul(add(r.number, wrapping_mul(r.index, 1000)), 65537);
-    let place = add(wrapping_mul(r.state.order, 31), r.state.turn);
-    let left = r.state.stored;
-    let used = add(
-        left.a,
-        add(wrapping_mul(left.b, 3), wrapping_mul(left.deals, 5)),
-    );
-    let said = add(wrapping_mul(r.spoken, 257), wrapping_mul(used, 8191));
-    add(fault, add(said, place))
-}
-
-// One turn of a workload, by its digit, which goes by the sum so far: of curves 1 preparation, 2 and 3 starting hosts 1
-// and 2, 4 a run; of additions and subtractions 5 preparation, 6 and 7 starting hosts 1 and 2; and else probing.
-fn once(
-    w: u8,
-    curves: &[u32],
-    sums: &[u32],
-    a: &[u32],
-    b: &[u32],
-    deals: &mut [u32],
-    sum: u32,
-    i: u32,
-) -> u32 {
-    let x = add(sum, i);
-    let none = [0u32; 0];
-    match w {
-        b'1' => add(sum, preparing(curves, a, b, deals, x)),
-        b'2' => add(sum, starting(1, curves, a, &none, x)),
-        b'3' => add(sum, starting(2, curves, b, deals, x)),
-        b'4' => add(sum, running(curves, a, b, deals, x)),
-        b'5' => add(sum, preparing(sums, a, b, deals, x)),
-        b'6' => add(sum, starting(1, sums, a, &none, x)),
-        b'7' => add(sum, starting(2, sums, b, deals, x)),
-        _ => add(wrapping_mul(sum, 31), probing(a, deals, i)),
-    }
-}
-
-// 64 exact curves, of register 0 into itself.
-fn curve_orders() -> [u32; 256] {
-    let mut job = [0u32; 256];
-    let mut i = 0;
-    while i < 64 {
-        job[4 * i] = 10;
-        i += 1;
-    }
-    job
-}
-
-// 64 additions and subtractions in turn, over all registers; at times the target is a source.
-fn sum_orders() -> [u32; 256] {
-    let mut job = [0u32; 256];
-    let mut i = 0;
-    while i < 64 {
-        let order = i as u32;
-        job[4 * i] = order % 2;
-        job[4 * i + 1] = (order + order / 8) % 16;
-        job[4 * i + 2] = order % 16;
-        job[4 * i + 3] = (14 * order + 2) % 16;
-        i += 1;
-    }
-    job
-}
-
-// The sum over n turns of a workload on the first orders of a job, on lists as long as any job needs, or of a day.
-fn summed(w: u8, count: u32, n: u32) -> u32 {
-    let mut a = [0u32; 27712];
-    fill(&mut a, 2654435769, 1);
-    let mut b = [0u32; 13824];
-    fill(&mut b, 2246822519, 1);
-    let mut deals = [0u32; 13888];
-    if w == b'9' {
-        return summed_day(count, &a, &b, &mut deals, n);
-    }
-    let words = (count % 65 * 4) as usize;
-    let all_curves = curve_orders();
+// The sum over n turns of a workload on the first orders of a job, or of a day. Of curves 1 is preparation, 2 and 3 are
+// starting hosts 1 and 2, and 4 is a run; of additions and subtractions 5 is preparation, 6 and 7 are starting hosts 1
+// and 2; 9 is a day, and all else probing.
+fn summed(workload: u8, count: u32, n: u32) -> u32 {
+    let mut lists = Lists::filled();
+    let orders = (count % 65) as usize;
     let all_sums = sum_orders();
-    let curves = front(&all_curves, words);
-    let sums = front(&all_sums, words);
-    let mut sum = 0;
-    let mut i = 0;
-    while i < n {
-        sum = once(w, curves, sums, &a, &b, &mut deals, sum, i);
-        i += 1;
+    let curves = CURVES[..orders].as_flattened();
+    let sums = all_sums[..orders].as_flattened();
+    match workload {
+        b'1' => turns::summed(n, |x| lists.preparing(curves, x)),
+        b'2' => turns::summed(n, |x| lists.starting_one(curves, x)),
+        b'3' => turns::summed(n, |x| lists.starting_two(curves, x)),
+        b'4' => turns::summed(n, |x| lists.running(curves, x)),
+        b'5' => turns::summed(n, |x| lists.preparing(sums, x)),
+        b'6' => turns::summed(n, |x| lists.starting_one(sums, x)),
+        b'7' => turns::summed(n, |x| lists.starting_two(sums, x)),
+        b'9' => day::summed(count, &mut lists, n),
+        _ => turns::mixed(n, |x| lists.probing(x)),
     }
-    sum
-}
-
-fn wide(x: u8) -> u32 {
-    x as u32
 }
 
 // The number in the text's digits; other bytes are passed over.
 fn number(text: &[u8]) -> u32 {
-    let mut n = 0;
-    let mut i = 0;
-    while i < text.len() {
-        if b'0' <= text[i] && text[i] <= b'9' {
-            n = add(wrapping_mul(n, 10), wide(text[i] - b'0'));
-        }
-        i += 1;
-    }
-    n
+    text.iter().fold(0, |n, byte| match byte {
+        b'0'..=b'9' => wrapping_mul(n, 10).wrapping_add(u32::from(byte - b'0')),
+        _ => n,
+    })
 }
 
 fn main(rt: HostRuntime) -> io::Result<()> {
