@@ -8,11 +8,11 @@ ghost use Rattle.words.specs.Signed.{signed, wrap};
 
 pub mod rings;
 
-// a * b modulo 2^32.
+// a * b modulo 2^32: document 01 has the program's own helper for it, beside the supplied sums and differences.
 pub fn wrapping_mul(a: u32, b: u32) -> u32
     ensures { result ≡ mul 32 a b }
 {
-    a.wrapping_mul(b)
+    (u64::from(a) * u64::from(b) % 4294967296) as u32
 }
 
 // The signed reading of a word, from -2^31 to 2^31 - 1.

@@ -3,6 +3,8 @@ ghost use Rattle.std.specs.Prelude.{◌≡◌, ℕ};
 ghost use Rattle.words.specs.Ring.{Ops};
 ghost use Rattle.words.specs.Words.{numbers, bits};
 
+use crate::wrapping_mul;
+
 // An arithmetic of words. Document 01 writes a formula for numbers and has it hold for bits, with `and` for times and
 // xor for plus and minus: the code is written once, over either.
 pub trait Arithmetic {
@@ -36,7 +38,7 @@ impl Arithmetic for Numbers {
     }
 
     fn times(x: u32, y: u32) -> u32 {
-        x.wrapping_mul(y)
+        wrapping_mul(x, y)
     }
 
     fn negative(x: u32) -> u32 {
