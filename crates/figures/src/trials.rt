@@ -24,7 +24,7 @@ pub(crate) struct Trial {
 // A job run by the three hosts, and whether the deal buffer's words past the deals are as before.
 #[derive(Clone, Copy)]
 pub(crate) struct Ran {
-    pub(crate) hosts: Trio,
+    hosts: Trio,
     kept: bool,
 }
 
@@ -153,7 +153,7 @@ impl Trial {
         (0..16).any(|r| r != self.target && ran.opened(r) != Some(number(self.value(r))))
     }
 
-    // Whether something is refused, or the counts of the hosts, each of which speaks half the words, are not the kind's.
+    // Whether something is refused, or the hosts' counts are not the kind's; each worker speaks half the words.
     fn is_miscounted(&self, ran: &Ran, rows: u32) -> bool {
         let due = self.kind.cost(rows);
         let half = due.words / 2;
