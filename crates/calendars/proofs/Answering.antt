@@ -15,7 +15,7 @@ use Rattle.calendars.specs.Answers.{refused, counted, Readable}
 use Rattle.calendars.proofs.Ranges.{every_below}
 use Rattle.calendars.proofs.Days.{day_tests}
 use Rattle.calendars.proofs.Packing.{packed_ones}
-use Rattle.calendars.proofs.Counting.{number_le, number_of_words, answered}
+use Rattle.calendars.proofs.Counting.{number_of_words, answered}
 
 module _ (c : List ℕ) (d : ℕ) where
   -- ---- the check's number
@@ -75,9 +75,6 @@ module _ (c : List ℕ) (d : ℕ) where
           is_n =
               number_of_words (counts c d)
               ∙ rw (is_q, packed_ones (counts c d) 0 32, packed_ones (counts c d) 32 32, packed_ones (counts c d) 64 32)
-
-          pub sum_fits : sum ≤ 96
-          sum_fits = omega (arith, is_n, number_le (counts c d) 0 96)
 
           pub none : sum ≡ 0 → refused 17 ≡ counted c d
           unfolding counted

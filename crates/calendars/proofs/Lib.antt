@@ -7,5 +7,6 @@ pub mod Counting
 pub mod Held
 pub mod FactorTable
 pub mod Answering
+pub mod Refusals
 pub mod Calendars
 pub mod OpeningHours

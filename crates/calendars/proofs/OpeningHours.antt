@@ -6,7 +6,7 @@ use mathlib.Core.Logic.{◌↔◌, ◌≢◌}
 use Prim.Native.Nat.{ℕ, zero, suc, ◌+◌, ◌*◌, ◌≤◌, ◌<◌}
 use native.Mathlib.Omega.{arith}
 use borrow.Author.Tests.{le-leb}
-use Rattle.calendars.specs.declared.answers.Counted.{Counted}
+use Rattle.calendars.specs.Answers.{Counted}
 use Rattle.calendars.specs.Ranges.{digit}
 use Rattle.calendars.specs.Calendar.{sound, counts, counted_quarters, calendar_number, factor}
 use Rattle.calendars.specs.Quarters.{held, tabled}

@@ -1,48 +1,53 @@
 // The checks 16 and 17, and the quarters of a weekday with their number.
 ghost use Rattle.std.specs.Prelude.{◌≡◌};
-ghost use Rattle.calendars.specs.Answers.{refused, counted};
+ghost use Rattle.calendars.specs.Answers.{counted, number_of, answer_of};
 
 use crate::Quarters;
-use crate::answers::Counted;
 use crate::rules::sound_week;
 use crate::windows::quarters;
 
-fn refused(number: u32) -> Counted
-    ensures { result ≡ refused number }
-{
-    Counted {
-        number,
-        quarters: Quarters {
-            low: 0,
-            middle: 0,
-            high: 0,
-        },
-        n: 0,
+// Which quarters of a weekday count, and how many.
+#[derive(Clone, Copy, Debug, PartialEq, Eq)]
+pub struct CountedQuarters {
+    pub quarters: Quarters,
+    pub n: u32,
+}
+
+// Why no quarters are given.
+#[derive(Clone, Copy, Debug, PartialEq, Eq)]
+pub enum HoursError {
+    // a calendar or a weekday that breaks a rule
+    UnsoundCalendar = 16,
+    // "no quarter counted"
+    NoQuarter = 17,
+}
+
+impl HoursError {
+    pub fn number(self) -> u32
+        ensures { result ≡ number_of self }
+    {
+        self as u32
     }
 }
 
 // Which quarters of a weekday count, and how many; 16 for a calendar or a weekday that breaks a rule, then 17 where
 // none counts.
-pub fn counted(calendar: &[u32], weekday: u32) -> Counted
-    ensures { result ≡ counted calendar.now weekday }
+pub fn counted(calendar: &[u32], weekday: u32) -> Result<CountedQuarters, HoursError>
+    ensures { answer_of result ≡ counted calendar.now weekday }
 {
     if calendar.len() != 182 {
-        return refused(16);
+        return Err(HoursError::UnsoundCalendar);
     }
     if 6 < weekday {
-        return refused(16);
+        return Err(HoursError::UnsoundCalendar);
     }
     if !sound_week(calendar) {
-        return refused(16);
+        return Err(HoursError::UnsoundCalendar);
     }
-    let q = quarters(calendar, weekday as usize);
-    let n = u32::count_ones(q.low) + u32::count_ones(q.middle) + u32::count_ones(q.high);
+    let quarters = quarters(calendar, weekday as usize);
+    let n = quarters.low.count_ones() + quarters.middle.count_ones() + quarters.high.count_ones();
     if n == 0 {
-        return refused(17);
+        return Err(HoursError::NoQuarter);
     }
-    Counted {
-        number: 0,
-        quarters: q,
-        n,
-    }
+    Ok(CountedQuarters { quarters, n })
 }

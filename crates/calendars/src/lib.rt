@@ -2,7 +2,6 @@
 // of the day's mean.
 #![tactic(auto)]
 
-pub mod answers;
 mod bits;
 mod checks;
 mod factors;
@@ -11,11 +10,11 @@ mod spans;
 mod windows;
 
 pub use bits::{counted_before, counts_at, next_counted};
-pub use checks::counted;
+pub use checks::{CountedQuarters, HoursError, counted};
 pub use factors::factor;
 
 // The 96 quarters as bits, quarter q at bit q % 32 of word q / 32.
-#[derive(Clone, Copy)]
+#[derive(Clone, Copy, Debug, PartialEq, Eq)]
 pub struct Quarters {
     pub low: u32,
     pub middle: u32,

@@ -4,7 +4,7 @@ use mathlib.Core.List.{List}
 use Prim.Native.Nat.{ℕ, zero, suc}
 use native.Mathlib.Omega.{arith}
 use lib.ListN.{take}
-use Rattle.table_load.specs.declared.Loaded.{Loaded}
+use Rattle.table_load.specs.Loading.{Loaded}
 use Rattle.table_load.specs.Loading.{loading, lent_on}
 use Rattle.table_load.proofs.Loads.{loads}
 use Rattle.lamphiek.specs.Loading.{table_left}

@@ -1,7 +1,7 @@
 -- A weekday's quarters (R-6), as C is answered: the number and how many count are given, their bits are left in lent
 -- words. Assumes nothing.
 use Rattle.std.specs.Prelude.{List, [], ◌∷◌, ℕ}
-use Rattle.calendars.specs.declared.answers.Counted.{Counted}
+use Rattle.calendars.specs.Answers.{Counted}
 use Rattle.lamphiek.specs.declared.Answer.{Answer}
 use Rattle.lamphiek.specs.Layout.{answer, written}
 

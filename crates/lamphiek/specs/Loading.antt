@@ -1,7 +1,7 @@
 -- Loading a table (R-5), as C is answered: the number and how many words there are are given, the table is left in lent
 -- words. Assumes nothing.
 use Rattle.std.specs.Prelude.{List, ℕ}
-use Rattle.table_load.specs.declared.Loaded.{Loaded}
+use Rattle.table_load.specs.Loading.{Loaded}
 use Rattle.lamphiek.specs.declared.Answer.{Answer}
 use Rattle.lamphiek.specs.Layout.{answer, written}
 

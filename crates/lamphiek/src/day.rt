@@ -24,19 +24,20 @@ pub extern "C" fn lamphiek_day_quarters(
     ensures quarters { quarters.new
         ≡ quarters_left (counted calendar.now weekday) quarters.old }
 {
-    let found = calendars::counted(calendar, weekday);
-    let said = Answer {
-        number: found.number,
-        index: 0,
-        count: found.n,
-        word: 0,
+    let (number, count) = match calendars::counted(calendar, weekday) {
+        Ok(found) => {
+            let held = found.quarters;
+            *quarters = [held.low, held.middle, held.high];
+            (0, found.n)
+        }
+        Err(e) => (e.number(), 0),
     };
-    if found.number != 0 {
-        return said;
+    Answer {
+        number,
+        index: 0,
+        count,
+        word: 0,
     }
-    let held = found.quarters;
-    *quarters = [held.low, held.middle, held.high];
-    said
 }
 
 // Host 0 prepares a day: its deals are written, and its masks of all registers at the day's end. Numbers 12, 16, 17, 5,

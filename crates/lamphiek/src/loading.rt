@@ -14,17 +14,18 @@ pub extern "C" fn lamphiek_load(text: &[u8], table: &mut [u32; 32]) -> Answer
     ensures table { table.new
         ≡ table_left (loading text.now) table.old }
 {
-    let l = load(text);
-    let said = Answer {
-        number: l.number,
-        index: 0,
-        count: l.len as u32,
-        word: 0,
+    let (number, count) = match load(text) {
+        Ok(loaded) => {
+            let words = loaded.table;
+            *table = words;
+            (0, loaded.len as u32)
+        }
+        Err(e) => (e.number(), 0),
     };
-    if l.number != 0 {
-        return said;
+    Answer {
+        number,
+        index: 0,
+        count,
+        word: 0,
     }
-    let words = l.table;
-    *table = words;
-    said
 }

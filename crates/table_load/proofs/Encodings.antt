@@ -13,7 +13,7 @@ use Rattle.words.proofs.Digits.{both}
 use Rattle.tables.specs.Table.{Row, rows, rises, Rules}
 use Rattle.tables.proofs.Rules.{enough}
 use Rattle.tables.proofs.Rows.{rules, Rising, for_table}
-use Rattle.table_load.specs.declared.Loaded.{Loaded}
+use Rattle.table_load.specs.Loading.{Loaded}
 use Rattle.table_load.specs.Loading.{byte, records, marks, words, marked, table_in}
 use Rattle.table_load.specs.Loading.{padded, loaded, loading, lent_on}
 use Rattle.table_load.specs.Texts.{Bytes, Marked, TwoToSixteen, Sound, TextNumbered, faultless, unmarked, miscounted, unsound}

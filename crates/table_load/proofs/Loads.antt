@@ -6,7 +6,7 @@ use mathlib.Core.List.{List}
 use Prim.Native.Nat.{ℕ, ◌≤◌}
 use native.Mathlib.Omega.{arith}
 use Rattle.tables.specs.Table.{rows, rises}
-use Rattle.table_load.specs.declared.Loaded.{Loaded}
+use Rattle.table_load.specs.Loading.{Loaded}
 use Rattle.table_load.specs.Loading.{records, marked, two_to_sixteen, table_in, loaded, refused, loading}
 use Rattle.table_load.specs.Loads.{Loads}
 use Rattle.table_load.proofs.Reading.{two_each, two_to_sixteen_is}

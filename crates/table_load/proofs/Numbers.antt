@@ -12,7 +12,7 @@ use Rattle.words.proofs.Digits.{both}
 use Rattle.tables.specs.Table.{row, rows, rises, keeps_rules, row_at, Rules}
 use Rattle.tables.proofs.Rules.{enough}
 use Rattle.tables.proofs.Rows.{rules}
-use Rattle.table_load.specs.declared.Loaded.{Loaded}
+use Rattle.table_load.specs.Loading.{Loaded}
 use Rattle.table_load.specs.Loading.{byte, records, has_mark, count_of, value_of, marks, words, marked, two_to_sixteen}
 use Rattle.table_load.specs.Loading.{table_in, loading}
 use Rattle.table_load.specs.Texts.{Marked, TwoToSixteen, Sound, TextNumbered, faultless, unmarked, miscounted, unsound}

@@ -7,14 +7,16 @@ use Prim.Native.Nat.{ℕ, zero, suc, ◌+◌, ◌-◌, ◌*◌, ◌%◌, ◌≤�
 use native.Mathlib.Nat.{zero-add, zero-sub, sub-zero, suc-sub-suc}
 use native.Mathlib.Numerals.{add-one}
 use native.Mathlib.Omega.{arith}
-use borrow.Author.Tests.{le-leb, lt-leb, eq-eqb, ne_eqb}
-use lib.Dec.{T, leb, leb→le}
-use lib.ListN.{length, take, drop, set, replicate}
-use lib.Seq.{take_at, sets, sets-eq}
+use borrow.Author.Tests.{le-leb, eq-eqb, ne_eqb, eqb-true}
+use lib.Dec.{T, eqb, leb, leb→le}
+use lib.ListN.{length, take, drop, set, replicate, get_or}
+use lib.Seq.{take_at, sets, sets-eq, get_or-drop}
+use Rattle.std.proofs.lemmas.List.{get_or-take}
+use Rattle.std.specs.Simd.{first_chunks}
 use Rattle.words.proofs.Digits.{both}
 use Rattle.tables.specs.Table.{rows, rises, keeps_rules}
 use Rattle.tables.proofs.Rules.{enough}
-use Rattle.table_load.specs.declared.Loaded.{Loaded}
+use Rattle.table_load.specs.Loading.{Loaded}
 use Rattle.table_load.specs.Loading.{byte, records, has_mark, count_of, value_of, marks, words, marked}
 use Rattle.table_load.specs.Loading.{two_to_sixteen, table_in, padded, loaded, refused, loading}
 
@@ -31,14 +33,33 @@ apart e = is_T e
 -- ---- `read_record`
 
 module _ (t : List ℕ) (k : ℕ) where
-  pub first_wrong : (byte t (6 * k) ≡ 195 → ⊥) → false ≡ has_mark t k
-  first_wrong e = rw (ne_eqb (byte t (6 * k)) 195 e)
-
-  pub second_wrong : byte t (6 * k) ≡ 195 → (byte t (6 * k + 1) ≡ 90 → ⊥) → false ≡ has_mark t k
-  second_wrong d e = rw (eq-eqb (byte t (6 * k)) 195 d, ne_eqb (byte t (6 * k + 1)) 90 e)
-
   pub mark_right : byte t (6 * k) ≡ 195 → byte t (6 * k + 1) ≡ 90 → true ≡ has_mark t k
   mark_right d e = rw (eq-eqb (byte t (6 * k)) 195 d, eq-eqb (byte t (6 * k + 1)) 90 e)
+
+-- byte j of record k, and what is read in it
+record_byte : (n k j : ℕ) (t : List ℕ) → k < n → j < 6 → get_or (get_or (first_chunks 6 n t) k []) j 0 ≡ byte t (6 * k + j)
+record_byte zero k j t h l = absurd (omega arith)
+record_byte (suc n) zero j t h l = get_or-take 6 t j 0 l ∙ ap (byte t) (sym (zero-add j))
+record_byte (suc n) (suc k) j t h l =
+    let e : 6 + (6 * k + j) ≡ 6 * suc k + j = omega arith in
+    record_byte n k j (drop 6 t) (omega arith) l ∙ get_or-drop 6 t (6 * k + j) 0 ∙ ap (byte t) e
+
+module _ (t : List ℕ) (k : ℕ) (h : k < records t) {rs : List (List ℕ)} (cut : rs ≡ first_chunks 6 (records t) t) where
+  at_byte : (j : ℕ) → j < 6 → byte (get_or rs k []) j ≡ byte t (6 * k + j)
+  at_byte j l = rw cut (record_byte (records t) k j t h l)
+
+  pub mark_read : has_mark (get_or rs k []) 0 ≡ has_mark t k
+  mark_read = let e : 6 * k + 0 ≡ 6 * k = omega arith in rw (at_byte 0 (omega arith), at_byte 1 (omega arith), e)
+
+  pub count_read : count_of (get_or rs k []) 0 ≡ count_of t k
+  count_read = rw (at_byte 2 (omega arith), at_byte 3 (omega arith))
+
+  pub value_read : value_of (get_or rs k []) 0 ≡ value_of t k
+  value_read = rw (at_byte 4 (omega arith), at_byte 5 (omega arith))
+
+-- no bytes are over where the last part is empty
+pub whole : (t : List ℕ) {n : ℕ} {b : Bool} → b ≡ eqb n 0 → b ≡ true → n ≡ length t % 6 → length t % 6 ≡ 0
+whole t p e l = sym l ∙ eqb-true _ _ (sym p ∙ e)
 
 -- ---- `read_records`: a turn of the loop, at record k of n
 
@@ -55,23 +76,23 @@ module _ (t : List ℕ) where
     unfolding words
     words_at = rw (left, add-one k)
 
-  pub cut_short : (length t % 6 ≡ 0 → ⊥) → false ≡ marked t
+  pub cut_short : (length t % 6 ≡ 0 → ⊥) → marked t ≡ false
   unfolding marked
   cut_short h = rw (ne_eqb (length t % 6) 0 h)
 
   module _ (whole : length t % 6 ≡ 0) (k : ℕ) (so_far : marks (records t) 0 t ≡ marks (records t - k) k t) where
-    module _ (h : k < records t) {b : Bool} (tested : b ≡ has_mark t k) where
-      next : marks (records t) 0 t ≡ (b && marks (records t - (k + 1)) (k + 1) t)
-      next = so_far ∙ marks_at (records t) k h ∙ ap (λ (x : Bool). x && marks (records t - (k + 1)) (k + 1) t) (sym tested)
+    module _ (h : k < records t) where
+      next : {b : Bool} → has_mark t k ≡ b → marks (records t) 0 t ≡ (b && marks (records t - (k + 1)) (k + 1) t)
+      next e = so_far ∙ marks_at (records t) k h ∙ rw e
 
-      pub mark_wrong : b ≡ false → false ≡ marked t
+      pub mark_wrong : has_mark t k ≡ false → marked t ≡ false
       unfolding marked
-      mark_wrong e = rw (eq-eqb (length t % 6) 0 whole, next, e)
+      mark_wrong e = rw (eq-eqb (length t % 6) 0 whole, next e)
 
-      pub go_on : b ≡ true → marks (records t) 0 t ≡ marks (records t - (k + 1)) (k + 1) t
-      go_on e = next ∙ rw e
+      pub go_on : has_mark t k ≡ true → marks (records t) 0 t ≡ marks (records t - (k + 1)) (k + 1) t
+      go_on e = next e
 
-    pub all_right : records t ≤ k → true ≡ marked t
+    pub all_right : records t ≤ k → marked t ≡ true
     unfolding marked marks
     all_right h =
         let e : records t - k ≡ 0 = omega arith in
@@ -102,10 +123,6 @@ two_each zero k t = refl
 two_each (suc n) k t = omega (arith, two_each n (suc k) t)
 
 -- ---- `two_to_sixteen`
-
-pub few : (n : ℕ) → n < 2 → false ≡ two_to_sixteen n
-unfolding two_to_sixteen
-few n h = rw (lt-leb 2 n h)
 
 pub at_least_two : (n : ℕ) → 2 ≤ n → leb n 16 ≡ two_to_sixteen n
 unfolding two_to_sixteen
@@ -145,38 +162,34 @@ module _ (t : List ℕ) where
   none_broken m n e = rw (m, n, e)
 
   -- the answers, from what the code has found
-  module _ {b : Bool} (read : b ≡ marked t) where
-    pub answer_13 : b ≡ false → refused 13 ≡ loading t
-    answer_13 e = broken_13 (sym read ∙ e)
+  module _ (right : marked t ≡ true) where
+    pub answer_14 : {d : Bool} → d ≡ two_to_sixteen (records t) → d ≡ false → refused 14 ≡ loading t
+    answer_14 p e = broken_14 right (sym p ∙ e)
 
-    module _ (right : b ≡ true) {d : Bool} (number_right : d ≡ two_to_sixteen (records t)) where
-      pub answer_14 : d ≡ false → refused 14 ≡ loading t
-      answer_14 e = broken_14 (sym read ∙ right) (sym number_right ∙ e)
+    module _ {d : Bool} (number_right : d ≡ two_to_sixteen (records t)) (enough_rows : d ≡ true)
+        {table : List ℕ} (filled : table ≡ sets (replicate 32 0) 0 (table_in t)) where
+      pub rows_between : (2 ≤ records t) × (records t ≤ 16)
+      rows_between = two_to_sixteen_is (records t) (sym number_right ∙ enough_rows)
 
-      module _ (enough_rows : d ≡ true) {table : List ℕ} (filled : table ≡ sets (replicate 32 0) 0 (table_in t)) where
-        rows_between : (2 ≤ records t) × (records t ≤ 16)
-        rows_between = two_to_sixteen_is (records t) (sym number_right ∙ enough_rows)
+      held : table ≡ padded (table_in t)
+      unfolding padded
+      held =
+          filled ∙ sets-eq (table_in t) (replicate 32 0) 0 (omega (arith, two_each (records t) 0 t, rows_between))
+          ∙ ap (λ (x : ℕ). table_in t ++ drop x (replicate 32 0)) (zero-add (length (table_in t)))
+          ∙ ap (λ (l : List ℕ). table_in t ++ l) (zeros_left (length (table_in t)) 32)
 
-        held : table ≡ padded (table_in t)
+      module _ {e : Bool} (tested : e ≡ keeps_rules (take (2 * records t) table)) where
+        -- the test of the words that are lent is that of the rows
+        rows_tested : rises (rows (table_in t)) ≡ e
         unfolding padded
-        held =
-            filled ∙ sets-eq (table_in t) (replicate 32 0) 0 (omega (arith, two_each (records t) 0 t, rows_between))
-            ∙ ap (λ (x : ℕ). table_in t ++ drop x (replicate 32 0)) (zero-add (length (table_in t)))
-            ∙ ap (λ (l : List ℕ). table_in t ++ l) (zeros_left (length (table_in t)) 32)
+        rows_tested =
+            let l : length (table_in t) ≡ 2 * records t = two_each (records t) 0 t in
+            enough (table_in t) (omega (arith, l)) (omega (arith, l, rows_between)) (omega (arith, l, rows_between))
+            ∙ sym (tested ∙ ap (λ (x : List ℕ). keeps_rules (take (2 * records t) x)) held
+            ∙ ap keeps_rules (take_at (table_in t) _ (2 * records t) l))
 
-        module _ {e : Bool} (tested : e ≡ keeps_rules (take (2 * records t - 0) table)) where
-          -- the test of the words that are lent is that of the rows
-          rows_tested : rises (rows (table_in t)) ≡ e
-          unfolding padded
-          rows_tested =
-              let l : length (table_in t) ≡ 2 * records t = two_each (records t) 0 t in
-              enough (table_in t) (omega (arith, l)) (omega (arith, l, rows_between)) (omega (arith, l, rows_between))
-              ∙ sym (tested ∙ ap (λ (x : List ℕ). keeps_rules (take (2 * records t - 0) x)) held
-              ∙ ap keeps_rules (take_at (table_in t) _ (2 * records t - 0) (omega (arith, l))))
+        pub answer_15 : e ≡ false → refused 15 ≡ loading t
+        answer_15 f = broken_15 right (sym number_right ∙ enough_rows) (rows_tested ∙ f)
 
-          pub answer_15 : e ≡ false → refused 15 ≡ loading t
-          answer_15 f = broken_15 (sym read ∙ right) (sym number_right ∙ enough_rows) (rows_tested ∙ f)
-
-          pub answer_0 : e ≡ true → ◌≡◌ {A = Loaded} (record { number = 0; table = table; len = 2 * records t }) (loading t)
-          answer_0 f =
-              rw (held, ← two_each (records t) 0 t) (none_broken (sym read ∙ right) (sym number_right ∙ enough_rows) (rows_tested ∙ f))
+        pub answer_0 : e ≡ true → ◌≡◌ {A = Loaded} (record { number = 0; table = table; len = 2 * records t }) (loading t)
+        answer_0 f = rw (held, ← two_each (records t) 0 t) (none_broken right (sym number_right ∙ enough_rows) (rows_tested ∙ f))

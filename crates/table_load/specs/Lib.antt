@@ -1,3 +1,4 @@
 pub mod Loading
+pub mod Answers
 pub mod Texts
 pub mod Loads

@@ -2,7 +2,6 @@
 use Rattle.std.specs.Prelude.{Bool, true, ◌&&◌, not, cond, List, [], ◌∷◌, ◌++◌, ℕ, zero, suc, ◌+◌}
 use Rattle.std.specs.Prelude.{◌-◌, ◌*◌, ◌/◌, ◌%◌, eqb, leb, length, get_or, take, replicate}
 use Rattle.tables.specs.Table.{rows, rises}
-use Rattle.table_load.specs.declared.Loaded.{Loaded}
 
 -- byte i of a text
 abbrev pub byte : List ℕ → ℕ → ℕ
@@ -47,6 +46,12 @@ two_to_sixteen n = leb 2 n && leb n 16
 -- the words of a text's table
 abbrev pub table_in : List ℕ → List ℕ
 table_in t = words (records t) 0 t
+
+-- what a text gives: the check's number, 0 for none; the table's words, with zeros behind them, and how many there are
+pub record Loaded : Type 0 where
+  pub number : ℕ
+  pub table : List ℕ
+  pub len : ℕ
 
 -- a table as an answer holds it: its words, with zeros behind them to 32; and how many they are
 unfoldable pub padded : List ℕ → List ℕ

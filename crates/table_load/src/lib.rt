@@ -1,10 +1,11 @@
 // Loading a hotel's own calibration table from bytes (document 02, R-5): records of six bytes, one for each row.
 #![tactic(auto)]
 
-ghost use Rattle.std.specs.Prelude.{◌≡◌, true, ◌+◌, ◌*◌, ◌≤◌, length, set};
+ghost use Rattle.std.specs.Prelude.{◌≡◌, ◌+◌, ◌*◌, true, false, MatchResult};
 ghost use Rattle.std.proofs.lemmas.List.Edits.{sets};
 ghost use Rattle.table_load.specs.Loading.{two_bytes, has_mark, count_of, value_of, marked, table_in};
-ghost use Rattle.table_load.specs.Loading.{two_to_sixteen, refused, loading};
+ghost use Rattle.table_load.specs.Loading.{two_to_sixteen, loading};
+ghost use Rattle.table_load.specs.Answers.{number_of, answer_of};
 
 use tables::keeps_rules;
 use word_lists::put_word;
@@ -15,104 +16,90 @@ const MARK: [u8; 2] = [195, 90];
 // The mark, r and c.
 const RECORD_BYTES: usize = 6;
 
-// Loading's answer: the number, 0 for none; the table's words, with zeros behind them, and how many there are, so that
-// table[0..len] is lent on. Refused, all but the number is 0.
-#[derive(Clone, Copy)]
-pub struct Loaded {
-    pub number: u32,
+// The table of a text: its words, with zeros behind them, and how many there are, so that table[..len] is lent on.
+// Its room is fixed, since the engine has no heap: the 32 words of 16 rows, all of which C is given.
+#[derive(Clone, Copy, Debug, PartialEq, Eq)]
+pub struct LoadedTable {
     pub table: [u32; 32],
     pub len: usize,
+}
+
+// Why a text holds no table, by the first condition that it breaks.
+#[derive(Clone, Copy, Debug, PartialEq, Eq)]
+pub enum LoadError {
+    Unmarked = 13, // "record cut short or mark wrong"
+    Miscounted = 14, // "fewer than 2 or more than 16 records"
+    Unsound = 15, // "a row's range or rise is broken"
+}
+
+impl LoadError {
+    pub fn number(self) -> u32
+        ensures { result ≡ number_of self }
+    {
+        self as u32
+    }
 }
 
 // "each in two bytes, low byte first"
 fn two_bytes(low: u8, high: u8) -> u32
     ensures { result ≡ two_bytes low high }
 {
-    low as u32 + 256 * (high as u32)
+    u32::from(u16::from_le_bytes([low, high]))
 }
 
-// Compares the mark of record k, then reads the record: its r and c become row k of the table, if that has such a row.
-// Whether the mark is right.
-fn read_record(text: &[u8], k: usize, table: &mut [u32]) -> bool
-    requires { 6 * k + 6 ≤ length text.now }
-    ensures mark { result ≡ has_mark text.now k }
-    ensures row { result ≡ true
-        → table.new ≡ set (set table.old (2 * k) (count_of text.now k)) (2 * k + 1)
-        (value_of text.now k) }
+// Compares the mark of a record, then reads it: its r and c. Refused where the mark is wrong.
+fn read_record(bytes: &[u8; RECORD_BYTES]) -> Result<(u32, u32), LoadError>
+    ensures { MatchResult result
+        (λ row. (has_mark bytes.now 0 ≡ true) × (row.0 ≡ count_of bytes.now 0) × (row.1 ≡ value_of bytes.now 0))
+        (λ e. (has_mark bytes.now 0 ≡ false) × (e ≡ LoadError.Unmarked)) }
 {
-    let at = RECORD_BYTES * k;
-    if text[at] != MARK[0] {
-        return false;
+    let [first, second, r_low, r_high, c_low, c_high] = *bytes;
+    if [first, second] == MARK {
+        Ok((two_bytes(r_low, r_high), two_bytes(c_low, c_high)))
+    } else {
+        Err(LoadError::Unmarked)
     }
-    if text[at + 1] != MARK[1] {
-        return false;
-    }
-    put_word(table, 2 * k, two_bytes(text[at + 2], text[at + 3]));
-    put_word(table, 2 * k + 1, two_bytes(text[at + 4], text[at + 5]));
-    true
 }
 
-// Reads every record of a text into the table. Whether none is cut short and each has its mark.
-fn read_records(text: &[u8], table: &mut [u32]) -> bool
-    ensures marks { result ≡ marked text.now }
-    ensures rows { result ≡ true
-        → table.new ≡ sets table.old 0 (table_in text.now) }
+// Reads every record of a text: the r and c of record k become row k of the table, if that has such a row. Refused
+// where a record is cut short or its mark is wrong.
+fn read_records(text: &[u8], table: &mut [u32]) -> Result<(), LoadError>
+    ensures { MatchResult result
+        (λ _. (marked text.now ≡ true) × (table.new ≡ sets table.old 0 (table_in text.now)))
+        (λ e. (marked text.now ≡ false) × (e ≡ LoadError.Unmarked)) }
 {
-    if text.len() % RECORD_BYTES != 0 {
-        return false;
+    let (records, cut) = text.as_chunks::<RECORD_BYTES>();
+    if !cut.is_empty() {
+        return Err(LoadError::Unmarked);
     }
-    let records = text.len() / RECORD_BYTES;
-    let mut k = 0;
-    while k < records {
-        if !read_record(text, k, table) {
-            return false;
-        }
-        k += 1;
+    for (k, bytes) in records.iter().enumerate() {
+        let (r, c) = read_record(bytes)?;
+        put_word(table, 2 * k, r);
+        put_word(table, 2 * k + 1, c);
     }
-    true
+    Ok(())
 }
 
 // Whether there are 2 to 16 records.
 fn two_to_sixteen(n: usize) -> bool
     ensures { result ≡ two_to_sixteen n }
 {
-    if n < 2 {
-        return false;
-    }
-    n <= 16
-}
-
-fn refused(number: u32) -> Loaded
-    ensures { result ≡ refused number }
-{
-    Loaded {
-        number,
-        table: [0u32; 32],
-        len: 0,
-    }
+    (2..=16).contains(&n)
 }
 
 // The table that a text holds. Numbers 13, 14, 15.
-pub fn load(text: &[u8]) -> Loaded
-    ensures { result ≡ loading text.now }
+pub fn load(text: &[u8]) -> Result<LoadedTable, LoadError>
+    ensures { answer_of result ≡ loading text.now }
 {
     let mut table = [0u32; 32];
-    let n = text.len() / RECORD_BYTES;
-    let whole = read_records(text, &mut table);
-    let counted = two_to_sixteen(n);
-    if !whole {
-        return refused(13);
+    read_records(text, &mut table)?;
+    let rows = text.len() / RECORD_BYTES;
+    if !two_to_sixteen(rows) {
+        return Err(LoadError::Miscounted);
     }
-    if !counted {
-        return refused(14);
+    let len = 2 * rows;
+    if !keeps_rules(&table[..len]) {
+        return Err(LoadError::Unsound);
     }
-    let len = 2 * n;
-    if !keeps_rules(&table[0..len]) {
-        return refused(15);
-    }
-    Loaded {
-        number: 0,
-        table,
-        len,
-    }
+    Ok(LoadedTable { table, len })
 }

@@ -1,46 +1,32 @@
-use mathlib.Core.Path.{sym, ◌∙◌}
-use native.Mathlib.Omega.{arith}
-use borrow.Author.Tests.{not-true, not-false}
-use Rattle.table_load.proofs.Reading.{two_to_sixteen_is, answer_13, answer_14, answer_15, answer_0}
+use Rattle.std.proofs.Common.{sym, ◌∙◌, arith}
+use Rattle.std.proofs.lemmas.List.{length-take}
+use Rattle.std.proofs.lemmas.Result.{err_from_is_err_and}
+use Rattle.table_load.proofs.Reading.{two_to_sixteen_is, broken_13, answer_14, answer_15, answer_0}
 use Rattle.table_load.proofs.load.Goals as goal
 
-pub returns-then-not-whole : goal.returns-then-not-whole
-returns-then-not-whole c =
-    let r = c in
-    c.refused.ensures ∙ answer_13 _ r.read_records-whole.ensures.marks (not-true _ c.if-not-whole.true-raw)
+pub returns-in_err-read_records : goal.returns-in_err-read_records
+returns-in_err-read_records c =
+    let p = err_from_is_err_and c.from_residual.result c.from_residual.ensures.1 in
+    let e = c.in_err-read_records.ensures in
+    rw (p.1, p.2, e.1) (broken_13 _ e.0)
 
-pub returns-then-not-counted : goal.returns-then-not-counted
-returns-then-not-counted c =
-    let whole = c in
-    let n = whole in
-    let r = n in
-    c.refused-then-not-counted.ensures
-    ∙ answer_14 _ r.read_records-whole.ensures.marks (not-false _ whole.if-not-whole.false-raw) n.two_to_sixteen-counted.ensures (not-true _ c.if-not-counted.true-raw)
+pub returns-then-not-two_to_sixteen : goal.returns-then-not-two_to_sixteen
+returns-then-not-two_to_sixteen c = answer_14 _ c.in_ok-read_records.ensures.0 c.two_to_sixteen.ensures c.if-not-two_to_sixteen.true
+
+pub slice_bounds-table-end : goal.slice_bounds-table-end
+slice_bounds-table-end c = omega (arith, two_to_sixteen_is _ (sym c.two_to_sixteen.ensures ∙ c.if-not-two_to_sixteen.false))
 
 pub slice_bounds-keeps_rules-end : goal.slice_bounds-keeps_rules-end
 slice_bounds-keeps_rules-end c =
-    let right = c in
-    omega (arith, two_to_sixteen_is _ (sym right.two_to_sixteen-counted.ensures ∙ not-false _ right.if-not-counted.false-raw))
+    let few = two_to_sixteen_is _ (sym c.two_to_sixteen.ensures ∙ c.if-not-two_to_sixteen.false) in
+    simp length-take (omega (arith, few))
 
 pub returns-then-not-keeps_rules : goal.returns-then-not-keeps_rules
 returns-then-not-keeps_rules c =
-    let tested = c in
-    let right = tested in
-    let whole = right in
-    let n = whole in
-    let r = n in
-    let read = not-false _ whole.if-not-whole.false-raw in
-    c.refused-then-not-keeps_rules.ensures
-    ∙ answer_15 _ r.read_records-whole.ensures.marks read n.two_to_sixteen-counted.ensures (not-false _ right.if-not-counted.false-raw) (r.read_records-whole.ensures.rows read)
-    tested.keeps_rules.ensures (not-true _ c.if-not-keeps_rules.true-raw)
+    let r = c.in_ok-read_records.ensures in
+    answer_15 _ r.0 c.two_to_sixteen.ensures c.if-not-two_to_sixteen.false r.1 c.keeps_rules.ensures c.if-not-keeps_rules.true
 
 pub returns : goal.returns
 returns c =
-    let tested = c in
-    let right = tested in
-    let whole = right in
-    let n = whole in
-    let r = n in
-    let read = not-false _ whole.if-not-whole.false-raw in
-    answer_0 _ r.read_records-whole.ensures.marks read n.two_to_sixteen-counted.ensures (not-false _ right.if-not-counted.false-raw) (r.read_records-whole.ensures.rows read)
-    tested.keeps_rules.ensures (not-false _ c.if-not-keeps_rules.false-raw)
+    let r = c.in_ok-read_records.ensures in
+    answer_0 _ r.0 c.two_to_sixteen.ensures c.if-not-two_to_sixteen.false r.1 c.keeps_rules.ensures c.if-not-keeps_rules.false

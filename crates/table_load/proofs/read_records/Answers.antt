@@ -1,57 +1,50 @@
-use mathlib.Core.Path.{refl, ◌∙◌, ap}
-use mathlib.Core.List.{List}
-use Prim.Native.Nat.{ℕ, ◌+◌, ◌-◌, ◌*◌}
-use native.Mathlib.Nat.{sub-zero}
-use native.Mathlib.Omega.{arith}
-use borrow.Author.Tests.{not-true, not-false}
-use lib.Seq.{sets}
-use Rattle.table_load.specs.Loading.{records, words}
-use Rattle.table_load.proofs.Reading.{apart, cut_short, mark_wrong, go_on, all_right, two_more, all_rows}
+use borrow.Author.Tests.{eqb-false}
+use Rattle.std.proofs.Common.{◌≡◌, ◌%◌, ◌<◌, ◌≤◌, length, sym, ◌∙◌, rules, arith}
+use Rattle.std.proofs.lemmas.Result.{err_from_is_err_and}
+use Rattle.table_load.specs.Loading.{records}
+use Rattle.table_load.proofs.Reading.{whole, cut_short, mark_read, count_read, value_read, mark_wrong, go_on, two_more, all_right, all_rows}
 use Rattle.table_load.proofs.read_records.Goals as goal
 
-pub returns-then-text-ne0 : goal.returns-then-text-ne0
-returns-then-text-ne0 c = record { marks = cut_short _ c.if-text-ne0.true; rows = λ e. absurd (apart e) }
+pub returns-then-not-is_empty : goal.returns-then-not-is_empty
+returns-then-not-is_empty c =
+    let some = eqb-false _ _ (sym c.is_empty.ensures ∙ c.if-not-is_empty.true) in
+    (cut_short _ (λ z. some (c.as_chunks.ensures.back_len ∙ z)), search rules)
 
 pub loop-k-init : goal.loop-k-init
-loop-k-init c = (omega arith, rw sub-zero, rw sub-zero, refl)
+loop-k-init c = record { marks_left = search rules; rows_left = search rules }
 
-pub read_record-requires : goal.read_record-requires
-read_record-requires c = omega arith
-
-pub returns-then-not-read_record : goal.returns-then-not-read_record
-returns-then-not-read_record c =
-    let r = c in
-    let l = r in record {
-      marks = mark_wrong l.args.text.now l.if-text-ne0.false l.loop-k.k l.loop-k.invariant.1
-          r.loop-k-test.true r.read_record.ensures.mark (not-true _ c.if-not-read_record.true-raw);
-      rows = λ e. absurd (apart e);
-    }
-
-pub overflow_add-k : goal.overflow_add-k
-overflow_add-k c = omega arith
-
-pub loop-k-smaller : goal.loop-k-smaller
-loop-k-smaller c = omega arith
+pub returns-in_err-r : goal.returns-in_err-r
+returns-in_err-r c =
+    let p = err_from_is_err_and c.from_residual.result c.from_residual.ensures.1 in
+    let t = c.args.text.now in
+    let all : length t % 6 ≡ 0 = whole t c.is_empty.ensures c.if-not-is_empty.false c.as_chunks.ensures.back_len in
+    let left : c.loop-k.k < records t = omega (arith, c.as_chunks.ensures.front_len) in
+    let read = c.in_err-r.ensures in
+    rw (p.1, p.2) (
+      mark_wrong t all c.loop-k.k c.loop-k.invariant.marks_left left
+          (sym (mark_read t c.loop-k.k left c.as_chunks.ensures.front) ∙ read.0),
+      read.1,
+    )
 
 pub loop-k-preserved : goal.loop-k-preserved
 loop-k-preserved c =
-    let r = c in
-    let l = r in
-    let t = l.args.text.now in
-    let b = r.read_record.ensures in
-    let less = r.loop-k-test.true in
-    let right = not-false _ c.if-not-read_record.false-raw in (
-      omega arith,
-      go_on t l.if-text-ne0.false l.loop-k.k l.loop-k.invariant.1 less b.mark right,
-      ap (λ (x : List ℕ). sets x (2 * (l.loop-k.k + 1)) (words (records t - (l.loop-k.k + 1)) (l.loop-k.k + 1) t)) (b.row right)
-          ∙ two_more t (records t) l.loop-k.k less l.loop-k.table ∙ l.loop-k.invariant.2,
-      omega arith,
-    )
-
-pub shape_of-table : goal.shape_of-table
-shape_of-table c = c.loop-k.invariant.3
+    let t = c.args.text.now in
+    let k = c.loop-k.k in
+    let all : length t % 6 ≡ 0 = whole t c.is_empty.ensures c.if-not-is_empty.false c.as_chunks.ensures.back_len in
+    let left : k < records t = omega (arith, c.as_chunks.ensures.front_len) in
+    let cut = c.as_chunks.ensures.front in
+    let read = c.in_ok-r.ensures in
+    record {
+      marks_left = go_on t all k c.loop-k.invariant.marks_left left (sym (mark_read t k left cut) ∙ read.0);
+      rows_left = rw (c.put_word-in-loop-k.ensures, c.put_word.ensures, read.1, read.2, count_read t k left cut, value_read t k left cut)
+          (two_more t (records t) k left c.loop-k.table ∙ c.loop-k.invariant.rows_left);
+    }
 
 pub returns : goal.returns
 returns c =
-    let l = c in
-    let t = l.args.text.now in record { marks = all_right t l.if-text-ne0.false l.loop-k.k l.loop-k.invariant.1 c.loop-k-test.false; rows = λ e. all_rows t (records t) l.loop-k.k l.loop-k.table l.args.table.now c.loop-k-test.false l.loop-k.invariant.2 }
+    let t = c.args.text.now in
+    let all : length t % 6 ≡ 0 = whole t c.is_empty.ensures c.if-not-is_empty.false c.as_chunks.ensures.back_len in
+    let done : records t ≤ c.loop-k.k = omega (arith, c.as_chunks.ensures.front_len) in (
+      all_right t all c.loop-k.k c.loop-k.invariant.marks_left done,
+      all_rows t (records t) c.loop-k.k c.loop-k.table c.args.table.now done c.loop-k.invariant.rows_left,
+    )

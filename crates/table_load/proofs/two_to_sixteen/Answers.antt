@@ -1,8 +1,7 @@
-use Rattle.table_load.proofs.Reading.{few, at_least_two}
+use Rattle.std.proofs.Common.{rules}
+use Rattle.table_load.specs.Loading.{two_to_sixteen}
 use Rattle.table_load.proofs.two_to_sixteen.Goals as goal
 
-pub returns-then-n-lt2 : goal.returns-then-n-lt2
-returns-then-n-lt2 c = few c.args.n c.if-n-lt2.true
-
 pub returns : goal.returns
-returns c = at_least_two c.args.n c.if-n-lt2.false
+unfolding two_to_sixteen
+returns c = search rules

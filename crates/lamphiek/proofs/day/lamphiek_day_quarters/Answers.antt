@@ -1,16 +1,14 @@
-use mathlib.Core.Path.{ap, ◌∙◌}
-use Rattle.calendars.specs.declared.answers.Counted.{Counted}
-use Rattle.lamphiek.specs.Hours.{counted_told, quarters_left}
+use Rattle.std.proofs.Common.{refl, ap, ◌∙◌}
+use Rattle.calendars.specs.Answers.{Counted}
+use Rattle.calendars.proofs.Refusals.{has_number}
+use Rattle.lamphiek.specs.Hours.{quarters_left}
 use Rattle.lamphiek.proofs.Told.{not_written, is_written}
 use Rattle.lamphiek.proofs.day.lamphiek_day_quarters.Goals as goal
 
-pub returns-then-found-ne0 : goal.returns-then-found-ne0
-returns-then-found-ne0 c =
-    let l = c in
-    let old = l.args.quarters.now in record { answer = ap counted_told l.counted-found.ensures; quarters = not_written l.counted-found.result.number _ old c.if-found-ne0.true ∙ ap (λ (a : Counted). quarters_left a old) l.counted-found.ensures }
+pub returns-in-Ok-clause-quarters : goal.returns-in-Ok-clause-quarters
+returns-in-Ok-clause-quarters c =
+    let old = c.args.quarters.now in is_written 0 _ old refl ∙ ap (λ (a : Counted). quarters_left a old) c.in-Ok.ensures
 
-pub returns : goal.returns
-returns c =
-    let e = c in
-    let l = e in
-    let old = l.args.quarters.now in record { answer = ap counted_told l.counted-found.ensures; quarters = is_written l.counted-found.result.number _ old e.if-found-ne0.false ∙ ap (λ (a : Counted). quarters_left a old) l.counted-found.ensures }
+pub returns-in-Err-clause-quarters : goal.returns-in-Err-clause-quarters
+returns-in-Err-clause-quarters c =
+    let old = c.args.quarters.now in not_written _ _ old (has_number _) ∙ ap (λ (a : Counted). quarters_left a old) c.in-Err.ensures
