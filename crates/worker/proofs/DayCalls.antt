@@ -89,17 +89,17 @@ there_in_day T f o x i a b n pl =
 
 -- the walk's places there
 walked_there : (T : List ℕ) (f : ℕ → Bool) (o x : ℕ) (y : Stand)
-    → (pl : DayPlace T f o x y.at.gate y.at.a y.b y.at.deals) → DayStandIs T o y
-    → let w = there_in_day T f o x y.at.gate y.at.a y.b y.at.deals pl in
-    y.walked ≡ stored_at (w.0 ∷ w.1) (cursor o x y.at.a y.b y.at.deals)
+    → (pl : DayPlace T f o x y.at.gate y.at.used.a y.at.used.b y.at.used.deals) → DayStandIs T o y
+    → let w = there_in_day T f o x y.at.gate y.at.used.a y.at.used.b y.at.used.deals pl in
+    y.walked ≡ stored_at (w.0 ∷ w.1) (cursor o x y.at.used.a y.at.used.b y.at.used.deals)
 walked_there T f o x y pl is =
-    let w = there_in_day T f o x y.at.gate y.at.a y.b y.at.deals pl in
+    let w = there_in_day T f o x y.at.gate y.at.used.a y.at.used.b y.at.used.deals pl in
     let g = pl.standing.held in
     let there : fetched (program 32 (rows T) (own_order o)) y.at.gate ≡ At g =
     ap (λ (q : Order). fetched (program 32 (rows T) q) y.at.gate) (sym (own_at o)) ∙ pl.standing.there in
     is.places
     ∙ sym (with_own w.0 w.1 (used_at (step_of 32 y.gate))
-    (ap used_at (is.fetches g there) ∙ w.4) w.3 o x y.at.a y.b y.at.deals)
+    (ap used_at (is.fetches g there) ∙ w.4) w.3 o x y.at.used.a y.at.used.b y.at.used.deals)
 
 -- ---- what is lent has passed its checks
 
@@ -220,11 +220,11 @@ module _ (h : ℕ) (T S : List ℕ) (H : Hours) (M D : List ℕ) (n : ℕ) (e : 
         hear_nowhere q = turned 8 0 (at_nowhere h σ M D n 0 e larger v z (ap (λ (ss : List Step). seek s.order s.turn ss origin) (sym steps_are) ∙ q))
 
         -- at a product or refresh, where the code stands
-        module _ (y : Stand) (pl : DayPlace T f s.order s.turn y.at.gate y.at.a y.b y.at.deals)
+        module _ (y : Stand) (pl : DayPlace T f s.order s.turn y.at.gate y.at.used.a y.at.used.b y.at.used.deals)
             (is : DayStandIs T s.order y) where
           found_there : seek s.order s.turn (day_steps 32 T (counting H)) origin
               ≡ found (steps_from 32 (length (front (day_factor f) s.order) + y.at.gate) (drop s.order (day_gates 32 f (rows T))))
-              (cursor s.order s.turn y.at.a y.b y.at.deals)
+              (cursor s.order s.turn y.at.used.a y.at.used.b y.at.used.deals)
           found_there = ap (λ (ss : List Step). seek s.order s.turn ss origin) (sym steps_are) ∙ pl.is
 
           pub hear_unequal : (r : Bool) → r ≡ same_places s.stored y.walked → not r ≡ true

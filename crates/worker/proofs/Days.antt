@@ -22,7 +22,7 @@ use Rattle.gates.specs.Costs.{Cost}
 use Rattle.programs.specs.declared.Order.{Order}
 use Rattle.programs.specs.Orders.{program}
 use Rattle.programs.specs.Costs.{program_cost}
-use Rattle.programs.specs.Seek.{gate_place, sought}
+use Rattle.programs.specs.Seek.{sought}
 use Rattle.programs.specs.declared.GatePlace.{GatePlace}
 use Rattle.programs.proofs.Sizes.{few_gates}
 use Rattle.jobs.specs.Job.{order_at, job_gates}
@@ -147,16 +147,16 @@ module _ (T : List ℕ) (f : ℕ → Bool) (o x : ℕ) (in_day : o ≤ 96) (g : 
 
 -- by the code's own numbers
 pub place_at : (T : List ℕ) (f : ℕ → Bool) (o x i a b n : ℕ) → DayPlace T f o x i a b n → (ord : Order) (z : Stand)
-    → StandIs 32 (rows T) ord i a b n z → DayPlace T f o x z.at.gate z.at.a z.b z.at.deals
+    → StandIs 32 (rows T) ord i a b n z → DayPlace T f o x z.at.gate z.at.used.a z.at.used.b z.at.used.deals
 place_at T f o x i a b n p ord z S = rw (S.gate, S.a_used, S.b_used, S.deals_used) p
 
 -- and what the gate there is, where the code has the order alone
 pub stands_in : (T : List ℕ) (f : ℕ → Bool) (o x i a b n : ℕ) → DayPlace T f o x i a b n → (J : List ℕ) → J ≡ order_words o
     → (ord : Order) → ord ≡ order_at J 0 → (z : Stand) → StandIs 32 (rows T) ord i a b n z
-    → DayPlace T f o x z.at.gate z.at.a z.b z.at.deals × DayStandIs T o z
+    → DayPlace T f o x z.at.gate z.at.used.a z.at.used.b z.at.used.deals × DayStandIs T o z
 stands_in T f o x i a b n p J eJ ord eo z S = (
   place_at T f o x i a b n p ord z S,
-  subst (λ (q : Order). StandIs 32 (rows T) q z.at.gate z.at.a z.b z.at.deals z)
+  subst (λ (q : Order). StandIs 32 (rows T) q z.at.gate z.at.used.a z.at.used.b z.at.used.deals z)
       (eo ∙ ap (λ (j : List ℕ). order_at j 0) eJ ∙ own_at o) (stands_own 32 T ord i a b n z S),
 )
 

@@ -1,6 +1,6 @@
 -- A state's place in its job, as the code finds it: which gate stands there, and what is used before it. Assumes nothing.
 use mathlib.Core.Path.{◌≡◌, refl, sym, ap, subst, ◌∙◌}
-use mathlib.Core.Bool.{Bool, true, false, not, cond}
+use mathlib.Core.Bool.{Bool, true, false, not}
 use mathlib.Core.List.{List, [], ◌∷◌}
 use Prim.Native.Nat.{ℕ, ◌+◌, ◌*◌, ◌/◌, ◌^◌, ◌≤◌, ◌<◌}
 use native.Mathlib.Omega.{arith}
@@ -18,7 +18,7 @@ use Rattle.programs.specs.Orders.{program}
 use Rattle.gates.specs.Codes.{At, fetched, step_of}
 use Rattle.gates.proofs.Uses.{few_used}
 use Rattle.programs.specs.declared.GatePlace.{GatePlace}
-use Rattle.programs.specs.Seek.{gate_place, sought}
+use Rattle.programs.specs.Seek.{sought}
 use Rattle.jobs.specs.Job.{Fault, job_fault, job_gates, job_cost, order_at, steps_of}
 use Rattle.calls.specs.Scripts.{job_script}
 use Rattle.calls.specs.Lent.{lent_fault, lent, passed}
@@ -64,7 +64,7 @@ module _ (u v w : Stored) (e : v ≡ w) where
 
 -- by the code's own numbers
 pub stands_own : (w : ℕ) (table : List ℕ) (ord : Order) (i a b dealt : ℕ) (z : Stand) → StandIs w (rows table) ord i a b dealt z
-    → StandIs w (rows table) ord z.at.gate z.at.a z.b z.at.deals z
+    → StandIs w (rows table) ord z.at.gate z.at.used.a z.at.used.b z.at.used.deals z
 stands_own w table ord i a b n z S =
     record {
       gate = refl;
@@ -76,7 +76,7 @@ stands_own w table ord i a b n z S =
     }
 
 pub there_at : (w : ℕ) (job table : List ℕ) (o x i a b dealt : ℕ) → There w job table o x i a b dealt → (ord : Order) (z : Stand)
-    → StandIs w (rows table) ord i a b dealt z → There w job table o x z.at.gate z.at.a z.b z.at.deals
+    → StandIs w (rows table) ord i a b dealt z → There w job table o x z.at.gate z.at.used.a z.at.used.b z.at.used.deals
 there_at w job table o x i a b n h ord z S = rw (S.gate, S.a_used, S.b_used, S.deals_used) h
 
 module _ (w : ℕ) (job table : List ℕ) where
@@ -141,11 +141,11 @@ module _ (w : ℕ) (job table : List ℕ) where
       pub stands_by : Sized w job table → (g : GatePlace) → f ≡ Some g
           → (u : Cost) → u ≡ passed n (job_cost w (take (o * 4) job) table)
           → (r : Stand) → StandIs w (rows table) ord g.gate (u.a + g.a) (u.b + x) (u.deals + g.deals) r
-          → There w job table o x r.at.gate r.at.a r.b r.at.deals
-          × StandIs w (rows table) (order_at job o) r.at.gate r.at.a r.b r.at.deals r
+          → There w job table o x r.at.gate r.at.used.a r.at.used.b r.at.used.deals
+          × StandIs w (rows table) (order_at job o) r.at.gate r.at.used.a r.at.used.b r.at.used.deals r
       stands_by Z g p u eu r S = (
         there_at w job table o x _ _ _ _ (found_there Z g p u eu) ord r S,
-        subst (λ (q : Order). StandIs w (rows table) q r.at.gate r.at.a r.b r.at.deals r) eo (stands_own w table ord _ _ _ _ r S),
+        subst (λ (q : Order). StandIs w (rows table) q r.at.gate r.at.used.a r.at.used.b r.at.used.deals r) eo (stands_own w table ord _ _ _ _ r S),
       )
 
     -- past the last order all of the job is counted

@@ -1,7 +1,7 @@
 -- What the code of a day goes by: what it is lent is checked, and a state's place is found. Assumes nothing.
 use Rattle.std.specs.Prelude.{◌≡◌, Bool, true, cond, List, ℕ, ◌+◌, ◌^◌, ◌≤◌, ◌<◌, length, drop, Option, None}
 use Rattle.tables.specs.Table.{Rules, rows}
-use Rattle.gates.specs.Steps.{origin}
+use Rattle.gates.specs.Steps.{Cursor, origin}
 use Rattle.gates.specs.Costs.{Cost}
 use Rattle.jobs.specs.CostTable.{curve_cost}
 use Rattle.calls.specs.Places.{found, seek}
@@ -15,6 +15,9 @@ use Rattle.programs.specs.Orders.{program}
 use Rattle.programs.specs.Seek.{sought}
 use Rattle.days.specs.Orders.{own_order, is_run, order_words, front}
 use Rattle.worker.specs.declared.place.Stand.{Stand}
+use Rattle.worker.specs.declared.day_place.Daily.{Daily}
+use Rattle.calendars.specs.Quarters.{held}
+use Rattle.jobs.specs.Counts.{counted}
 use Rattle.worker.specs.Jobs.{Standing, StandIs}
 
 -- few enough that a day of them fits
@@ -24,6 +27,10 @@ few_counts k = (k.deals ≤ 1000) × (k.words ≤ 1000) × (k.a ≤ 1000) × (k.
 -- what the orders before q use, where f tells which quarters count
 unfoldable pub used_until : (f : ℕ → Bool) → Cost → (q : ℕ) → Cost
 used_until f k q = times_cost (number f 0 q) k
+
+-- before the first gate of an order of a day, with so much used
+abbrev pub cost_to : (order : ℕ) → Cost → Cursor
+cost_to o k = cursor o 0 k.a k.b k.deals
 
 -- where an order of a day has its x-th product or refresh, among the gates of the code's own order; one that is not run
 -- has none
@@ -58,4 +65,14 @@ pub record DayPlace (table : List ℕ) (f : ℕ → Bool) (o x i a b dealt : ℕ
 -- the code's gate there, of its own order, and the walk's places
 abbrev pub DayStandIs : (table : List ℕ) (o : ℕ) → Stand → Type 0
 DayStandIs table o s =
-    StandIs 32 (rows table) (own_order o) s.at.gate s.at.a s.b s.at.deals s
+    StandIs 32 (rows table) (own_order o) s.at.gate s.at.used.a s.at.used.b s.at.used.deals s
+
+-- of a day as the code has it
+
+abbrev pub Accepted : Daily → Type 0
+Accepted d = DayLent d.table.now d.shares.now (counted d.day.curve) (held d.day.quarters) d.day.n
+
+abbrev pub StandsIn : Daily → (order turn : ℕ) → Stand → Type 0
+StandsIn d o x s =
+    DayPlace d.table.now (held d.day.quarters) o x s.at.gate s.at.used.a s.at.used.b s.at.used.deals
+    × DayStandIs d.table.now o s

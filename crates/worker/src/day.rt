@@ -7,131 +7,112 @@ ghost use Rattle.gates.specs.Steps.{origin};
 ghost use Rattle.jobs.specs.Counts.{counted};
 ghost use Rattle.calls.specs.declared.Stored.{Stored};
 ghost use Rattle.calls.specs.Calls as Calls;
-ghost use Rattle.calls.specs.Lent.{lent, lent_fault, worker_with};
+ghost use Rattle.calls.specs.Lent.{lent, lent_fault};
 ghost use Rattle.calls.specs.Places.{seek};
-ghost use Rattle.walks.specs.Workers.{cursor};
+ghost use Rattle.worker_gate.specs.Workers.{worker};
 ghost use Rattle.walks.specs.Halts.{reported};
 ghost use Rattle.calendars.specs.Quarters.{held};
-ghost use Rattle.days.specs.Day.{hours, day_gates, day_steps, day_script};
+ghost use Rattle.days.specs.Day.{Hours, hours, day_gates, day_steps, day_script};
 ghost use Rattle.days.specs.DayCalls.{day_start, day_hear};
 ghost use Rattle.days.specs.Orders.{is_run, within, first_tail, second_tail};
 ghost use Rattle.worker.specs.Answers.{answer_of, state_of, state_with, halt_on};
-ghost use Rattle.worker.specs.Days.{DayLent, DayPlace, DayStandIs, SameDay, used_until};
+ghost use Rattle.day_order.specs.Long.{Long};
+ghost use Rattle.worker.specs.Days.{Accepted, SameDay, StandsIn, cost_to, used_until};
 
 use crate::answering::{answered, first_state, refused};
-use crate::day_place::{place_in, used_before};
+use crate::day_place::{Daily, place_in, used_before};
 use crate::hearing::resume;
 use crate::place::{Stand, are_same, end_fault, stand_at};
-use crate::walk::{Halt, advance, halted};
+use crate::walk::{Halt, Job, Place, Reach, advance, halted};
 use crate::{Answer, State};
 use calendars::next_counted;
 use call_check::{Day, check_day_lent};
 use calls::Stored;
 use day_order::{QUARTERS, SHARE_SLOT, enter, leave, order_words, take_share};
+use gates::{Lanes, Used};
 use job_order::order_at;
 use word_lists::{at, put};
-use worker_gate::Reach;
+use worker_gate::Worker;
 
 // From the first gate of an order to its first product, on the lanes in place.
-fn begin(
-    host: u32,
-    table: &[u32],
-    shares: &[u32],
-    masks: &[u32],
-    deals: &[u32],
-    m: &mut [u32; 24],
-    mask: &mut [u32; 24],
-    order: u32,
-    day: Day,
-) -> Halt
-    requires { DayLent table.now shares.now (counted day.curve) (held day.quarters) day.n
-        × (order ≤ 96) × (is_run (held day.quarters) order ≡ true)
-        × (length m.old ≡ 24) × (length mask.old ≡ 24) }
-    ensures long { (length m.new ≡ 24) × (length mask.new ≡ 24) }
+fn begin(host: &Worker<'_>, daily: Daily<'_>, order: u32, lanes: &mut Lanes) -> Halt
+    requires { Accepted daily × (order ≤ 96) × (is_run (held daily.day.quarters) order ≡ true) × Long lanes.old }
+    ensures long { Long lanes.new }
     ensures halt { (k l : ℕ)
-        → halt_on result (within k (first_tail shares.now) m.new)
-        (within l (second_tail shares.now) mask.new)
-        ≡ reported (worker_with host masks.now deals.now)
-        (job_steps 32 (drop order (day_gates 32 (held day.quarters) (rows table.now))))
-        (cursor order 0 (used_until (held day.quarters) (counted day.curve) order).a
-        (used_until (held day.quarters) (counted day.curve) order).b
-        (used_until (held day.quarters) (counted day.curve) order).deals) (
-          within k (first_tail shares.now) m.old,
-          within l (second_tail shares.now) mask.old,
+        → halt_on result (within k (first_tail daily.entry.shares.now) lanes.new.first)
+        (within l (second_tail daily.entry.shares.now) lanes.new.second)
+        ≡ reported (worker host.now)
+        (job_steps 32 (drop order (day_gates 32 (held daily.entry.day.quarters) (rows daily.entry.table.now))))
+        (cost_to order (used_until (held daily.entry.day.quarters) (counted daily.entry.day.curve) order)) (
+          within k (first_tail daily.entry.shares.now) lanes.old.first,
+          within l (second_tail daily.entry.shares.now) lanes.old.second,
         ) }
 {
-    take_share(shares, order, m, mask);
-    enter(order, day.n, m, mask);
+    let day = daily.day;
+    take_share(daily.shares, order, lanes);
+    enter(order, day.n, lanes);
     let used = used_before(day, order);
     let from = Reach {
         gate: 0,
-        a: used.a as usize,
-        deals: used.deals as usize,
+        used: Used {
+            a: used.a as usize,
+            b: used.b as usize,
+            deals: used.deals as usize,
+        },
     };
-    let job = order_words(order);
-    let h = advance(
-        host,
-        &job,
-        table,
-        masks,
-        deals,
-        m,
-        mask,
-        0,
-        0,
-        from,
-        used.b as usize,
-    );
+    let words = order_words(order);
+    let job = Job {
+        orders: &words,
+        table: daily.table,
+    };
+    let h = advance(host, job, Place { order: 0, turn: 0 }, from, lanes);
     let stored = h.stored;
     halted(h.word, order, h.turn, stored)
 }
 
 // The other's word is heard at a product of an order. Where the order ends behind it, the next one that is run begins.
 fn go_on(
-    host: u32,
-    table: &[u32],
-    shares: &[u32],
-    masks: &[u32],
-    deals: &[u32],
-    m: &mut [u32; 24],
-    mask: &mut [u32; 24],
-    order: u32,
-    turn: u32,
+    host: &Worker<'_>,
+    daily: Daily<'_>,
+    place: Place,
     heard: u32,
     stand: Stand,
-    day: Day,
+    lanes: &mut Lanes,
 ) -> Halt
-    requires { DayLent table.now shares.now (counted day.curve) (held day.quarters) day.n
-        × DayPlace table.now (held day.quarters) order turn stand.at.gate stand.at.a stand.b
-        stand.at.deals
-        × DayStandIs table.now order stand
-        × (length m.old ≡ 24) × (length mask.old ≡ 24) }
-    ensures long { (length m.new ≡ 24) × (length mask.new ≡ 24) }
+    requires { Accepted daily × StandsIn daily place.order place.turn stand × Long lanes.old }
+    ensures long { Long lanes.new }
     ensures halt { (k l : ℕ) (u : Stored)
-        → halt_on result (within k (first_tail shares.now) m.new)
-        (within l (second_tail shares.now) mask.new)
-        ≡ Calls.report (worker_with host masks.now deals.now)
-        (Calls.hear_walk (worker_with host masks.now deals.now)
-        (state_with (within k (first_tail shares.now) m.old)
-        (within l (second_tail shares.now) mask.old) order turn u) heard
-        (seek order turn (day_steps 32 table.now (held day.quarters)) origin)) }
+        → halt_on result (within k (first_tail daily.entry.shares.now) lanes.new.first)
+        (within l (second_tail daily.entry.shares.now) lanes.new.second)
+        ≡ Calls.report (worker host.now)
+        (Calls.hear_walk (worker host.now)
+        (state_with (within k (first_tail daily.entry.shares.now) lanes.old.first)
+        (within l (second_tail daily.entry.shares.now) lanes.old.second) place.order place.turn u) heard
+        (seek place.order place.turn (day_steps 32 daily.entry.table.now (held daily.entry.day.quarters)) origin)) }
 {
-    take_share(shares, order, m, mask);
-    let job = order_words(order);
-    let h = resume(
-        host, &job, table, masks, deals, m, mask, 0, turn, heard, stand,
-    );
+    let order = place.order;
+    take_share(daily.shares, order, lanes);
+    let words = order_words(order);
+    let job = Job {
+        orders: &words,
+        table: daily.table,
+    };
+    let there = Place {
+        order: 0,
+        turn: place.turn,
+    };
+    let h = resume(host, job, there, heard, stand, lanes);
     let stored = h.stored;
     if h.order == 0 {
         return halted(h.word, order, h.turn, stored);
     }
-    leave(order, m, mask);
+    leave(order, lanes);
     if order == QUARTERS {
         return halted(0, order + 1, 0, stored);
     }
-    let quarters = day.quarters;
+    let quarters = daily.day.quarters;
     let next = next_counted(quarters, order + 1);
-    begin(host, table, shares, masks, deals, m, mask, next, day)
+    begin(host, daily, next, lanes)
 }
 
 // Checks 1, 12, 16, 17, 5, 6 and 7 come first, and a refusal gives a state of zeros.
@@ -148,21 +129,22 @@ pub fn start_day(
         ≡ day_start 32 host table.now shares.now (hours calendar.now weekday)
         masks.now deals.now }
 {
-    let mut m = [0u32; 24];
-    let mut mask = [0u32; 24];
+    let mut lanes = Lanes {
+        first: [0u32; 24],
+        second: [0u32; 24],
+    };
     let lent = check_day_lent(host, table, shares, calendar, weekday, masks, deals);
     if lent.number != 0 {
-        return refused(lent.number, 0, first_state(m, mask));
+        return refused(lent.number, 0, first_state(lanes.first, lanes.second));
     }
     let day = lent.day;
     let quarters = day.quarters;
     let first = next_counted(quarters, 0);
-    let h = begin(
-        host, table, shares, masks, deals, &mut m, &mut mask, first, day,
-    );
-    put(&mut m, SHARE_SLOT, 0);
-    put(&mut mask, SHARE_SLOT, 0);
-    answered(h, m, mask)
+    let host = Worker { host, masks, deals };
+    let h = begin(&host, Daily { table, shares, day }, first, &mut lanes);
+    put(&mut lanes.first, SHARE_SLOT, 0);
+    put(&mut lanes.second, SHARE_SLOT, 0);
+    answered(h, lanes.first, lanes.second)
 }
 
 fn state(m: [u32; 24], mask: [u32; 24], order: u32, turn: u32, stored: Stored) -> State
@@ -178,45 +160,33 @@ fn state(m: [u32; 24], mask: [u32; 24], order: u32, turn: u32, stored: Stored) -
 }
 
 // From the product or refresh where a state stands; the word that stood in the share's slot is put back.
-fn hear_there(
-    host: u32,
-    table: &[u32],
-    shares: &[u32],
-    calendar: &[u32],
-    weekday: u32,
-    masks: &[u32],
-    deals: &[u32],
-    m: [u32; 24],
-    mask: [u32; 24],
-    order: u32,
-    turn: u32,
-    heard: u32,
-    stand: Stand,
-    day: Day,
-) -> Answer
-    requires { DayLent table.now shares.now (counted day.curve) (held day.quarters) day.n
-        × DayPlace table.now (held day.quarters) order turn stand.at.gate stand.at.a stand.b
-        stand.at.deals
-        × DayStandIs table.now order stand
-        × SameDay (held day.quarters) (hours calendar.now weekday)
-        × ((0, 0)
+fn hear_there(host: &Worker<'_>, daily: Daily<'_>, s: State, heard: u32, stand: Stand) -> Answer
+    requires { Accepted daily × StandsIn daily s.order s.turn stand }
+    ensures { (H : Hours) → SameDay (held daily.entry.day.quarters) H
+        → ((0, 0)
         ≡ lent_fault
-        (lent host (day_script 32 table.now (length shares.now) (hours calendar.now weekday)) masks.now
-        deals.now)) }
-    ensures { answer_of result
-        ≡ day_hear 32 host table.now shares.now (hours calendar.now weekday)
-        masks.now deals.now (state_with m mask order turn stand.walked) heard }
+        (lent host.now.host (day_script 32 daily.entry.table.now (length daily.entry.shares.now) H)
+        host.now.masks.now host.now.deals.now))
+        → answer_of result
+        ≡ day_hear 32 host.now.host daily.entry.table.now daily.entry.shares.now H
+        host.now.masks.now host.now.deals.now (state_with s.m s.mask s.order s.turn stand.walked) heard }
 {
-    let mut m = m;
-    let mut mask = mask;
-    let first = at(&m, SHARE_SLOT);
-    let second = at(&mask, SHARE_SLOT);
-    let h = go_on(
-        host, table, shares, masks, deals, &mut m, &mut mask, order, turn, heard, stand, day,
-    );
-    put(&mut m, SHARE_SLOT, first);
-    put(&mut mask, SHARE_SLOT, second);
-    answered(h, m, mask)
+    let m = s.m;
+    let mask = s.mask;
+    let mut lanes = Lanes {
+        first: m,
+        second: mask,
+    };
+    let first = at(&lanes.first, SHARE_SLOT);
+    let second = at(&lanes.second, SHARE_SLOT);
+    let place = Place {
+        order: s.order,
+        turn: s.turn,
+    };
+    let h = go_on(host, daily, place, heard, stand, &mut lanes);
+    put(&mut lanes.first, SHARE_SLOT, first);
+    put(&mut lanes.second, SHARE_SLOT, second);
+    answered(h, lanes.first, lanes.second)
 }
 
 // Hearing, by the parts of a state.
@@ -257,10 +227,20 @@ fn hear_parts(
     if !are_same(stored, stand.walked) {
         return refused(18, 0, state(m, mask, order, turn, stored));
     }
-    hear_there(
-        host, table, shares, calendar, weekday, masks, deals, m, mask, order, turn, heard, stand,
-        lent.day,
-    )
+    let host = Worker { host, masks, deals };
+    let daily = Daily {
+        table,
+        shares,
+        day: lent.day,
+    };
+    let s = State {
+        m,
+        mask,
+        order,
+        turn,
+        stored,
+    };
+    hear_there(&host, daily, s, heard, stand)
 }
 
 impl State {

@@ -13,6 +13,14 @@ use jobs::Counts;
 use program_seek::seek;
 use programs::GatePlace;
 
+// A day that was accepted: its table and its day list, and what the check found of it.
+#[derive(Clone, Copy)]
+pub(crate) struct Daily<'a> {
+    pub table: &'a [u32],
+    pub shares: &'a [u32],
+    pub day: Day,
+}
+
 // What n quarters use, each of them a curve.
 fn used_by(curve: Counts, n: u32) -> Counts
     requires { few_counts (counted curve) × (n ≤ 96) }

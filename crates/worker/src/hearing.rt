@@ -8,67 +8,53 @@ ghost use Rattle.calls.specs.Calls as Calls;
 ghost use Rattle.calls.specs.Scripts.{job_script};
 ghost use Rattle.calls.specs.Lent.{lent, worker_with};
 ghost use Rattle.worker.specs.Answers.{answer_of, state_of, state_with, halt_on};
-ghost use Rattle.walks.specs.Workers.{cursor};
+ghost use Rattle.worker_gate.specs.Workers.{worker, used_to};
 ghost use Rattle.walks.specs.Halts.{steps_from};
-ghost use Rattle.worker.specs.Jobs.{Sized, Standing, StandIs};
+ghost use Rattle.worker.specs.Jobs.{Accepted, StandsIn};
 
 use crate::answering::{answered, refused};
 use crate::place::{Stand, are_same, end_fault, stand_at};
-use crate::walk::{Halt, advance};
+use crate::walk::{Halt, Job, Place, Reach, advance};
 use crate::{Answer, State};
 use call_check::check_lent;
+use gates::{Lanes, Used};
 use job_order::order_at;
 use program_seek::seek;
-use worker_gate::{Reach, meet};
+use worker_gate::Worker;
 
 // The other's word is heard at the product or refresh where the state stands; the walk goes on from the walk's places
 // there.
 pub(crate) fn resume(
-    host: u32,
-    job: &[u32],
-    table: &[u32],
-    masks: &[u32],
-    deals: &[u32],
-    m: &mut [u32; 24],
-    mask: &mut [u32; 24],
-    order: u32,
-    turn: u32,
+    host: &Worker<'_>,
+    job: Job<'_>,
+    place: Place,
     heard: u32,
     stand: Stand,
+    lanes: &mut Lanes,
 ) -> Halt
-    requires { Sized 32 job.now table.now × Standing 32 job.now table.now order stand.at.gate
-        × StandIs 32 (rows table.now) (order_at job.now order) stand.at.gate stand.at.a stand.b
-        stand.at.deals stand
-        × (stand.at.gate < 1000) × (turn < 1000)
-        × (stand.at.a < 2 ^ 30) × (stand.at.deals < 2 ^ 30) × (stand.b < 2 ^ 30) }
-    ensures { (u : Stored) → halt_on result m.new mask.new
-        ≡ Calls.report (worker_with host masks.now deals.now)
-        (Calls.hear_walk (worker_with host masks.now deals.now)
-        (state_with m.old mask.old order turn u) heard
-        (found (steps_from 32 stand.at.gate (drop order (job_gates 32 job.now table.now)))
-        (cursor order turn stand.at.a stand.b stand.at.deals))) }
+    requires { Accepted job × StandsIn job place.order place.turn stand }
+    ensures { (u : Stored) → halt_on result lanes.new.first lanes.new.second
+        ≡ Calls.report (worker host.now)
+        (Calls.hear_walk (worker host.now)
+        (state_with lanes.old.first lanes.old.second place.order place.turn u) heard
+        (found (steps_from 32 stand.at.gate (drop place.order (job_gates 32 job.entry.orders.now job.entry.table.now)))
+        (used_to place.order place.turn stand.at.used))) }
 {
-    let at = stand.at;
     let stored = stand.walked;
-    meet(host, stand.gate, masks, deals, at, stand.b, heard, m, mask);
-    let next = Reach {
-        gate: at.gate + 1,
-        a: stored.a as usize,
-        deals: stored.deals as usize,
+    host.meet(stand.gate, stand.at.used, heard, lanes);
+    let next = Place {
+        order: place.order,
+        turn: place.turn + 1,
     };
-    advance(
-        host,
-        job,
-        table,
-        masks,
-        deals,
-        m,
-        mask,
-        order,
-        turn + 1,
-        next,
-        stand.b + 1,
-    )
+    let from = Reach {
+        gate: stand.at.gate + 1,
+        used: Used {
+            a: stored.a as usize,
+            b: stand.at.used.b + 1,
+            deals: stored.deals as usize,
+        },
+    };
+    advance(host, job, next, from, lanes)
 }
 
 impl State {
@@ -106,11 +92,25 @@ impl State {
         if !are_same(self.stored, stand.walked) {
             return refused(18, 0, self);
         }
-        let mut m = self.m;
-        let mut mask = self.mask;
+        let m = self.m;
+        let mask = self.mask;
+        let mut lanes = Lanes {
+            first: m,
+            second: mask,
+        };
+        let place = Place {
+            order: self.order,
+            turn: self.turn,
+        };
+        let host = Worker { host, masks, deals };
         let h = resume(
-            host, job, table, masks, deals, &mut m, &mut mask, self.order, self.turn, heard, stand,
+            &host,
+            Job { orders: job, table },
+            place,
+            heard,
+            stand,
+            &mut lanes,
         );
-        answered(h, m, mask)
+        answered(h, lanes.first, lanes.second)
     }
 }

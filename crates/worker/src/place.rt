@@ -5,21 +5,19 @@ ghost use Rattle.tables.specs.Table.{rows};
 ghost use Rattle.calls.specs.Calls.{stored_places, same_places};
 ghost use Rattle.worker.specs.Jobs.{StandIs};
 
-use crate::walk::places_with;
+use crate::walk::Reach;
 use calls::Stored;
 use gate_shape::used_by;
-use gates::GateCode;
+use gates::{GateCode, Used};
 use jobs::Counts;
 use program_fetch::{gate_at, piece_at};
 use programs::{GatePlace, Order};
-use worker_gate::Reach;
 
-// The product or refresh where a state stands, with b words of B used before it; and the walk's places there.
+// The product or refresh where a state stands, and the walk's places there.
 #[derive(Clone, Copy)]
 pub(crate) struct Stand {
     pub gate: GateCode,
     pub at: Reach,
-    pub b: usize,
     pub walked: Stored,
 }
 
@@ -34,15 +32,16 @@ pub(crate) fn stand_at(o: Order, table: &[u32], used: Counts, turn: u32, place: 
     let g = gate_at(p, table, p.from);
     let at = Reach {
         gate: place.gate,
-        a: used.a as usize + place.a,
-        deals: used.deals as usize + place.deals,
+        used: Used {
+            a: used.a as usize + place.a,
+            b: used.b as usize + turn as usize,
+            deals: used.deals as usize + place.deals,
+        },
     };
-    let b = used.b as usize + turn as usize;
     Stand {
         gate: g,
         at,
-        b,
-        walked: places_with(used_by(g), at, b),
+        walked: at.places_with(used_by(g)),
     }
 }
 

@@ -6,11 +6,12 @@ ghost use Rattle.calls.specs.Lent.{lent};
 ghost use Rattle.worker.specs.Answers.{answer_of, lanes_of};
 
 use crate::answering::{answered, first_state, refused};
-use crate::walk::advance;
+use crate::walk::{Job, Place, Reach, advance};
 use crate::{Answer, Registers};
 use call_check::check_lent;
+use gates::{Lanes, Used};
 use word_lists::copy_front;
-use worker_gate::Reach;
+use worker_gate::Worker;
 
 // Checks 1 to 7 come first, and a refusal gives the registers back.
 pub fn start(
@@ -28,21 +29,30 @@ pub fn start(
 {
     let first_m = registers.m;
     let first_mask = registers.mask;
-    let mut m = [0u32; 24];
-    let mut mask = [0u32; 24];
-    copy_front(&first_m, &mut m, 16);
-    copy_front(&first_mask, &mut mask, 16);
+    let mut lanes = Lanes {
+        first: [0u32; 24],
+        second: [0u32; 24],
+    };
+    copy_front(&first_m, &mut lanes.first, 16);
+    copy_front(&first_mask, &mut lanes.second, 16);
     let lent = check_lent(host, job, table, masks, deals, 0);
     if lent.number != 0 {
-        return refused(lent.number, lent.index, first_state(m, mask));
+        return refused(
+            lent.number,
+            lent.index,
+            first_state(lanes.first, lanes.second),
+        );
     }
+    let place = Place { order: 0, turn: 0 };
     let from = Reach {
         gate: 0,
-        a: 0,
-        deals: 0,
+        used: Used {
+            a: 0,
+            b: 0,
+            deals: 0,
+        },
     };
-    let h = advance(
-        host, job, table, masks, deals, &mut m, &mut mask, 0, 0, from, 0,
-    );
-    answered(h, m, mask)
+    let host = Worker { host, masks, deals };
+    let h = advance(&host, Job { orders: job, table }, place, from, &mut lanes);
+    answered(h, lanes.first, lanes.second)
 }

@@ -3,23 +3,89 @@
 ghost use Rattle.std.specs.Prelude.{◌≡◌, ◌/◌, ◌+◌, ◌^◌, ◌≤◌, ◌<◌, length, drop};
 ghost use Rattle.gates.specs.Codes.{fetched, read};
 ghost use Rattle.gates.specs.Steps.{Lane};
+ghost use Rattle.gates.specs.Hosts.{pair_of};
 ghost use Rattle.tables.specs.Table.{rows};
 ghost use Rattle.program_fetch.specs.Pieces.{piece_gates};
 ghost use Rattle.jobs.specs.Job.{job_gates};
 ghost use Rattle.calls.specs.Calls.{stored_places};
-ghost use Rattle.calls.specs.Lent.{worker_with};
-ghost use Rattle.walks.specs.Workers.{cursor};
+ghost use Rattle.worker_gate.specs.Workers.{worker, used_to};
 ghost use Rattle.walks.specs.Halts.{going_on, reported, steps_from, Going};
 ghost use Rattle.worker.specs.Answers.{halt_on};
-ghost use Rattle.worker.specs.Jobs.{Sized};
+ghost use Rattle.worker.specs.Jobs.{Accepted};
 
 use calls::Stored;
 use gate_shape::used_by;
-use gates::{FIRST_EXCHANGE, GateCode, PAST, Used};
+use gates::{FIRST_EXCHANGE, GateCode, Lanes, PAST, Used};
 use job_add::{add_in_place, adds_here};
 use job_order::order_at;
 use program_fetch::{Piece, gate_at, piece_at};
-use worker_gate::{Reach, say, step};
+use worker_gate::Worker;
+
+// A job that was accepted, with the table that it runs on.
+#[derive(Clone, Copy)]
+pub(crate) struct Job<'a> {
+    pub orders: &'a [u32],
+    pub table: &'a [u32],
+}
+
+// A place in a job or a day: the order, and which of its products and refreshes.
+#[derive(Clone, Copy)]
+pub(crate) struct Place {
+    pub order: u32,
+    pub turn: u32,
+}
+
+// Where a walk stands: at a gate, of an order or of a piece of it, with so much used before it.
+#[derive(Clone, Copy)]
+pub(crate) struct Reach {
+    pub gate: usize,
+    pub used: Used,
+}
+
+impl Reach {
+    // The walk's places at a product or refresh that uses so much more: with its own words (R-7), one of B among them.
+    pub(crate) fn places_with(self, more: Used) -> Stored
+        requires { (more.a ≤ 2) × (more.deals ≤ 1) × (self.used.a + 4 < 2 ^ 32)
+            × (self.used.deals + 4 < 2 ^ 32) × (self.used.b + 4 < 2 ^ 32) }
+        ensures { result
+            ≡ stored_places (self.used.a + more.a) (self.used.b + 1) (self.used.deals + more.deals) }
+    {
+        Stored {
+            a: (self.used.a + more.a) as u32,
+            b: self.used.b as u32 + 1,
+            deals: (self.used.deals + more.deals) as u32,
+        }
+    }
+
+    // The walk's places behind the last gate.
+    fn places(self) -> Stored
+        requires { (self.used.a < 2 ^ 32) × (self.used.deals < 2 ^ 32) × (self.used.b < 2 ^ 32) }
+        ensures { result ≡ stored_places self.used.a self.used.b self.used.deals }
+    {
+        Stored {
+            a: self.used.a as u32,
+            b: self.used.b as u32,
+            deals: self.used.deals as u32,
+        }
+    }
+
+    // Behind a gate that exchanges nothing and uses so much more.
+    fn past(self, more: Used) -> Reach
+        requires { (more.a ≤ 2) × (more.deals ≤ 1) × (self.gate < 2 ^ 62)
+            × (self.used.a < 2 ^ 62) × (self.used.deals < 2 ^ 62) }
+        ensures { (result.gate ≡ self.gate + 1) × (result.used.a ≡ self.used.a + more.a)
+            × (result.used.b ≡ self.used.b) × (result.used.deals ≡ self.used.deals + more.deals) }
+    {
+        Reach {
+            gate: self.gate + 1,
+            used: Used {
+                a: self.used.a + more.a,
+                b: self.used.b,
+                deals: self.used.deals + more.deals,
+            },
+        }
+    }
+}
 
 // Where a walk through a piece stopped, by the gate's index in the piece, and the gate there.
 #[derive(Clone, Copy)]
@@ -48,79 +114,26 @@ pub(crate) fn halted(word: u32, order: u32, turn: u32, stored: Stored) -> Halt
     }
 }
 
-// The walk's places at a product or refresh at which so much is used: with its own words (R-7), where b of B are used
-// before it.
-pub(crate) fn places_with(used: Used, at: Reach, b: usize) -> Stored
-    requires { (used.a ≤ 2) × (used.deals ≤ 1)
-        × (at.a + 4 < 2 ^ 32) × (at.deals + 4 < 2 ^ 32) × (b + 4 < 2 ^ 32) }
-    ensures { result ≡ stored_places (at.a + used.a) (b + 1) (at.deals + used.deals) }
-{
-    Stored {
-        a: (at.a + used.a) as u32,
-        b: b as u32 + 1,
-        deals: (at.deals + used.deals) as u32,
-    }
-}
-
-// The walk's places behind the last gate, where b words of B are used.
-fn places_at(at: Reach, b: usize) -> Stored
-    requires { (at.a < 2 ^ 32) × (at.deals < 2 ^ 32) × (b < 2 ^ 32) }
-    ensures { result ≡ stored_places at.a b at.deals }
-{
-    Stored {
-        a: at.a as u32,
-        b: b as u32,
-        deals: at.deals as u32,
-    }
-}
-
-// Behind a gate at which so much is used.
-fn behind(used: Used, at: Reach) -> Reach
-    requires { (used.a ≤ 2) × (used.deals ≤ 1)
-        × (at.gate < 2 ^ 62) × (at.a < 2 ^ 62) × (at.deals < 2 ^ 62) }
-    ensures { (result.gate ≡ at.gate + 1) × (result.a ≡ at.a + used.a)
-        × (result.deals ≡ at.deals + used.deals) }
-{
-    Reach {
-        gate: at.gate + 1,
-        a: at.a + used.a,
-        deals: at.deals + used.deals,
-    }
-}
-
 // From where the piece stands up to its next product or refresh, or past its last gate, with so much used before. Each
-// gate writes its one slot in place.
-fn walk_piece(
-    host: u32,
-    p: Piece,
-    table: &[u32],
-    masks: &[u32],
-    deals: &[u32],
-    from: Reach,
-    m: &mut [u32; 24],
-    mask: &mut [u32; 24],
-) -> Stop
+// gate writes its one slot in place. A gate is told by its own shape where the walk stops: no count of gates.
+fn walk_piece(host: &Worker<'_>, p: Piece, table: &[u32], used: Used, lanes: &mut Lanes) -> Stop
     requires { (p.end ≡ length (piece_gates 32 (rows table.now) p)) × (p.end ≤ 50)
-        × (from.a < 2 ^ 61) × (from.deals < 2 ^ 61) }
-    ensures { Going 32 (worker_with host masks.now deals.now)
+        × (used.a < 2 ^ 61) × (used.deals < 2 ^ 61) }
+    ensures { Going 32 (worker host.now)
         (piece_gates 32 (rows table.now) p)
-        p.from from.a from.deals (m.old, mask.old)
-        result.at.gate result.at.a result.at.deals (m.new, mask.new)
+        p.from used.a used.deals (pair_of lanes.old)
+        result.at.gate result.at.used.a result.at.used.deals (pair_of lanes.new)
         × (read result.gate ≡ fetched (piece_gates 32 (rows table.now) p) result.at.gate)
-        × (15 ≤ result.gate.op) }
+        × (15 ≤ result.gate.op) × (result.at.used.b ≡ used.b) }
 {
-    let mut at = Reach {
-        gate: p.from,
-        a: from.a,
-        deals: from.deals,
-    };
+    let mut at = Reach { gate: p.from, used };
     while at.gate < p.end {
         let gate = gate_at(p, table, at.gate);
         if FIRST_EXCHANGE <= gate.op {
             return Stop { at, gate };
         }
-        step(host, gate, masks, deals, at.a, at.deals, m, mask);
-        at = behind(used_by(gate), at);
+        host.step(gate, at.used, lanes);
+        at = at.past(used_by(gate));
     }
     let gate = GateCode {
         op: PAST,
@@ -132,61 +145,51 @@ fn walk_piece(
     Stop { at, gate }
 }
 
-// From a place of an accepted job to the next product or refresh, or to the end, on the lanes in place: the halt there,
-// with b words of B used before.
+// From a place of an accepted job, at a gate of its order, to the next product or refresh, or to the end, on the lanes
+// in place: the halt there. The walk moves on by orders and by pieces of an order, so no count runs over its turns.
 pub(crate) fn advance(
-    host: u32,
-    job: &[u32],
-    table: &[u32],
-    masks: &[u32],
-    deals: &[u32],
-    m: &mut [u32; 24],
-    mask: &mut [u32; 24],
-    order: u32,
-    turn: u32,
+    host: &Worker<'_>,
+    job: Job<'_>,
+    place: Place,
     from: Reach,
-    b: usize,
+    lanes: &mut Lanes,
 ) -> Halt
-    requires { Sized 32 job.now table.now × (from.gate ≤ 1000)
-        × (from.a < 2 ^ 31) × (from.deals < 2 ^ 31) × (b < 2 ^ 31) }
-    ensures { halt_on result m.new mask.new
-        ≡ reported (worker_with host masks.now deals.now)
-        (steps_from 32 from.gate (drop order (job_gates 32 job.now table.now)))
-        (cursor order turn from.a b from.deals) (m.old, mask.old) }
+    requires { Accepted job × (from.gate ≤ 1000)
+        × (from.used.a < 2 ^ 31) × (from.used.deals < 2 ^ 31) × (from.used.b < 2 ^ 31) }
+    ensures { halt_on result lanes.new.first lanes.new.second
+        ≡ reported (worker host.now)
+        (steps_from 32 from.gate (drop place.order (job_gates 32 job.entry.orders.now job.entry.table.now)))
+        (used_to place.order place.turn from.used) (pair_of lanes.old) }
 {
-    let n = job.len() / 4;
-    let mut order = order as usize;
-    let mut turn = turn;
+    let n = job.orders.len() / 4;
+    let mut order = place.order as usize;
+    let mut turn = place.turn;
     let mut at = from;
     while order < n {
-        let o = order_at(job, order);
+        let o = order_at(job.orders, order);
         if adds_here(o, at.gate) {
-            add_in_place(o, m, mask);
+            add_in_place(o, lanes);
             order += 1;
             turn = 0;
             continue;
         }
-        let p = piece_at(o, table, at.gate);
-        let stop = walk_piece(host, p, table, masks, deals, at, m, mask);
+        let p = piece_at(o, job.table, at.gate);
+        let stop = walk_piece(host, p, job.table, at.used, lanes);
         let reached = stop.at;
         let g = stop.gate;
         if g.op < PAST {
-            let word = say(host, g, masks, deals, reached, b, m, mask);
-            let stored = places_with(used_by(g), reached, b);
+            let word = host.say(g, reached.used, lanes);
+            let stored = reached.places_with(used_by(g));
             return halted(word, order as u32, turn, stored);
         }
-        let mut gate = 0;
+        at.used = reached.used;
         if p.last {
             order += 1;
             turn = 0;
+            at.gate = 0;
         } else {
-            gate = at.gate + (p.end - p.from);
+            at.gate += p.end - p.from;
         }
-        at = Reach {
-            gate,
-            a: reached.a,
-            deals: reached.deals,
-        };
     }
-    halted(0, order as u32, turn, places_at(at, b))
+    halted(0, order as u32, turn, at.places())
 }

@@ -1,17 +1,13 @@
-use mathlib.Core.Path.{subst, ◌∙◌}
-use Prim.Native.Nat.{◌+◌}
-use Rattle.tables.specs.Table.{rows}
-use Rattle.programs.specs.declared.Order.{Order}
-use Rattle.jobs.specs.Job.{job_gates, order_at, steps_of}
+use mathlib.Core.Path.{◌∙◌}
+use Rattle.jobs.specs.Job.{job_gates, steps_of}
 use Rattle.jobs.specs.Counts.{counted}
 use Rattle.calls.specs.Scripts.{job_script}
 use Rattle.calls.proofs.Scripts.{job_made}
 use Rattle.worker.specs.Answers.{state_of}
-use Rattle.worker.specs.Jobs.{Sized, StandIs}
 use Rattle.jobs.proofs.Indices.{gates_count}
 use Rattle.worker.proofs.Jobs.{sized}
 use Rattle.walks.proofs.Answers.{hear_refused, at_nowhere, at_unequal, at_exchange, past_programs}
-use Rattle.worker.proofs.Places.{There, are_equal, are_unequal, there_at, stands_own, accepted, none_there, found_there, stands_by, whole_job}
+use Rattle.worker.proofs.Places.{are_equal, are_unequal, accepted, none_there, found_there, stands_by, whole_job}
 use Rattle.worker.proofs.Places.{steps_here, speaks_here, walked_here}
 use Rattle.worker.proofs.State.hear.Goals as goal
 
@@ -89,8 +85,18 @@ resume-h-requires c =
     let small = sized J T (accepted 32 J T a.host a.masks.now a.deals.now _ _ u.ensures.fault c.if-lent-ne0.false) in
     let S = stands_by 32 J T a.host a.masks.now a.deals.now _ _ u.ensures.fault c.if-lent-ne0.false a.self.order a.self.turn
     c.if-n-order.false _ c.order_at-o.ensures _ c.seek.ensures.is small _ c.in-Some.is
-    (counted u.result.counts) u.ensures.counts _ c.stand_at-stand.ensures in
-    (small, S.0.standing, S.1, S.0.few_gates, S.0.few_turns, S.0.few_a, S.0.few_deals, S.0.few_b)
+    (counted u.result.counts) u.ensures.counts _ c.stand_at-stand.ensures in (
+      small,
+      record {
+        standing = S.0.standing;
+        is = S.1;
+        few_gates = S.0.few_gates;
+        few_turns = S.0.few_turns;
+        few_a = S.0.few_a;
+        few_b = S.0.few_b;
+        few_deals = S.0.few_deals;
+      },
+    )
 
 pub returns : goal.returns
 unfolding steps_of

@@ -22,13 +22,13 @@ pub advance-h-requires : goal.advance-h-requires
 unfolding times_cost used_until
 advance-h-requires c =
     let f = (let fact : (let u = c.used_before-used.result in (u.a ≤ 96000) × (u.b ≤ 96000) × (u.deals ≤ 96000)) =
-    let k = c.args.day.curve in
-    let n = number (held c.args.day.quarters) 0 c.args.order in
-    let l : n ≤ 96 = omega (arith, number_le (held c.args.day.quarters) 0 c.args.order, c.requires.1) in
+    let k = c.args.daily.day.curve in
+    let n = number (held c.args.daily.day.quarters) 0 c.args.order in
+    let l : n ≤ 96 = omega (arith, number_le (held c.args.daily.day.quarters) 0 c.args.order, c.requires.1) in
     let f = lent_few _ _ _ _ _ c.requires.0 in
     let e = c.used_before-used.ensures in (omega (arith, ap (λ (k : Cost). k.a) e, few_words k.a n f.2 l), omega (arith, ap (λ (k : Cost). k.b) e, few_words k.b n f.3 l), omega (arith, ap (λ (k : Cost). k.deals) e, few_words k.deals n f.0 l)) in fact) in (
-      subst (λ (J : List ℕ). Sized 32 J c.args.table.now) (sym c.order_words-job.ensures)
-          (sized_own c.args.table.now c.args.order c.requires.0.ruled),
+      subst (λ (J : List ℕ). Sized 32 J c.args.daily.table.now) (sym c.order_words-words.ensures)
+          (sized_own c.args.daily.table.now c.args.order c.requires.0.ruled),
       omega arith,
       omega (arith, f.0),
       omega (arith, f.2),
@@ -39,8 +39,8 @@ pub returns : goal.returns
 returns c =
     let a = c.args in
     let w : (k l : ℕ) → _ = λ k l.
-    begun_as a.host a.masks.now a.deals.now a.table.now a.shares.now (counted a.day.curve) _ a.day.n c.requires.0 a.order
-    c.requires.1 c.requires.2 k l a.m.now a.mask.now _ _ c.requires.3 c.requires.4 c.take_share.ensures.0
-    c.take_share.ensures.1 _ c.order_words-job.ensures (counted c.used_before-used.result) c.used_before-used.ensures _ _
+    begun_as a.host.now.host a.host.now.masks.now a.host.now.deals.now a.daily.table.now a.daily.shares.now (counted a.daily.day.curve) _ a.daily.day.n c.requires.0 a.order
+    c.requires.1 c.requires.2 k l a.lanes.now.first a.lanes.now.second _ _ c.requires.3.0 c.requires.3.1 c.take_share.ensures.0
+    c.take_share.ensures.1 _ c.order_words-words.ensures (counted c.used_before-used.result) c.used_before-used.ensures _ _
     c.enter.ensures.0 c.enter.ensures.1 _ c.advance-h.ensures in
     record { long = (w 0 0).1; halt = λ k l. c.halted.ensures _ _ ∙ (w k l).0 }

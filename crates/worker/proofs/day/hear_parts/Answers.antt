@@ -1,22 +1,16 @@
-use mathlib.Core.Path.{refl, sym, ap, subst, ◌∙◌}
-use mathlib.Core.List.{List}
-use Prim.Native.Nat.{ℕ, ◌+◌}
+use mathlib.Core.Path.{refl, sym, ap, ◌∙◌}
+use Prim.Native.Nat.{ℕ}
 use native.Mathlib.Omega.{arith}
-use Rattle.tables.specs.Table.{rows}
-use Rattle.programs.specs.declared.Order.{Order}
-use Rattle.jobs.specs.Job.{Fault, order_at}
+use Rattle.jobs.specs.Job.{Fault}
 use Rattle.jobs.specs.Counts.{counted}
 use Rattle.calls.specs.declared.Stored.{Stored}
 use Rattle.calls.specs.Calls.{refused}
 use Rattle.calendars.specs.Quarters.{held}
 use Rattle.days.specs.Day.{hours}
 use Rattle.days.specs.DayCalls.{day_hear}
-use Rattle.days.proofs.Own.{own_at}
 use Rattle.worker.specs.Answers.{state_with}
-use Rattle.worker.specs.Days.{DayLent, DayPlace, DayStandIs, SameDay}
-use Rattle.worker.specs.Jobs.{StandIs}
 use Rattle.worker.proofs.Days.{lent_few, none_placed, placed_day, stands_in}
-use Rattle.worker.proofs.Places.{are_equal, stands_own}
+use Rattle.worker.proofs.Places.{are_equal}
 use Rattle.worker.proofs.DayCalls.{same_day, day_lent, whole_day, hear_turned, hear_past, hear_nowhere, hear_unequal}
 use Rattle.worker.proofs.day.hear_parts.Goals as goal
 
@@ -89,18 +83,16 @@ hear_there-requires c =
     let L = day_lent a.host a.table.now a.shares.now H a.masks.now a.deals.now _ l.ensures.fault c.if-lent-ne0.false _ _ l.ensures.day in
     let placed = placed_day a.table.now f a.order a.turn (omega (arith, c.if-order-gt-QUARTERS.false)) _ c.place_in.ensures L.ruled _ c.in-Some.is
     (counted l.result.day.curve) (counted c.used_before-used.result) L.counts c.used_before-used.ensures in
-    let p = stands_in _ _ _ _ _ _ _ _ placed _ c.order_words-job.ensures _ c.order_at.ensures _ c.stand_at-stand.ensures in (
-      L,
-      p.0,
-      p.1,
-      same_day a.host a.table.now a.shares.now H a.masks.now a.deals.now _ l.ensures.fault c.if-lent-ne0.false _ _ l.ensures.day,
-      ap {B = Fault} (λ (n : ℕ). (n, 0)) (sym c.if-lent-ne0.false) ∙ l.ensures.fault,
-    )
+    let p = stands_in _ _ _ _ _ _ _ _ placed _ c.order_words-job.ensures _ c.order_at.ensures _ c.stand_at-stand.ensures in
+    (L, p)
 
 pub returns : goal.returns
 returns c =
     let a = c.args in
-    c.hear_there.ensures
+    let l = c.check_day_lent-lent in
+    c.hear_there.ensures (hours a.calendar.now a.weekday)
+    (same_day a.host a.table.now a.shares.now (hours a.calendar.now a.weekday) a.masks.now a.deals.now _ l.ensures.fault c.if-lent-ne0.false _ _ l.ensures.day)
+    (ap {B = Fault} (λ (n : ℕ). (n, 0)) (sym c.if-lent-ne0.false) ∙ l.ensures.fault)
     ∙ ap (λ (u : Stored). day_hear 32 a.host a.table.now a.shares.now (hours a.calendar.now a.weekday) a.masks.now
     a.deals.now (state_with a.m a.mask a.order a.turn u) a.heard)
     (sym (are_equal a.stored _ _ refl _ c.are_same.ensures c.if-not-are_same.false-raw))

@@ -24,8 +24,7 @@ begin-h-requires c =
           c.check_day_lent-lent.ensures.fault c.if-lent-ne0.false _ _ c.check_day_lent-lent.ensures.day,
       n.1,
       n.2,
-      refl,
-      refl,
+      (refl, refl),
     )
 
 pub returns : goal.returns
