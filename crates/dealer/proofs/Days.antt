@@ -26,9 +26,8 @@ use Rattle.calendars.specs.Ranges.{number}
 use Rattle.calendars.specs.Calendar.{calendar_number}
 use Rattle.calendars.specs.Quarters.{held}
 use Rattle.calendars.proofs.Counting.{held_where, number_alike, number_le}
-use Rattle.call_check.specs.declared.day.Day.{Day}
-use Rattle.jobs.specs.declared.Counts.{Counts}
-use Rattle.call_check.specs.Days.{passed_quarters, passed_n, DayIs}
+use Rattle.call_check.specs.declared.day.CheckedDay.{CheckedDay}
+use Rattle.call_check.specs.Days.{DayIs}
 use Rattle.days.specs.Day.{Hours, counting, day_steps, day_script, day_of}
 use Rattle.days.specs.DayCalls.{day_given, own_masks, day_prepare}
 use Rattle.days.specs.Orders.{within, first_tail, second_tail}
@@ -57,20 +56,18 @@ module _ (table S : List ℕ) (H : Hours) (A B D : List ℕ) where
     day_lent = accepted table (length S) H (no_dealer_fault σ A B D e)
 
     -- the quarters that count by the words in hand count by the hours
-    module _ (d : Day) {whole : Counts} (is : DayIs 0 table H d whole) where
+    module _ (c : CheckedDay) (is : DayIs table H c) where
       abbrev f : ℕ → Bool
-      f = held d.quarters
+      f = held c.day.quarters
 
       same_day : (q : ℕ) → q < 96 → f q ≡ counting H q
-      unfolding passed_quarters
       same_day q l = ap (λ (x : Quarters). held x q) is.quarters ∙ held_where (counting H) q l
 
       steps_are : day_steps 32 table f ≡ day_steps 32 table (counting H)
       unfolding day_steps
       steps_are = ap (job_steps 32) (day_alike 32 f (counting H) (rows table) same_day)
 
-      pub n_is : d.n ≡ number f 0 96
-      unfolding passed_n
+      pub n_is : c.day.n ≡ number f 0 96
       n_is = is.n ∙ sym (number_alike f (counting H) 0 96 (λ k l. let a : 0 + k ≡ k = omega arith in rw a (same_day k l)))
 
       pub day_room : (l₁ l₂ : Lane) → Room A B (day_steps 32 table f) (outset l₁ l₂ D)

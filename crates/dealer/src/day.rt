@@ -8,14 +8,15 @@ ghost use Rattle.days.specs.Day.{hours, day_steps};
 ghost use Rattle.days.specs.DayCalls.{day_prepare};
 ghost use Rattle.days.specs.Orders.{within, first_tail, second_tail};
 ghost use Rattle.day_order.specs.Long.{Long};
-ghost use Rattle.dealer.specs.Answers.{answer};
+ghost use Rattle.dealer.specs.Answers.{answer, no_masks};
 
 use crate::preparing::{deal_job, registers};
-use crate::{Masks, Prepared};
+use crate::{Masks, Prepared, Refused};
 use call_check::{Day, check_day_dealer};
 use day_order::{QUARTERS, SHARE_SLOT, enter, is_run, leave, order_words, take_share};
 use dealer_gate::Lists;
 use gates::{Lanes, Used};
+use jobs::Condition;
 use word_lists::put;
 
 // The orders of a day, from the first quarter to the mean; a quarter that is left out has no gates.
@@ -56,6 +57,19 @@ fn deal_day(
     used
 }
 
+fn refused(condition: Condition) -> Refused
+    ensures { result ≡ no_masks condition }
+{
+    let zeros = [0u32; 16];
+    Refused {
+        refusal: condition.into(),
+        masks: Masks {
+            l1: zeros,
+            l2: zeros,
+        },
+    }
+}
+
 // 12, 16, 17, 5, 6 and 7 come first; refused, it gives masks of zeros and writes nothing.
 pub fn prepare_day(
     table: &[u32],
@@ -65,23 +79,15 @@ pub fn prepare_day(
     a: &[u32],
     b: &[u32],
     deals: &mut [u32],
-) -> Prepared
+) -> Result<Prepared, Refused>
     ensures { answer result deals.new
         ≡ day_prepare 32 table.now shares.now (hours calendar.now weekday)
         a.now b.now deals.old }
 {
-    let found = check_day_dealer(table, shares, calendar, weekday, a, b, deals);
-    if found.number != 0 {
-        return Prepared {
-            number: found.number,
-            index: 0,
-            deals: 0,
-            masks: Masks {
-                l1: [0u32; 16],
-                l2: [0u32; 16],
-            },
-        };
-    }
+    let found = match check_day_dealer(table, shares, calendar, weekday, a, b, deals) {
+        Ok(found) => found,
+        Err(condition) => return Err(refused(condition)),
+    };
     let mut lanes = Lanes {
         first: [0u32; 24],
         second: [0u32; 24],
@@ -89,15 +95,8 @@ pub fn prepare_day(
     let used = deal_day(table, shares, found.day, Lists { a, b }, &mut lanes, deals);
     put(&mut lanes.first, SHARE_SLOT, 0);
     put(&mut lanes.second, SHARE_SLOT, 0);
-    let kept1 = registers(lanes.first);
-    let kept2 = registers(lanes.second);
-    Prepared {
-        number: 0,
-        index: 0,
+    Ok(Prepared {
         deals: used.deals as u32,
-        masks: Masks {
-            l1: kept1,
-            l2: kept2,
-        },
-    }
+        masks: registers(lanes),
+    })
 }

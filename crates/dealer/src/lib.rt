@@ -1,6 +1,8 @@
 // Host 0: preparation of a job or a day.
 #![tactic(auto)]
 
+use jobs::Refusal;
+
 mod day;
 mod preparing;
 
@@ -8,18 +10,22 @@ pub use day::prepare_day;
 pub use preparing::prepare;
 
 // A register's two masks, for every register.
-#[derive(Clone, Copy)]
+#[derive(Clone, Copy, Debug, PartialEq, Eq)]
 pub struct Masks {
     pub l1: [u32; 16],
     pub l2: [u32; 16],
 }
 
-// Preparation's answer: the number, 0 for none, and the order's index; the deals written, and the masks as the job
-// or the day leaves them.
-#[derive(Clone, Copy)]
+// Preparation's answer: the deals written, and the masks as the job or the day leaves them.
+#[derive(Clone, Copy, Debug, PartialEq, Eq)]
 pub struct Prepared {
-    pub number: u32,
-    pub index: u32,
     pub deals: u32,
+    pub masks: Masks,
+}
+
+// A preparation turned down, which has written nothing: the masks are given back, for a day zeros.
+#[derive(Clone, Copy, Debug, PartialEq, Eq)]
+pub struct Refused {
+    pub refusal: Refusal,
     pub masks: Masks,
 }

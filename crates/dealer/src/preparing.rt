@@ -12,7 +12,7 @@ ghost use Rattle.walks.specs.Dealers.{dealer, Counts, dealing, deal_all, Room};
 ghost use Rattle.dealer_gate.specs.Dealers.{dealer_on};
 ghost use Rattle.dealer.specs.Answers.{answer};
 
-use crate::{Masks, Prepared};
+use crate::{Masks, Prepared, Refused};
 use call_check::check_dealer;
 use dealer_gate::{Lists, deal_gate};
 use gate_shape::used_by;
@@ -22,13 +22,15 @@ use job_order::order_at;
 use program_fetch::{Piece, gate_at, piece_at};
 use word_lists::copy_front;
 
-// The registers of a lane, before the temporaries.
-pub(crate) fn registers(lane: [u32; 24]) -> [u32; 16]
-    ensures { result ≡ take 16 lane }
+// The masks of the registers, before the temporaries.
+pub(crate) fn registers(lanes: Lanes) -> Masks
+    ensures { (result.l1 ≡ take 16 lanes.first) × (result.l2 ≡ take 16 lanes.second) }
 {
-    let mut kept = [0u32; 16];
-    copy_front(&lane, &mut kept, 16);
-    kept
+    let mut l1 = [0u32; 16];
+    let mut l2 = [0u32; 16];
+    copy_front(&lanes.first, &mut l1, 16);
+    copy_front(&lanes.second, &mut l2, 16);
+    Masks { l1, l2 }
 }
 
 // What is used behind a gate.
@@ -118,44 +120,30 @@ pub fn prepare(
     b: &[u32],
     deals: &mut [u32],
     masks: Masks,
-) -> Prepared
+) -> Result<Prepared, Refused>
     ensures { answer result deals.new
         ≡ Calls.prepare (job_script 32 job.now table.now) a.now b.now
         deals.old
         (masks.l1, masks.l2) }
 {
-    let first = masks.l1;
-    let second = masks.l2;
+    let counts = match check_dealer(job, table, a, b, deals) {
+        Ok(counts) => counts,
+        Err(refusal) => return Err(Refused { refusal, masks }),
+    };
     let mut lanes = Lanes {
         first: [0u32; 24],
         second: [0u32; 24],
     };
-    copy_front(&first, &mut lanes.first, 16);
-    copy_front(&second, &mut lanes.second, 16);
-    let found = check_dealer(job, table, a, b, deals);
-    if found.number != 0 {
-        return Prepared {
-            number: found.number,
-            index: found.index,
-            deals: 0,
-            masks,
-        };
-    }
+    copy_front(&masks.l1, &mut lanes.first, 16);
+    copy_front(&masks.l2, &mut lanes.second, 16);
     let none = Used {
         a: 0,
         b: 0,
         deals: 0,
     };
-    let used = deal_job(job, table, Lists { a, b }, none, &mut lanes, deals);
-    let kept1 = registers(lanes.first);
-    let kept2 = registers(lanes.second);
-    Prepared {
-        number: 0,
-        index: 0,
-        deals: used.deals as u32,
-        masks: Masks {
-            l1: kept1,
-            l2: kept2,
-        },
-    }
+    deal_job(job, table, Lists { a, b }, none, &mut lanes, deals);
+    Ok(Prepared {
+        deals: counts.deals,
+        masks: registers(lanes),
+    })
 }
