@@ -1,6 +1,6 @@
 -- From the calls' answers to the line that is printed. Assumes nothing.
 use mathlib.Core.Path.{◌≡◌, refl, sym, ap, ◌∙◌}
-use Rattle.std.specs.Prelude.{Option, Some, None}
+use Rattle.std.specs.Prelude.{Option, Some, None, Result, Ok, Err}
 use mathlib.Core.Bool.{Bool, true, false, cond}
 use mathlib.Core.List.{List}
 use Prim.Native.Nat.{ℕ, zero, suc, ◌+◌, ◌^◌, ◌<◌}
@@ -20,10 +20,8 @@ use Rattle.shares.specs.Gates.{Share, value, masked}
 use Rattle.shares.specs.Sharing.{Six, hand_out, nothing, split}
 use Rattle.shares.specs.Answers.{words, sharing, opening}
 use Rattle.shares.specs.declared.Shares.{Shares}
-use Rattle.shares.specs.declared.Sharing.{Sharing}
-use Rattle.shares.specs.declared.Sharing.TheVariants.{Shared, OutOfRange}
-use Rattle.shares.specs.declared.Opening.{Opening}
-use Rattle.shares.specs.declared.Opening.TheVariants.{Opened, Disagree}
+use Rattle.shares.specs.declared.OutOfRange.{OutOfRange}
+use Rattle.shares.specs.declared.Disagree.{Disagree}
 use Rattle.runs.specs.Runs.{opened_slot}
 use Rattle.text_lines.specs.Lines.{Parsed, asking, parsed}
 use Rattle.text_lines.specs.Buffers.{Buffer, filled}
@@ -85,7 +83,7 @@ module _ (line : List ℕ) (v : Option Request) (e : asked v ≡ parsed line) wh
 
 -- ---- the three hosts' answer
 
-module _ (mode : ℕ) (z : ℤ) (fits : SFits w64 z) (v : Sharing)
+module _ (mode : ℕ) (z : ℤ) (fits : SFits w64 z) (v : Result Shares OutOfRange)
     (split_as : sharing v ≡ split 32 (to_z w64 (of_z w64 z)) first_a first_b) where
   e : sharing v ≡ split 32 z first_a first_b
   e = split_as ∙ ap (λ (y : ℤ). split 32 y first_a first_b) (to_z-of_z w64 z fits)
@@ -94,20 +92,20 @@ module _ (mode : ℕ) (z : ℤ) (fits : SFits w64 z) (v : Sharing)
   share_of = masked (numbers 32) (wrap 32 z) first_a first_b
 
   -- "a number out of range prints "refused 11""
-  pub out_of_range : v ≡ OutOfRange → (t : Buffer) → t ≡ filled 80 (refused 11) → t ≡ holding (asking mode z)
+  pub out_of_range : (r : OutOfRange) → v ≡ Err r → (t : Buffer) → t ≡ filled 80 (refused 11) → t ≡ holding (asking mode z)
   unfolding split answer_of
-  out_of_range h t g = g ∙ rw (split_out (in_range 32 z) (hand_out share_of) (sharing v) e (ap (λ (x : Sharing). (sharing x).0) h))
+  out_of_range r h t g = g ∙ rw (split_out (in_range 32 z) (hand_out share_of) (sharing v) e (ap (λ (x : Result Shares OutOfRange). (sharing x).0) h))
 
-  module _ (s : Shares) (h : v ≡ Shared s) where
+  module _ (s : Shares) (h : v ≡ Ok s) where
     split_is : (in_range 32 z ≡ true) × ((sharing v).1 ≡ hand_out share_of)
     unfolding split
-    split_is = split_in (in_range 32 z) (hand_out share_of) (sharing v) e (ap (λ (x : Sharing). (sharing x).0) h)
+    split_is = split_in (in_range 32 z) (hand_out share_of) (sharing v) e (ap (λ (x : Result Shares OutOfRange). (sharing x).0) h)
 
     ranged : T (in_range 32 z)
     ranged = holds (in_range 32 z) split_is.0
 
     six_are : words s ≡ hand_out share_of
-    six_are = sym (ap (λ (x : Sharing). (sharing x).1) h) ∙ split_is.1
+    six_are = sym (ap (λ (x : Result Shares OutOfRange). (sharing x).1) h) ∙ split_is.1
 
     m_is : s.p1.m ≡ share_of.m
     m_is = ap (λ (x : Six). x.m_of_1) six_are
@@ -142,16 +140,16 @@ module _ (mode : ℕ) (z : ℤ) (fits : SFits w64 z) (v : Sharing)
       pub words_is : r.one.spoken + r.two.spoken ≡ Spec.words mode
       words_is = ap (λ (x : Trio). x.one.spoken + x.two.spoken) R.is ∙ words_are mode _ _ _
 
-      module _ (o : Opening) (g : opening o ≡ opens_of) where
+      module _ (o : Result ℤ Disagree) (g : opening o ≡ opens_of) where
         -- opening never meets 10
-        pub agreed : o ≡ Disagree → ⊥
-        agreed d =
+        pub agreed : (r : Disagree) → o ≡ Err r → ⊥
+        agreed r d =
             let k : ◌≡◌ {A = ℕ} 10 0 =
-            sym (ap (λ (x : Opening). (opening x).0) d) ∙ ap (λ (x : ℕ × ℤ). x.0) (g ∙ opens_is) in omega (arith, k)
+            sym (ap (λ (x : Result ℤ Disagree). (opening x).0) d) ∙ ap (λ (x : ℕ × ℤ). x.0) (g ∙ opens_is) in omega (arith, k)
 
-        pub printed : (x : ℤ) → o ≡ Opened x → (t : Buffer)
+        pub printed : (x : ℤ) → o ≡ Ok x → (t : Buffer)
             → t ≡ filled 80 (answered mode z x r.deals (r.one.spoken + r.two.spoken)) → t ≡ holding (asking mode z)
         unfolding answer_of
         printed x d t p =
-            let y : x ≡ Spec.value mode z = sym (ap (λ (x : Opening). (opening x).1) d) ∙ ap (λ (x : ℕ × ℤ). x.1) (g ∙ opens_is) in
+            let y : x ≡ Spec.value mode z = sym (ap (λ (x : Result ℤ Disagree). (opening x).1) d) ∙ ap (λ (x : ℕ × ℤ). x.1) (g ∙ opens_is) in
             p ∙ rw (y, deals_is, words_is, split_is.0)

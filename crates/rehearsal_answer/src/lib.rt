@@ -11,7 +11,7 @@ ghost use Rattle.rehearsal_answer.specs.Trial.{in_first, trial, Ran};
 
 use programs::{EXACT, ROW, SATURATION};
 use sample_masks::fill;
-use shares::{Opening, Shares, Sharing, share};
+use shares::{Disagree, OutOfRange, share};
 use text_lines::{Mode, Request, parse};
 use text_prints::{Text, answer_text, refusal_text};
 use trio::{Shared, Trio, run};
@@ -61,12 +61,12 @@ fn rehearse(request: Request) -> Text
     ensures { held result ≡ filled 80 (answer_of (asking (mode_number request.mode) request.reading)) }
 {
     let Request { mode, reading } = request;
-    let Sharing::Shared(s) = share(reading, A, B) else {
-        return refusal_text(11);
+    let Ok(s) = share(reading, A, B) else {
+        return refusal_text(OutOfRange::NUMBER);
     };
     let done = curve(mode, s.p1.m, s.p1.l, s.p2.l);
-    let Opening::Opened(value) = opened(done.masks, done.one.state, done.two.state, 0) else {
-        return refusal_text(10);
+    let Ok(value) = opened(done.masks, done.one.state, done.two.state, 0) else {
+        return refusal_text(Disagree::NUMBER);
     };
     let words = done.one.spoken + done.two.spoken;
     answer_text(mode.number(), reading, value, done.deals, words)

@@ -14,7 +14,7 @@ returns-in_default c =
 pub returns-in_default-opened : goal.returns-in_default-opened
 returns-in_default-opened c =
     let r = c.args.request in
-    absurd (agreed (mode_number r.mode) r.reading (search rules) c.share.result c.share.ensures _ c.in-Shared.is
+    absurd (agreed (mode_number r.mode) r.reading (search rules) c.share.result c.share.ensures _ c.in-Ok.is
     c.curve-done.result c.curve-done.ensures c.opened.result c.opened.ensures c.in_default-opened.is)
 
 pub overflow_add-words : goal.overflow_add-words
@@ -22,13 +22,13 @@ overflow_add-words c =
     let r = c.args.request in
     let few_words =
     few (mode_number r.mode) _ (words_is (mode_number r.mode) r.reading (search rules) c.share.result c.share.ensures _
-    c.in-Shared.is c.curve-done.result c.curve-done.ensures) in
+    c.in-Ok.is c.curve-done.result c.curve-done.ensures) in
     omega (arith, few_words)
 
 pub returns : goal.returns
 returns c =
     let r = c.args.request in
     let h = rw c.number.ensures at c.answer_text.ensures in
-    printed (mode_number r.mode) r.reading (search rules) c.share.result c.share.ensures _ c.in-Shared.is
+    printed (mode_number r.mode) r.reading (search rules) c.share.result c.share.ensures _ c.in-Ok.is
     c.curve-done.result c.curve-done.ensures c.opened.result c.opened.ensures _
-    c.in-Opened.is _ (h ∙ search rules)
+    c.in-Ok-opened.is _ (h ∙ search rules)
