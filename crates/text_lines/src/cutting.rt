@@ -21,6 +21,7 @@ pub fn cut(chunk: &[u8], at: usize, begun: Line) -> Piece
     ensures { piece (max at (length chunk.now)) result ≡ cut_from at (drop at chunk.now) (held begun) }
 {
     let mut line = begun;
+    // a range and no `enumerate().skip(at)`: what is handed back, and what the contract speaks of, are places
     for i in at..chunk.len() {
         let byte = chunk[i];
         if byte == b'\n' {

@@ -4,7 +4,7 @@ ghost use Rattle.text_lines.specs.Buffers.{filled, with_byte, with_bytes};
 ghost use Rattle.text_lines.specs.Answers.{held};
 
 // At most N bytes: the first `len` of the array, and zeros behind them. A byte behind N others is left out, so that no
-// step asks for room.
+// step asks for room. An array and no Vec, since nothing here allocates; no invariant, since `cut` takes every `Line`.
 #[derive(Clone, Copy)]
 pub struct Short<const N: usize> {
     pub bytes: [u8; N],
