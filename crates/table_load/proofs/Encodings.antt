@@ -12,13 +12,13 @@ use lib.Seq.{get_or-drop, take-append_seam}
 use Rattle.words.proofs.Digits.{both}
 use Rattle.tables.specs.Table.{Row, rows, rises, Rules}
 use Rattle.tables.proofs.Rules.{enough}
-use Rattle.tables.proofs.Rows.{rules, Rising, for_table}
+use Rattle.tables.proofs.Rows.{is_true, is_T, rules, Rising, for_table}
 use Rattle.table_load.specs.Loading.{Loaded}
 use Rattle.table_load.specs.Loading.{byte, records, marks, words, marked, table_in}
 use Rattle.table_load.specs.Loading.{padded, loaded, loading, lent_on}
 use Rattle.table_load.specs.Texts.{Bytes, Marked, TwoToSixteen, Sound, TextNumbered, faultless, unmarked, miscounted, unsound}
 use Rattle.table_load.specs.Texts.{encode}
-use Rattle.table_load.proofs.Reading.{is_true, is_T, two_to_sixteen_of, none_broken}
+use Rattle.table_load.proofs.Reading.{two_to_sixteen_of, none_broken}
 use Rattle.table_load.proofs.Numbers.{marked_of, sound_of, tested, numbered}
 
 -- ---- the records behind the first are those of the text behind it

@@ -11,12 +11,12 @@ use lib.ListN.{length}
 use Rattle.words.proofs.Digits.{both}
 use Rattle.tables.specs.Table.{row, rows, rises, keeps_rules, row_at, Rules}
 use Rattle.tables.proofs.Rules.{enough}
-use Rattle.tables.proofs.Rows.{rules}
+use Rattle.tables.proofs.Rows.{is_true, is_T, rules}
 use Rattle.table_load.specs.Loading.{Loaded}
 use Rattle.table_load.specs.Loading.{byte, records, has_mark, count_of, value_of, marks, words, marked, two_to_sixteen}
 use Rattle.table_load.specs.Loading.{table_in, loading}
 use Rattle.table_load.specs.Texts.{Marked, TwoToSixteen, Sound, TextNumbered, faultless, unmarked, miscounted, unsound}
-use Rattle.table_load.proofs.Reading.{is_true, is_T, apart, two_each, two_to_sixteen_is, two_to_sixteen_of}
+use Rattle.table_load.proofs.Reading.{apart, two_each, two_to_sixteen_is, two_to_sixteen_of}
 use Rattle.table_load.proofs.Reading.{mark_right, broken_13, broken_14, broken_15, none_broken}
 
 -- ---- record by record

@@ -1,14 +1,14 @@
 -- A text read record by record: the mark and the row of one, the loop of `read_records`, the answers of `load`. Assumes
 -- nothing.
-use mathlib.Core.Path.{◌≡◌, refl, sym, ap, ◌∙◌, subst}
+use mathlib.Core.Path.{◌≡◌, refl, sym, ap, ◌∙◌}
 use mathlib.Core.Bool.{Bool, true, false, ◌&&◌}
 use mathlib.Core.List.{List, [], ◌∷◌, ◌++◌}
 use Prim.Native.Nat.{ℕ, zero, suc, ◌+◌, ◌-◌, ◌*◌, ◌%◌, ◌≤◌, ◌<◌}
 use native.Mathlib.Nat.{zero-add, zero-sub, sub-zero, suc-sub-suc}
 use native.Mathlib.Numerals.{add-one}
 use native.Mathlib.Omega.{arith}
-use borrow.Author.Tests.{le-leb, eq-eqb, ne_eqb, eqb-true}
-use lib.Dec.{T, eqb, leb, leb→le}
+use borrow.Author.Tests.{le-leb, eq-eqb, ne_eqb}
+use lib.Dec.{T, leb, leb→le}
 use lib.ListN.{length, take, drop, set, replicate, get_or}
 use lib.Seq.{take_at, sets, sets-eq, get_or-drop}
 use Rattle.std.proofs.lemmas.List.{get_or-take}
@@ -16,16 +16,10 @@ use Rattle.std.specs.Simd.{first_chunks}
 use Rattle.words.proofs.Digits.{both}
 use Rattle.tables.specs.Table.{rows, rises, keeps_rules}
 use Rattle.tables.proofs.Rules.{enough}
+use Rattle.tables.proofs.Rows.{is_T}
 use Rattle.table_load.specs.Loading.{Loaded}
 use Rattle.table_load.specs.Loading.{byte, records, has_mark, count_of, value_of, marks, words, marked}
 use Rattle.table_load.specs.Loading.{two_to_sixteen, table_in, padded, loaded, refused, loading}
-
-pub is_true : (b : Bool) → T b → b ≡ true
-is_true true t = refl
-is_true false t = absurd t
-
-pub is_T : {b : Bool} → b ≡ true → T b
-is_T e = subst T (sym e) tt
 
 pub apart : false ≡ true → ⊥
 apart e = is_T e
@@ -56,10 +50,6 @@ module _ (t : List ℕ) (k : ℕ) (h : k < records t) {rs : List (List ℕ)} (cu
 
   pub value_read : value_of (get_or rs k []) 0 ≡ value_of t k
   value_read = rw (at_byte 4 (omega arith), at_byte 5 (omega arith))
-
--- no bytes are over where the last part is empty
-pub whole : (t : List ℕ) {n : ℕ} {b : Bool} → b ≡ eqb n 0 → b ≡ true → n ≡ length t % 6 → length t % 6 ≡ 0
-whole t p e l = sym l ∙ eqb-true _ _ (sym p ∙ e)
 
 -- ---- `read_records`: a turn of the loop, at record k of n
 

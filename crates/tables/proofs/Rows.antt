@@ -1,15 +1,19 @@
 -- The test of a table's rules and the rules in plain words; and what a law of rising rows needs. Assumes nothing.
-use mathlib.Core.Path.{◌≡◌, refl}
+use mathlib.Core.Path.{◌≡◌, refl, sym, ap, subst, ◌∙◌}
 use mathlib.Core.Bool.{Bool, true, false, ◌&&◌}
 use mathlib.Core.List.{List, [], ◌∷◌}
 use mathlib.Core.Logic.{◌↔◌}
-use Prim.Native.Nat.{ℕ, zero, suc, ◌+◌, ◌*◌, ◌≤◌, ◌<◌}
+use Prim.Native.Nat.{ℕ, zero, suc, ◌+◌, ◌*◌, ◌/◌, ◌%◌, ◌≤◌, ◌<◌}
+use native.Mathlib.Numerals.{add-one}
 use native.Mathlib.Omega.{arith}
 use lib.Dec.{T, leb, ltb, leb→le, ltb→lt, le→leb, lt→ltb}
-use lib.ListN.{length}
+use lib.ListN.{length, get_or}
+use Rattle.std.proofs.lemmas.List.{get_or_default}
+use Rattle.std.specs.List.{All}
+use Rattle.std.specs.Simd.{first_chunks}
 use Rattle.words.proofs.Digits.{both}
-use Rattle.tables.specs.Table.{Row, rows, paired, row_fits, rises, keeps_rules, row_at, Rules}
-use Rattle.tables.proofs.Rules.{words_of_rows}
+use Rattle.tables.specs.Table.{Row, rows, paired, row_fits, rises, keeps_rules, row_at, row_in, row_of, Rules}
+use Rattle.tables.proofs.Rules.{words_of_rows, rows_cut, cut_row}
 
 -- ---- rising rows, from a first one on
 
@@ -139,3 +143,67 @@ test_of ws h =
 -- `keeps_rules` tests exactly the rules in plain words
 pub rules : (ws : List ℕ) → T (keeps_rules ws) ↔ Rules ws
 rules ws = (rules_of ws, test_of ws)
+
+-- ---- the code's test, by the rows that it cuts off
+
+same : (a b : Bool) → (a ≡ true → T b) → (T b → a ≡ true) → a ≡ b
+same true true f g = refl
+same true false f g = absurd (f refl)
+same false true f g = g tt
+same false false f g = refl
+
+pub is_true : (b : Bool) → T b → b ≡ true
+is_true true t = refl
+is_true false t = absurd t
+
+pub is_T : {b : Bool} → b ≡ true → T b
+is_T e = subst T (sym e) tt
+
+module _ (ws : List ℕ) {rs : List (List ℕ)} (cut : rs ≡ first_chunks 2 (length ws / 2) ws) (many : length rs ≡ length ws / 2)
+    (even : length ws % 2 ≡ 0) where
+  row_is : (k : ℕ) → k < length rs → row_at (rows ws) k ≡ row_of rs k
+  row_is k l = rw cut (cut_row (length ws / 2) ws (omega arith) k (omega arith))
+
+  count_is : (k : ℕ) → k < length rs → (row_at (rows ws) k).r ≡ (row_of rs k).r
+  count_is k l = ap (λ (p : Row). p.r) (row_is k l)
+
+  row_count : length (rows ws) ≡ length rs
+  row_count = rows_cut ws even ∙ sym many
+
+  module _ {f : Bool} (fit : (f ≡ true) ↔ All (λ p. row_fits (row_in p) ≡ true) rs) where
+    pub misfit : f ≡ false → f ≡ keeps_rules ws
+    misfit e = same f (keeps_rules ws) (λ t. cc) (λ t. fit.1 (λ k d l. at k d l (rules_of ws t)))
+      where
+        at : (k : ℕ) (d : List ℕ) → k < length rs → Rules ws → row_fits (row_in (get_or rs k d)) ≡ true
+        at k d l r =
+            let i : k < length (rows ws) = omega (arith, row_count) in
+            let same_row = get_or_default rs k d [] l in
+            rw same_row (rw (← row_is k l) (is_true _ (fits_test _ (r.count_fits k i, r.value_fits k i))))
+
+    module _ (fits : f ≡ true) {b : Bool}
+        (rise : (b ≡ true) ↔ ((k : ℕ) → k + 1 < length rs → (row_of rs k).r < (row_of rs (k + 1)).r)) where
+      pub by_rise : 2 ≤ length rs → length rs ≤ 16 → b ≡ keeps_rules ws
+      by_rise h m = same b (keeps_rules ws) (λ t. test_of ws (kept (rise.0 t))) (λ t. rise.1 (risen (rules_of ws t)))
+        where
+          kept : ((k : ℕ) → k + 1 < length rs → (row_of rs k).r < (row_of rs (k + 1)).r) → Rules ws
+          kept r = record {
+            whole_rows = omega (arith, rows_cut ws even);
+            at_least = omega (arith, row_count);
+            at_most = omega (arith, row_count);
+            count_fits = λ k l. (fits_at_row k l).0;
+            value_fits = λ k l. (fits_at_row k l).1;
+            count_rises = λ k l.
+                let i : k + 1 < length rs = omega (arith, row_count) in
+                let more : (row_of rs k).r < (row_of rs (suc k)).r = rw (add-one k) at (r k i) in
+                omega (arith, more, count_is k (omega arith), count_is (suc k) (omega arith));
+          }
+            where
+              fits_at_row : (k : ℕ) → k < length (rows ws) → Fits (row_at (rows ws) k)
+              fits_at_row k l =
+                  let i : k < length rs = omega (arith, row_count) in
+                  rw (row_is k i) (fits_of _ (is_T (fit.0 fits k [] i)))
+
+          risen : Rules ws → (k : ℕ) → k + 1 < length rs → (row_of rs k).r < (row_of rs (k + 1)).r
+          risen r k l =
+              let more = r.count_rises k (omega (arith, row_count)) in
+              rw (add-one k) (omega (arith, more, count_is k (omega arith), count_is (suc k) (omega arith)))

@@ -1,65 +1,42 @@
 -- A table's rules, word by word. Assumes nothing.
-use mathlib.Core.Path.{◌≡◌, refl, ◌∙◌}
+use mathlib.Core.Path.{◌≡◌, refl, sym, ◌∙◌}
+use mathlib.Core.Logic.{◌↔◌}
 use mathlib.Core.Bool.{Bool, true, false, ◌&&◌, cond}
 use mathlib.Core.List.{List, [], ◌∷◌}
-use Prim.Native.Nat.{ℕ, suc, ◌+◌, ◌-◌, ◌*◌, ◌%◌, ◌≤◌, ◌<◌}
-use native.Mathlib.Numerals.{add-one, add-two}
+use Prim.Native.Nat.{ℕ, zero, suc, ◌+◌, ◌*◌, ◌/◌, ◌%◌, ◌≤◌, ◌<◌}
 use native.Mathlib.Omega.{arith}
-use borrow.Author.Tests.{lt-ltb, le-ltb, le-leb, lt-leb}
-use lib.Dec.{leb, ltb}
-use lib.ListN.{length, drop, get_or, length-drop}
-use lib.Seq.{drop-cons}
-use Rattle.tables.specs.Table.{row, rows, paired, row_fits, rises, keeps_rules}
+use borrow.Author.Tests.{ltb-true, ltb-false, le-leb, eqb-true, eqb-false, leb-true}
+use lib.Dec.{eqb, leb, ltb}
+use lib.ListN.{length, get_or}
+use Rattle.std.specs.List.{IsAllAdjacentAnswer}
+use Rattle.std.specs.Simd.{first_chunks}
+use Rattle.tables.specs.Table.{row_of, row_at, rows, paired, rises, keeps_rules}
 
--- ---- `fits`
+-- ---- `counts_rise`
 
-pub fits_low : (r c : ℕ) → r ≤ 4095 → leb c 20000 ≡ row_fits (row r c)
-unfolding row_fits
-fits_low r c h = rw (le-leb r 4095 h)
-
-pub fits_high : (r c : ℕ) → 4095 < r → false ≡ row_fits (row r c)
-unfolding row_fits
-fits_high r c h = rw (lt-leb r 4095 h)
-
--- ---- `rising`
-
--- the row at word i, and the rows after it
-words_at : (ws : List ℕ) (i : ℕ) → i + 2 ≤ length ws → rows (drop i ws) ≡ row (get_or ws i 0) (get_or ws (i + 1) 0) ∷ rows (drop (i + 2) ws)
-unfolding rows
-words_at ws i h = rw (add-one, add-two, drop-cons ws i 0 (omega arith), drop-cons ws (suc i) 0 (omega arith))
-
-no_rows : (ws : List ℕ) → length ws < 2 → rows ws ≡ []
-unfolding rows
-no_rows [] h = refl
-no_rows (r ∷ []) h = refl
-no_rows (r ∷ c ∷ ws) h = absurd (omega arith)
-
--- a turn of the loop at word i: the rows from there are still to be tested
-module _ (ws : List ℕ) (i : ℕ) (so_far : rises (rows ws) ≡ rises (rows (drop i ws))) where
-  module _ (two : 4 ≤ length ws - i) {b : Bool} (tested : b ≡ row_fits (row (get_or ws i 0) (get_or ws (i + 1) 0))) where
-    next : rises (rows ws) ≡ (b && ltb (get_or ws i 0) (get_or ws (i + 2) 0) && rises (rows (drop (i + 2) ws)))
-    unfolding rises
-    next = so_far ∙ rw (words_at ws i (omega arith), tested, words_at ws (i + 2) (omega arith))
-
-    pub misfit : b ≡ false → false ≡ rises (rows ws)
-    misfit e = rw (next, e)
-
-    pub not_rising : b ≡ true → get_or ws (i + 2) 0 ≤ get_or ws i 0 → false ≡ rises (rows ws)
-    not_rising e h = rw (next, e, le-ltb (get_or ws i 0) (get_or ws (i + 2) 0) h)
-
-    pub go_on : b ≡ true → get_or ws i 0 < get_or ws (i + 2) 0 → rises (rows ws) ≡ rises (rows (drop (i + 2) ws))
-    go_on e h = rw (next, e, lt-ltb (get_or ws i 0) (get_or ws (i + 2) 0) h)
-
-  pub no_row : length ws - i < 2 → true ≡ rises (rows ws)
-  unfolding rises
-  no_row h = rw (so_far, no_rows (drop i ws) (rw (length-drop i ws) h))
-
-  pub last_row : length ws - i < 4 → 2 ≤ length ws - i → {b : Bool} → b ≡ row_fits (row (get_or ws i 0) (get_or ws (i + 1) 0))
-      → b ≡ rises (rows ws)
-  unfolding rises
-  last_row h k e = rw (so_far, words_at ws i (omega arith), no_rows (drop (i + 2) ws) (rw (length-drop (i + 2) ws) (omega arith))) e
+pub rise_answer : (rs : List (List ℕ)) (b : Bool) → IsAllAdjacentAnswer (λ x y r. r ≡ ltb (get_or x 0 0) (get_or y 0 0)) rs b
+    → (b ≡ true) ↔ ((k : ℕ) → k + 1 < length rs → (row_of rs k).r < (row_of rs (k + 1)).r)
+rise_answer rs true h = (λ _ k l. ltb-true _ _ (sym (h k [] l)), λ _. refl)
+rise_answer rs false h =
+    (λ x. cc, λ all. let below = all h.0 h.1 in let above = ltb-false _ _ (sym (h.2 [])) in absurd (omega arith))
 
 -- ---- `keeps_rules`
+
+-- nothing is over, or something, by whether the part behind the rows is empty
+pub none_over : {m n : ℕ} {b : Bool} → b ≡ eqb n 0 → b ≡ true → n ≡ m → m ≡ 0
+none_over p e l = sym l ∙ eqb-true _ _ (sym p ∙ e)
+
+pub some_over : {m n : ℕ} {b : Bool} → b ≡ eqb n 0 → b ≡ false → n ≡ m → m ≡ 0 → ⊥
+some_over p e l z = eqb-false _ _ (sym p ∙ e) (l ∙ z)
+
+pub counted : (n : ℕ) {b : Bool} → b ≡ (leb 2 n && leb n 16) → b ≡ true → (2 ≤ n) × (n ≤ 16)
+counted n p e = go (leb 2 n) (leb n 16) refl refl (sym p ∙ e)
+  where
+    go : (x y : Bool) → leb 2 n ≡ x → leb n 16 ≡ y → (x && y) ≡ true → (2 ≤ n) × (n ≤ 16)
+    go true true d f g = (leb-true _ _ d, leb-true _ _ f)
+    go true false d f g = cc
+    go false true d f g = cc
+    go false false d f g = cc
 
 -- two words to a row, and one over where they are not paired
 pub words_of_rows : (ws : List ℕ) → length ws ≡ 2 * length (rows ws) + cond (paired ws) 0 1
@@ -85,18 +62,13 @@ module _ (ws : List ℕ) where
         go true e = (e, let f : length ws ≡ 2 * length (rows ws) + 0 = rw e at (words_of_rows ws) in omega arith)
         go false e = let f : length ws ≡ 2 * length (rows ws) + 1 = rw e at (words_of_rows ws) in absurd (omega arith)
 
-    pub too_few : length ws < 4 → false ≡ keeps_rules ws
-    unfolding keeps_rules
-    too_few h = rw (all_paired.0, lt-leb 2 (length (rows ws)) (omega (arith, all_paired)))
+    -- the rows, cut off two words at a time
+    pub rows_cut : length (rows ws) ≡ length ws / 2
+    rows_cut = omega (arith, all_paired)
 
-    pub too_many : 4 ≤ length ws → 32 < length ws → false ≡ keeps_rules ws
+    pub miscounted : {n : ℕ} {b : Bool} → n ≡ length ws / 2 → b ≡ (leb 2 n && leb n 16) → b ≡ false → false ≡ keeps_rules ws
     unfolding keeps_rules
-    too_many h k =
-        rw (
-          all_paired.0,
-          le-leb 2 (length (rows ws)) (omega (arith, all_paired)),
-          lt-leb (length (rows ws)) 16 (omega (arith, all_paired)),
-        )
+    miscounted l p e = rw (all_paired.0, rows_cut, ← l, ← p, e)
 
     pub enough : 4 ≤ length ws → length ws ≤ 32 → rises (rows ws) ≡ keeps_rules ws
     unfolding keeps_rules
@@ -106,3 +78,12 @@ module _ (ws : List ℕ) where
           le-leb 2 (length (rows ws)) (omega (arith, all_paired)),
           le-leb (length (rows ws)) 16 (omega (arith, all_paired)),
         )
+
+-- row k of the first n
+pub cut_row : (n : ℕ) (ws : List ℕ) → 2 * n ≤ length ws → (k : ℕ) → k < n → row_at (rows ws) k ≡ row_of (first_chunks 2 n ws) k
+unfolding rows
+cut_row zero ws h k l = absurd (omega arith)
+cut_row (suc n) [] h k l = absurd (omega arith)
+cut_row (suc n) (r ∷ []) h k l = absurd (omega arith)
+cut_row (suc n) (r ∷ c ∷ ws) h zero l = refl
+cut_row (suc n) (r ∷ c ∷ ws) h (suc k) l = cut_row n ws (omega arith) k (omega arith)

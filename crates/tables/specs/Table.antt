@@ -12,7 +12,14 @@ pub record Row : Type 0 where
 abbrev pub row : ℕ → ℕ → Row
 row r c = record { r = r; c = c }
 
--- the rows of a table's words, "rows of two words"
+-- "rows of two words": the row of two words, and row k of a list of two words each
+abbrev pub row_in : List ℕ → Row
+row_in w = row (get_or w 0 0) (get_or w 1 0)
+
+abbrev pub row_of : List (List ℕ) → ℕ → Row
+row_of ws k = row_in (get_or ws k [])
+
+-- the rows of a table's words
 unfoldable pub rows : List ℕ → List Row
 rows [] = []
 rows (r ∷ []) = []

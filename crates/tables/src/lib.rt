@@ -2,53 +2,36 @@
 // A table is a slice of words, two to a row: count r, then micrograms per litre c.
 #![tactic(auto)]
 
-ghost use Rattle.std.specs.Prelude.{◌≡◌};
-ghost use Rattle.tables.specs.Table.{row, rows, row_fits, rises, keeps_rules, slope, house};
+ghost use Rattle.std.specs.Prelude.{◌≡◌, ◌↔◌, ◌+◌, ◌<◌, ℕ, All, IsTrue, length};
+ghost use Rattle.tables.specs.Table.{row, row_in, row_of, row_fits, keeps_rules, slope, house};
 
-fn fits(r: u32, c: u32) -> bool
-    ensures { result ≡ row_fits (row r c) }
+// Whether each row's r and c are in their ranges.
+fn each_fits(rows: &[[u32; 2]]) -> bool
+    ensures { IsTrue result ↔ All (λ p. IsTrue (row_fits (row_in p))) rows.now }
 {
-    if r <= 4095 { c <= 20000 } else { false }
+    rows.iter().all(|&[r, c]| r <= 4095 && c <= 20000)
 }
 
-// Each row but the last is held against the next one, so one pass serves both rules.
-fn rising(table: &[u32]) -> bool
-    ensures { result ≡ rises (rows table.now) }
+// Whether r rises from each row to the next.
+fn counts_rise(rows: &[[u32; 2]]) -> bool
+    ensures { IsTrue result
+        ↔ ((k : ℕ) → k + 1 < length rows.now → (row_of rows.now k).r < (row_of rows.now (k + 1)).r) }
 {
-    let mut i = 0;
-    while 4 <= table.len() - i {
-        let r = table[i];
-        let c = table[i + 1];
-        let next = table[i + 2];
-        if !fits(r, c) {
-            return false;
-        }
-        if next <= r {
-            return false;
-        }
-        i += 2;
-    }
-    if table.len() - i < 2 {
-        return true;
-    }
-    fits(table[i], table[i + 1])
+    rows.is_sorted_by(|row, next| row[0] < next[0])
 }
 
 // Whether the words are a table that keeps the rules.
 pub fn keeps_rules(table: &[u32]) -> bool
     ensures { result ≡ keeps_rules table.now }
 {
-    let n = table.len();
-    if n % 2 != 0 {
+    let (rows, odd) = table.as_chunks::<2>();
+    if !odd.is_empty() {
         return false;
     }
-    if n < 4 {
+    if !(2..=16).contains(&rows.len()) {
         return false;
     }
-    if 32 < n {
-        return false;
-    }
-    rising(table)
+    each_fits(rows) && counts_rise(rows)
 }
 
 // floor((next_c - c) * 4096 / (next_r - r)), towards minus infinity where c falls; 0 where r does not rise.
