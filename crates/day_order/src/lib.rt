@@ -10,7 +10,7 @@ ghost use Rattle.days.specs.Orders.{is_run, order_words, with_share, entered, le
 
 use calendars::{Quarters, counts_at, factor};
 use gates::Lanes;
-use programs::{ACC_SLOT, T_SLOT};
+use programs::{ACC_SLOT, Kind, T_SLOT};
 use word_lists::{at, put, word_after, word_at};
 use words::wrapping_mul;
 
@@ -40,9 +40,9 @@ pub fn order_words(order: u32) -> [u32; 4]
     ensures { result ≡ order_words order }
 {
     if order < QUARTERS {
-        [10, ACC_SLOT, SHARE_SLOT, 0]
+        [Kind::Curve as u32, ACC_SLOT, SHARE_SLOT, 0]
     } else {
-        [8, 0, ACC_SLOT, SHIFT]
+        [Kind::Exact as u32, 0, ACC_SLOT, SHIFT]
     }
 }
 

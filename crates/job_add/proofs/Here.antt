@@ -1,6 +1,5 @@
--- What the test of an addition or subtraction in place tells where it holds. Assumes nothing.
-use Rattle.std.proofs.Common.{◌≡◌, ℕ, Bool, true, false, cond, ◌&&◌, eqb, ltb, refl, ap, ltb-true, eqb-true}
-use Rattle.gates.proofs.Fetched.{never}
+-- What `adds_here` tells. Assumes nothing.
+use Rattle.std.proofs.Common.{◌≡◌, ℕ, Bool, true, false, ◌&&◌, eqb, ltb, refl, ltb-true, eqb-true}
 use Rattle.programs.specs.declared.Order.{Order}
 use Rattle.jobs.specs.Additions.{Additive}
 use Rattle.job_add.specs.Here.{adds_here}
@@ -13,5 +12,5 @@ here o i = go (eqb i 0) refl (ltb o.kind 2) refl
         → true ≡ a && b && ltb o.target 16 && ltb o.source 16 && ltb o.fourth 16
         → (i ≡ 0) × Additive o
     go true p true q e = (eqb-true i 0 p, ltb-true o.kind 2 q)
-    go true p false q e = never (ap (λ (t : Bool). cond t 0 1) e)
-    go false p b q e = never (ap (λ (t : Bool). cond t 0 1) e)
+    go true p false q e = cc
+    go false p b q e = cc

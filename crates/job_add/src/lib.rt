@@ -6,7 +6,7 @@ ghost use Rattle.jobs.specs.Additions.{added};
 ghost use Rattle.job_add.specs.Here.{adds_here};
 
 use gates::Lanes;
-use programs::Order;
+use programs::{Kind, Order};
 use word_lists::{at, put};
 
 // Whether a walk that stands at a gate of an order can do the order at once: it is at the first gate, and the order
@@ -15,7 +15,11 @@ use word_lists::{at, put};
 pub fn adds_here(o: Order, gate: usize) -> bool
     ensures { result ≡ adds_here o gate }
 {
-    gate == 0 && o.kind < 2 && o.target < 16 && o.source < 16 && o.fourth < 16
+    gate == 0
+        && o.kind < Kind::AddConstant as u32
+        && o.target < 16
+        && o.source < 16
+        && o.fourth < 16
 }
 
 // On one lane: kind 0 adds and kind 1 subtracts. Of all slots the target's alone is written, from what the sources
@@ -25,7 +29,7 @@ fn write_target(o: Order, lane: &mut [u32; 24])
 {
     let x = at(lane, o.source);
     let y = at(lane, o.fourth);
-    if o.kind == 0 {
+    if o.kind == Kind::Add as u32 {
         put(lane, o.target, std::num::wrapping_add_u32(x, y));
         return;
     }

@@ -12,7 +12,7 @@ ghost use Rattle.programs.specs.Orders.{curve_program, program};
 ghost use Rattle.programs.specs.Seek.{gate_place, sought_from, Seeks};
 
 use programs::{
-    ADDER, ADDER_HEAD, BlockSize, DEAL, EXACT, EXACT_HEAD, GatePlace, NUMBER, Order, REFRESH,
+    ADDER, ADDER_HEAD, BlockSize, DEAL, EXACT, EXACT_HEAD, GatePlace, Kind, NUMBER, Order, REFRESH,
     REFRESHED, RELU_LAST, RELU_ONE, ROUND_GATES, ROW, ROW_HEAD, SATURATION_HEAD, SATURATION_PLUS,
     SATURATION_PRODUCT, SIGN, SIGN_BIT, SIGN_NUMBER, START,
 };
@@ -181,16 +181,16 @@ fn curve_place(mode: u32, table: &[u32], n: u32) -> Option<GatePlace>
 pub fn seek(o: Order, table: &[u32], turn: u32) -> Option<GatePlace>
     ensures { Seeks 32 (program 32 (rows table.now) o) turn result }
 {
-    let kind = o.kind;
-    let c = o.fourth;
+    let Ok(kind) = Kind::try_from(o.kind) else {
+        return None;
+    };
     let n = turn as usize;
     match kind {
-        4 => at_once(n, START),
-        5 => at_once(n, START),
-        7 => one_bit_place(n, START),
-        8 => exact_place(n, START),
-        9 => relu_place(n, START),
-        10 => curve_place(c, table, turn),
-        _ => None,
+        Kind::Product | Kind::Refresh => at_once(n, START),
+        Kind::OneBit => one_bit_place(n, START),
+        Kind::Exact => exact_place(n, START),
+        Kind::Relu => relu_place(n, START),
+        Kind::Curve => curve_place(o.fourth, table, turn),
+        Kind::Add | Kind::Subtract | Kind::AddConstant | Kind::TimesConstant | Kind::Slack => None,
     }
 }

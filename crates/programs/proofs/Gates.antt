@@ -2,7 +2,6 @@
 use mathlib.Core.Path.{◌≡◌, refl}
 use Prim.Native.Nat.{ℕ, ◌^◌, ◌<◌}
 use Rattle.words.specs.Ring.{Ops}
-use Rattle.words.specs.Words.{add, sub, mul}
 use Rattle.words.proofs.Solver.{exprs, Expr}
 use Rattle.words.proofs.Below.{Carrier, solve_below}
 use Rattle.shares.specs.Gates as S

@@ -9,7 +9,7 @@ use borrow.Author.Tests.{lt-ltb}
 use lib.Dec.{eqb, ltb, lit≤}
 use lib.ListN.{get_or, length}
 use lib.Seq.{get_or-set_same}
-use Rattle.words.specs.Words.{add, sub, numbers}
+use Rattle.words.specs.Words.{add, numbers}
 use Rattle.words.specs.Signed.{shr_signed}
 use Rattle.truncations.specs.Truncation.{large_slack, one_bit}
 use Rattle.words.proofs.Solver.{exprs}

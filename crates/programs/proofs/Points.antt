@@ -12,7 +12,7 @@ use lib.ListN.{set}
 use lib.Seq.{get_or-set_other, lt-length-set}
 use lib.Bits.{xor_lt}
 use lib.Pow.{pow_pos}
-use Rattle.words.specs.Words.{add, sub, neg, mul, bit, shl, shr, numbers, bits}
+use Rattle.words.specs.Words.{add, neg, mul, bit, shl, shr, numbers, bits}
 use Rattle.words.specs.Signed.{shr_signed}
 use Rattle.words.proofs.Words.{Word, number_words, bit_words, add_lt, neg_lt, mul_lt}
 use Rattle.words.proofs.Signed.{wrap_lt}

@@ -6,3 +6,4 @@ pub mod Sizes
 pub mod Seek
 pub mod Savings
 pub mod Blocks
+pub mod Kinds

@@ -4,6 +4,10 @@
 
 ghost use Rattle.std.specs.Prelude.{◌≡◌, ◌+◌, ◌^◌, ◌<◌};
 
+mod kind;
+
+pub use kind::{Kind, UnknownKind};
+
 // An order's four words (document 01: kind, target, first source, fourth word).
 #[derive(Clone, Copy)]
 pub struct Order {
