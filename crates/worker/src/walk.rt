@@ -1,6 +1,6 @@
 // A host's walk from gate to gate: within a piece of a program up to the next product or refresh, and over the pieces
 // of the orders of a job. Additions and subtractions are done at once (R-2).
-ghost use Rattle.std.specs.Prelude.{◌≡◌, ◌/◌, ◌+◌, ◌^◌, ◌≤◌, ◌<◌, length, drop};
+ghost use Rattle.std.specs.Prelude.{◌≡◌, ℕ, ◌/◌, ◌+◌, ◌^◌, ◌≤◌, ◌<◌, length, drop};
 ghost use Rattle.gates.specs.Codes.{fetched, read};
 ghost use Rattle.gates.specs.Steps.{Lane};
 ghost use Rattle.gates.specs.Hosts.{pair_of};
@@ -68,29 +68,24 @@ impl Reach {
             deals: self.used.deals as u32,
         }
     }
+}
 
-    // Behind a gate that exchanges nothing and uses so much more.
-    fn past(self, more: Used) -> Reach
-        requires { (more.a ≤ 2) × (more.deals ≤ 1) × (self.gate < 2 ^ 62)
-            × (self.used.a < 2 ^ 62) × (self.used.deals < 2 ^ 62) }
-        ensures { (result.gate ≡ self.gate + 1) × (result.used.a ≡ self.used.a + more.a)
-            × (result.used.b ≡ self.used.b) × (result.used.deals ≡ self.used.deals + more.deals) }
-    {
-        Reach {
-            gate: self.gate + 1,
-            used: Used {
-                a: self.used.a + more.a,
-                b: self.used.b,
-                deals: self.used.deals + more.deals,
-            },
-        }
+// Behind a gate that exchanges nothing and uses so much more: no word of B.
+fn past(used: Used, more: Used) -> Used
+    requires { (more.a ≤ 2) × (more.deals ≤ 1) × (used.a < 2 ^ 62) × (used.deals < 2 ^ 62) }
+    ensures { (result.a ≡ used.a + more.a) × (result.b ≡ used.b) × (result.deals ≡ used.deals + more.deals) }
+{
+    Used {
+        a: used.a + more.a,
+        b: used.b,
+        deals: used.deals + more.deals,
     }
 }
 
-// Where a walk through a piece stopped, by the gate's index in the piece, and the gate there.
+// Where a walk through a piece stopped: what was used before, and the gate there.
 #[derive(Clone, Copy)]
 struct Stop {
-    at: Reach,
+    used: Used,
     gate: GateCode,
 }
 
@@ -115,25 +110,25 @@ pub(crate) fn halted(word: u32, order: u32, turn: u32, stored: Stored) -> Halt
 }
 
 // From where the piece stands up to its next product or refresh, or past its last gate, with so much used before. Each
-// gate writes its one slot in place. A gate is told by its own shape where the walk stops: no count of gates.
+// gate writes its one slot in place.
 fn walk_piece(host: &Worker<'_>, p: Piece, table: &[u32], used: Used, lanes: &mut Lanes) -> Stop
     requires { (p.end ≡ length (piece_gates 32 (rows table.now) p)) × (p.end ≤ 50)
         × (used.a < 2 ^ 61) × (used.deals < 2 ^ 61) }
-    ensures { Going 32 (worker host.now)
+    ensures { (j : ℕ) × Going 32 (worker host.now)
         (piece_gates 32 (rows table.now) p)
         p.from used.a used.deals (pair_of lanes.old)
-        result.at.gate result.at.used.a result.at.used.deals (pair_of lanes.new)
-        × (read result.gate ≡ fetched (piece_gates 32 (rows table.now) p) result.at.gate)
-        × (15 ≤ result.gate.op) × (result.at.used.b ≡ used.b) }
+        j result.used.a result.used.deals (pair_of lanes.new)
+        × (read result.gate ≡ fetched (piece_gates 32 (rows table.now) p) j)
+        × (15 ≤ result.gate.op) × (result.used.b ≡ used.b) }
 {
-    let mut at = Reach { gate: p.from, used };
-    while at.gate < p.end {
-        let gate = gate_at(p, table, at.gate);
+    let mut at = used;
+    for i in p.from..p.end {
+        let gate = gate_at(p, table, i);
         if FIRST_EXCHANGE <= gate.op {
-            return Stop { at, gate };
+            return Stop { used: at, gate };
         }
-        host.step(gate, at.used, lanes);
-        at = at.past(used_by(gate));
+        host.step(gate, at, lanes);
+        at = past(at, used_by(gate));
     }
     let gate = GateCode {
         op: PAST,
@@ -142,7 +137,7 @@ fn walk_piece(host: &Worker<'_>, p: Piece, table: &[u32], used: Used, lanes: &mu
         b: 0,
         n: 0,
     };
-    Stop { at, gate }
+    Stop { used: at, gate }
 }
 
 // From a place of an accepted job, at a gate of its order, to the next product or refresh, or to the end, on the lanes
@@ -175,14 +170,13 @@ pub(crate) fn advance(
         }
         let p = piece_at(o, job.table, at.gate);
         let stop = walk_piece(host, p, job.table, at.used, lanes);
-        let reached = stop.at;
         let g = stop.gate;
+        at.used = stop.used;
         if g.op < PAST {
-            let word = host.say(g, reached.used, lanes);
-            let stored = reached.places_with(used_by(g));
+            let word = host.say(g, at.used, lanes);
+            let stored = at.places_with(used_by(g));
             return halted(word, order as u32, turn, stored);
         }
-        at.used = reached.used;
         if p.last {
             order += 1;
             turn = 0;
