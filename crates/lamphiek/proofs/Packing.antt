@@ -1,20 +1,13 @@
--- Words cut out of a struct's list and put back into it, on plain lists. Assumes nothing.
+-- Words put into a struct's list, and read back, on plain lists. Assumes nothing.
 use mathlib.Core.Path.{◌≡◌, sym, ap, ◌∙◌}
 use mathlib.Core.List.{List, [], ◌∷◌, ◌++◌, append-nil, append_assoc}
 use Prim.Native.Nat.{ℕ, ◌+◌, ◌≤◌}
 use native.Mathlib.Omega.{arith}
-use lib.ListN.{length, get_or, set, take, drop, replicate, length-replicate, drop_of_length-le}
+use lib.ListN.{length, get_or, set, take, drop, drop_of_length-le}
 use lib.Seq.{paste, take_all, take_at, drop_at, get_or-drop, take-paste, length-paste, sets-eq}
 use Rattle.gates.specs.Hosts.{Pair}
 use Rattle.calls.specs.Calls as Calls
 use Rattle.lamphiek.specs.Layout.{state_words, state_in, places_out, state_out, masks_in, masks_out}
-
--- ---- out of the list, into n words that held zeros
-
-pub cut : (n : ℕ) (l r : List ℕ) → r ≡ paste (replicate n 0) 0 l n → r ≡ take n l
-cut n l r e =
-    let none : length (replicate {A = ℕ} n 0) ≤ 0 + n = omega (arith, length-replicate {A = ℕ} n 0) in
-    e ∙ ap (λ (x : List ℕ). take n l ++ x) (drop_of_length-le (replicate n 0) none) ∙ append-nil (take n l)
 
 -- ---- into the list: two lanes of n words side by side
 

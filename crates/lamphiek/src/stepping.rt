@@ -24,10 +24,7 @@ pub(crate) fn put_prepared(masks: &mut [u32; 32], p: dealer::Prepared) -> Answer
     if p.number != 0 {
         return said;
     }
-    let left = p.masks;
-    let l1 = left.l1;
-    let l2 = left.l2;
-    put_masks(masks, l1, l2);
+    put_masks(masks, p.masks);
     said
 }
 
@@ -70,11 +67,7 @@ pub(crate) fn put_answer(state: &mut [u32; 53], a: worker::Answer) -> Answer
     if a.number != 0 {
         return said;
     }
-    let next = a.state;
-    let m = next.m;
-    let mask = next.mask;
-    let stored = next.stored;
-    put_state(state, m, mask, next.order, next.turn, stored);
+    put_state(state, a.state);
     said
 }
 
