@@ -7,7 +7,7 @@ ghost use Rattle.calendars.specs.Calendar.{well_ended, sound_window, sound_day};
 fn well_ended(start: u32, end: u32) -> bool
     ensures { result ≡ well_ended start end }
 {
-    if start < end { end <= 1440 } else { false }
+    start < end && end <= 1440
 }
 
 // Whether each of the n windows at a place does.
@@ -15,16 +15,7 @@ fn sound_windows(calendar: &[u32], at: usize, n: u32) -> bool
     requires { at + 2 * n ≤ length calendar.now }
     ensures { result ≡ every (sound_window calendar.now at) 0 n }
 {
-    let windows = n as usize;
-    let mut i = 0;
-    while i < windows {
-        let place = at + 2 * i;
-        if !well_ended(calendar[place], calendar[place + 1]) {
-            return false;
-        }
-        i += 1;
-    }
-    true
+    (0..n as usize).all(|i| well_ended(calendar[at + 2 * i], calendar[at + 2 * i + 1]))
 }
 
 fn sound_day(calendar: &[u32], day: usize) -> bool
@@ -50,12 +41,5 @@ pub(crate) fn sound_week(calendar: &[u32]) -> bool
     requires { length calendar.now ≡ 182 }
     ensures { result ≡ every (sound_day calendar.now) 0 7 }
 {
-    let mut day = 0;
-    while day < 7 {
-        if !sound_day(calendar, day) {
-            return false;
-        }
-        day += 1;
-    }
-    true
+    (0..7).all(|day| sound_day(calendar, day))
 }
