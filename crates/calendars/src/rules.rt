@@ -1,7 +1,7 @@
 // Check 16: a calendar's rules, on every weekday.
 ghost use Rattle.std.specs.Prelude.{◌≡◌, ◌+◌, ◌*◌, ◌≤◌, ◌<◌, length};
 ghost use Rattle.calendars.specs.Ranges.{every};
-ghost use Rattle.calendars.specs.Calendar.{well_ended, sound_window, sound_day};
+ghost use Rattle.calendars.specs.Calendar.{well_ended, sound_window, sound_day, sound};
 
 // Whether a window ends after its start, and not above 1440.
 fn well_ended(start: u32, end: u32) -> bool
@@ -25,21 +25,22 @@ fn sound_day(calendar: &[u32], day: usize) -> bool
     let at = 26 * day;
     let open = calendar[at];
     let cleaning = calendar[at + 1];
-    if 8 < open {
-        return false;
-    }
-    if 4 < cleaning {
-        return false;
-    }
-    if !sound_windows(calendar, at + 2, open) {
-        return false;
-    }
-    sound_windows(calendar, at + 18, cleaning)
+    open <= 8
+        && cleaning <= 4
+        && sound_windows(calendar, at + 2, open)
+        && sound_windows(calendar, at + 18, cleaning)
 }
 
-pub(crate) fn sound_week(calendar: &[u32]) -> bool
+fn sound_week(calendar: &[u32]) -> bool
     requires { length calendar.now ≡ 182 }
     ensures { result ≡ every (sound_day calendar.now) 0 7 }
 {
     (0..7).all(|day| sound_day(calendar, day))
+}
+
+// Whether a calendar and a weekday keep the rules of check 16.
+pub(crate) fn sound(calendar: &[u32], weekday: u32) -> bool
+    ensures { result ≡ sound calendar.now weekday }
+{
+    calendar.len() == 182 && weekday <= 6 && sound_week(calendar)
 }
