@@ -15,28 +15,6 @@ pub and : {a b : Bool} → a ≡ true → b ≡ true → (a && b) ≡ true
 and e h = rw (e, h)
 
 module _ (f : ℕ → Bool) where
-  -- ---- a loop from 0 to n: what is still to be tested from i on
-
-  pub every_start : (n : ℕ) → every f 0 n ≡ every f 0 (n - 0)
-  every_start n = ap (every f 0) (omega arith)
-
-  module _ (i n : ℕ) (so_far : every f 0 n ≡ every f i (n - i)) where
-    every_turn : i < n → every f 0 n ≡ (f i && every f (i + 1) (n - (i + 1)))
-    unfolding every
-    every_turn h =
-        let e : n - i ≡ suc (n - suc i) = omega arith in
-        so_far ∙ ap (every f i) e ∙ rw (add-one i)
-
-    pub every_stop : i < n → f i ≡ false → false ≡ every f 0 n
-    every_stop h e = rw (every_turn h, e)
-
-    pub every_go : i < n → f i ≡ true → every f 0 n ≡ every f (i + 1) (n - (i + 1))
-    every_go h e = every_turn h ∙ rw e
-
-    pub every_done : n ≤ i → true ≡ every f 0 n
-    unfolding every
-    every_done h = let e : n - i ≡ 0 = omega arith in rw (so_far, e)
-
   -- ---- a loop from q up to a number: the first that the test holds of
 
   module _ (q to : ℕ) where

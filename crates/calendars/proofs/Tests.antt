@@ -1,10 +1,15 @@
 -- Tests of a run of numbers, and what they say of the numbers of the run. Assumes nothing.
-use mathlib.Core.Path.{◌≡◌, refl}
+use mathlib.Core.Path.{◌≡◌, refl, sym, ◌∙◌}
 use mathlib.Core.Bool.{Bool, true, false, ◌||◌}
 use Prim.Native.Nat.{ℕ, zero, suc, ◌+◌, ◌<◌}
+use native.Mathlib.Nat.{zero-add}
 use native.Mathlib.Omega.{arith}
+use lib.ListN.{length, get_or}
 use Rattle.calendars.specs.Ranges.{every, some, number}
-use Rattle.calendars.proofs.Ranges.{and}
+use Rattle.std.specs.Bool.{MatchBool}
+use Rattle.std.specs.List.{AllWithin, HoldsAt, range_with_len}
+use Rattle.std.proofs.lemmas.List.FromFn.{length-range_with_len, get_or-range_with_len}
+use Rattle.calendars.proofs.Ranges.{and, every_below}
 
 module _ (f : ℕ → Bool) where
   pub every_by : (q n : ℕ) → ((k : ℕ) → k < n → f (q + k) ≡ true) → every f q n ≡ true
@@ -17,6 +22,32 @@ module _ (f : ℕ → Bool) where
 
   pub below_every : (n : ℕ) → ((k : ℕ) → k < n → f k ≡ true) → every f 0 n ≡ true
   below_every n h = every_by 0 n (λ k l. let a : 0 + k ≡ k = omega arith in rw a (h k l))
+
+  -- what `all` over the numbers below n answers
+  pub every_answer : (n : ℕ) {r : Bool}
+      → MatchBool r (AllWithin (λ k. f k ≡ true) (range_with_len 0 n) 0 (length (range_with_len 0 n)))
+      ((k : ℕ) × (k < length (range_with_len 0 n)) × HoldsAt (λ k. f k ≡ false) (range_with_len 0 n) k)
+      → r ≡ every f 0 n
+  every_answer n {r} = go r
+    where
+      at : (k : ℕ) → k < n → get_or (range_with_len 0 n) k 0 ≡ k
+      at k l = get_or-range_with_len 0 n k 0 l ∙ zero-add k
+
+      go : (b : Bool) → MatchBool b (AllWithin (λ k. f k ≡ true) (range_with_len 0 n) 0 (length (range_with_len 0 n)))
+          ((k : ℕ) × (k < length (range_with_len 0 n)) × HoldsAt (λ k. f k ≡ false) (range_with_len 0 n) k)
+          → b ≡ every f 0 n
+      go true all =
+          sym (below_every n (λ k l.
+          let e = at k l in rw e at (all k 0 (omega arith) (omega (arith, length-range_with_len 0 n)))))
+      go false found =
+          let l : found.0 < n = omega (arith, found.1, length-range_with_len 0 n) in
+          let e = at found.0 l in
+          let fails : f found.0 ≡ false = rw e at (found.2 0) in
+          no_every (every f 0 n) refl found.0 l fails
+        where
+          no_every : (x : Bool) → every f 0 n ≡ x → (k : ℕ) → k < n → f k ≡ false → false ≡ every f 0 n
+          no_every false p k l e = sym p
+          no_every true p k l e = let holds = every_below f n p k l in cc
 
   -- a number of the run that the test holds of
   abbrev pub Found : (q n : ℕ) → Type 0

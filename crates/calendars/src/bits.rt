@@ -54,12 +54,10 @@ pub fn counted_before(x: Quarters, quarter: u32) -> u32
 pub fn next_counted(x: Quarters, quarter: u32) -> u32
     ensures { result ≡ next (held x) quarter (96 - quarter) }
 {
-    let mut q = quarter;
-    while q < 96 {
+    for q in quarter..96 {
         if counts_at(x, q) {
             return q;
         }
-        q += 1;
     }
-    q
+    quarter.max(96)
 }

@@ -3,7 +3,7 @@ ghost use Rattle.std.specs.Prelude.{◌≡◌};
 ghost use Rattle.calendars.specs.Answers.{counted, number_of, answer_of};
 
 use crate::Quarters;
-use crate::rules::sound_week;
+use crate::rules::sound;
 use crate::windows::quarters;
 
 // Which quarters of a weekday count, and how many.
@@ -35,13 +35,7 @@ impl HoursError {
 pub fn counted(calendar: &[u32], weekday: u32) -> Result<CountedQuarters, HoursError>
     ensures { answer_of result ≡ counted calendar.now weekday }
 {
-    if calendar.len() != 182 {
-        return Err(HoursError::UnsoundCalendar);
-    }
-    if 6 < weekday {
-        return Err(HoursError::UnsoundCalendar);
-    }
-    if !sound_week(calendar) {
+    if !sound(calendar, weekday) {
         return Err(HoursError::UnsoundCalendar);
     }
     let quarters = quarters(calendar, weekday as usize);

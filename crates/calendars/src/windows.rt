@@ -12,19 +12,16 @@ fn marked(calendar: &[u32], at: usize, n: u32) -> Quarters
     requires { at + 2 * n ≤ length calendar.now }
     ensures { result ≡ quarters_where (lies calendar.now at n) }
 {
-    let windows = n as usize;
     let mut low = 0;
     let mut middle = 0;
     let mut high = 0;
-    let mut i = 0;
-    while i < windows {
+    for i in 0..n as usize {
         let place = at + 2 * i;
         let start = quarter_from(calendar[place]);
         let end = quarter_from(calendar[place + 1]);
-        low = low | span(start, end, 0);
-        middle = middle | span(start, end, 32);
-        high = high | span(start, end, 64);
-        i += 1;
+        low |= span(start, end, 0);
+        middle |= span(start, end, 32);
+        high |= span(start, end, 64);
     }
     Quarters { low, middle, high }
 }
