@@ -1,7 +1,8 @@
 // A host's walk from gate to gate: within a piece of a program up to the next product or refresh, and over the pieces
 // of the orders of a job. Additions and subtractions are done at once (R-2).
-ghost use Rattle.std.specs.Prelude.{◌≡◌, ◌/◌, ◌+◌, ◌^◌, ◌≤◌, ◌<◌, length, drop};
-ghost use Rattle.gates.specs.Codes.{fetched, read};
+ghost use Rattle.std.specs.Prelude.{◌≡◌, ◌/◌, ◌+◌, ◌^◌, ◌≤◌, ◌<◌, [], ◌∷◌, length, drop, MatchOption};
+ghost use Rattle.gates.specs.Codes.{fetched, read, step_of};
+ghost use Rattle.gates.specs.Walk.{Exchanging};
 ghost use Rattle.gates.specs.Steps.{Lane};
 ghost use Rattle.tables.specs.Table.{rows};
 ghost use Rattle.program_fetch.specs.Pieces.{piece_gates};
@@ -14,18 +15,19 @@ ghost use Rattle.worker.specs.Answers.{halt_on};
 ghost use Rattle.worker.specs.Jobs.{Sized};
 
 use calls::Stored;
-use gate_shape::used_by;
-use gates::{FIRST_EXCHANGE, GateCode, PAST, Used};
+use gate_shape::{exchanges, used_by};
+use gates::{GateCode, Used};
 use job_add::{add_in_place, adds_here};
 use job_order::order_at;
 use program_fetch::{Piece, gate_at, piece_at};
 use worker_gate::{Reach, say, step};
 
-// Where a walk through a piece stopped, by the gate's index in the piece, and the gate there.
+// Where a walk through a piece stopped, by the gate's index in the piece, and the product or refresh there; none past
+// the last gate.
 #[derive(Clone, Copy)]
 struct Stop {
     at: Reach,
-    gate: GateCode,
+    gate: Option<GateCode>,
 }
 
 // Where a walk through a job halted: the word given, the place, and the walk's places there.
@@ -106,8 +108,10 @@ fn walk_piece(
         (piece_gates 32 (rows table.now) p)
         p.from from.a from.deals (m.old, mask.old)
         result.at.gate result.at.a result.at.deals (m.new, mask.new)
-        × (read result.gate ≡ fetched (piece_gates 32 (rows table.now) p) result.at.gate)
-        × (15 ≤ result.gate.op) }
+        × MatchOption result.gate
+        (length (piece_gates 32 (rows table.now) p) ≤ result.at.gate)
+        (λ g. (read g ≡ fetched (piece_gates 32 (rows table.now) p) result.at.gate)
+        × Exchanging (step_of 32 g ∷ [])) }
 {
     let mut at = Reach {
         gate: p.from,
@@ -116,20 +120,16 @@ fn walk_piece(
     };
     while at.gate < p.end {
         let gate = gate_at(p, table, at.gate);
-        if FIRST_EXCHANGE <= gate.op {
-            return Stop { at, gate };
+        if exchanges(gate) {
+            return Stop {
+                at,
+                gate: Some(gate),
+            };
         }
         step(host, gate, masks, deals, at.a, at.deals, m, mask);
         at = behind(used_by(gate), at);
     }
-    let gate = GateCode {
-        op: PAST,
-        d: 0,
-        a: 0,
-        b: 0,
-        n: 0,
-    };
-    Stop { at, gate }
+    Stop { at, gate: None }
 }
 
 // From a place of an accepted job to the next product or refresh, or to the end, on the lanes in place: the halt there,
@@ -169,8 +169,7 @@ pub(crate) fn advance(
         let p = piece_at(o, table, at.gate);
         let stop = walk_piece(host, p, table, masks, deals, at, m, mask);
         let reached = stop.at;
-        let g = stop.gate;
-        if g.op < PAST {
+        if let Some(g) = stop.gate {
             let word = say(host, g, masks, deals, reached, b, m, mask);
             let stored = places_with(used_by(g), reached, b);
             return halted(word, order as u32, turn, stored);

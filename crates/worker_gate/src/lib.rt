@@ -12,7 +12,7 @@ ghost use Rattle.walks.specs.Workers.{cursor, deal_taken, new_mask, sum_of, hear
 use gate_local::{step_m, step_mask};
 use gate_shape::{shape_of, used_by};
 use gate_speak::{met_word, word1, word2};
-use gates::{FIRST_DEAL, GateCode, Shape};
+use gates::{GateCode, Shape};
 use word_lists::{put, word_after, word_at};
 
 // Where a walk stands: at a gate, of an order or of a piece of it, with so many words of A and deals used.
@@ -52,11 +52,10 @@ pub fn step(
 {
     step_m(g, m);
     // a local gate takes nothing
-    if g.op < FIRST_DEAL {
-        step_mask(g, 0, mask);
-        return;
+    match shape_of(g) {
+        Shape::Dealing { .. } => step_mask(g, deal_taken(host, masks, deals, a, dealt), mask),
+        _ => step_mask(g, 0, mask),
     }
-    step_mask(g, deal_taken(host, masks, deals, a, dealt), mask);
 }
 
 // Host 1's new mask is from A, after g1 where the gate uses two words of it, host 2's from B.

@@ -2,6 +2,7 @@ use mathlib.Core.Path.{refl, sym, ap, ◌∙◌}
 use native.Mathlib.Omega.{arith}
 use Prim.Native.Nat.{◌/◌, ◌+◌, ◌-◌, ◌<◌, ◌≤◌}
 use lib.ListN.{length}
+use Rattle.std.proofs.lemmas.Option.{MatchOption-at_some, MatchOption-at_none}
 use Rattle.gates.specs.Codes.{step_of}
 use Rattle.gates.proofs.Uses as Uses
 use Rattle.tables.specs.Table.{rows}
@@ -65,7 +66,7 @@ places_with-stored-requires c =
     let S = piece_stands c.piece_at-p.ensures in
     let h : c.loop-order.order < length c.args.job.now / 4 = omega (arith, c.loop-order-test.true, c.loop-order.invariant.0) in
     let f = few_used 32 (rows c.args.table.now) _ l.at.gate _ S _ _ _ _ _ _ _ _ c.walk_piece-stop.ensures.0 in
-    let g = Uses.few_used (step_of 32 c.walk_piece-stop.result.gate) _ c.used_by.ensures in (
+    let g = Uses.few_used (step_of 32 c.in-Some.g) _ c.used_by.ensures in (
       omega (arith, g),
       omega (arith, g),
       omega (arith, f, S.few, l.invariant.1, l.invariant.3, h, c.requires.0.few_words),
@@ -73,22 +74,23 @@ places_with-stored-requires c =
       omega (arith, c.requires.4),
     )
 
-pub overflow_cast-order-then-g-lt-PAST : goal.overflow_cast-order-then-g-lt-PAST
-overflow_cast-order-then-g-lt-PAST c =
+pub overflow_cast-order-in-Some : goal.overflow_cast-order-in-Some
+overflow_cast-order-in-Some c =
     omega (arith, c.loop-order.invariant.2)
 
-pub returns-then-g-lt-PAST : goal.returns-then-g-lt-PAST
-returns-then-g-lt-PAST c =
+pub returns-in-Some : goal.returns-in-Some
+returns-in-Some c =
     let l = c.loop-order in
     let a = c.args in
     let J = a.job.now in
     let T = a.table.now in
     let there = order_there 32 J T l.order (omega (arith, c.loop-order-test.true, c.loop-order.invariant.0)) _ c.order_at-o.ensures in
     let r = c.walk_piece-stop.ensures in
+    let there_is = MatchOption-at_some _ _ _ c.in-Some.is r.1 in
     c.halted.ensures _ _
     ∙ sym (at_exchange 32 (rows T) _ l.at.gate _ (piece_stands c.piece_at-p.ensures) a.host a.masks.now a.deals.now
-    (job_gates 32 J T) l.order l.turn l.at.a a.b l.at.deals (l.m, l.mask) there _ _ _ _ _ r.0 _ r.1 r.2
-    c.if-g-lt-PAST.true _ c.say-word.ensures _ c.used_by.ensures _ c.places_with-stored.ensures)
+    (job_gates 32 J T) l.order l.turn l.at.a a.b l.at.deals (l.m, l.mask) there _ _ _ _ _ r.0 c.in-Some.g there_is.0 there_is.1
+    _ c.say-word.ensures _ c.used_by.ensures _ c.places_with-stored.ensures)
     ∙ l.invariant.6
 
 pub overflow_add-order-then-p : goal.overflow_add-order-then-p
@@ -123,7 +125,7 @@ loop-order-preserved-then-p c =
     let f = few_used 32 (rows T) _ l.at.gate _ S _ _ _ _ _ _ _ _ r.0 in
     let next =
     next_order 32 (rows T) _ l.at.gate _ S a.host M D (job_gates 32 J T) l.order l.turn l.at.a a.b l.at.deals
-    (l.m, l.mask) there _ _ _ _ _ r.0 _ r.1 c.if-g-lt-PAST.false c.if-p.true in (
+    (l.m, l.mask) there _ _ _ _ _ r.0 (MatchOption-at_none _ _ c.in_default.is r.1) c.if-p.true in (
       l.invariant.0,
       omega arith,
       omega (arith, h, c.requires.0.few_words),
@@ -154,7 +156,7 @@ loop-order-preserved c =
     let f = few_used 32 (rows T) _ l.at.gate _ S _ _ _ _ _ _ _ _ r.0 in
     let next =
     next_piece 32 (rows T) _ l.at.gate _ S a.host M D (job_gates 32 J T) l.order l.turn l.at.a a.b l.at.deals
-    (l.m, l.mask) there _ _ _ _ _ r.0 _ r.1 c.if-g-lt-PAST.false c.if-p.false in (
+    (l.m, l.mask) there _ _ _ _ _ r.0 (MatchOption-at_none _ _ c.in_default.is r.1) c.if-p.false in (
       l.invariant.0,
       omega (
         arith,
