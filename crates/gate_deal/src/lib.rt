@@ -8,7 +8,7 @@ ghost use Rattle.shares.specs.Gates.{product_deal};
 ghost use Rattle.gates.specs.Speech.{dealt_word};
 ghost use Rattle.gates.specs.Codes.{step_of};
 
-use gates::{AND, DEAL_BITS, DEAL_NEGATED, DEAL_SIGNED, DEAL_SUM, DEAL_XOR, GateCode, MUL};
+use gates::{GateCode, Op};
 use word_lists::at;
 use word_parts::{field, signed_floor};
 use words::rings::{Arithmetic, Bits, Numbers};
@@ -40,17 +40,16 @@ fn product_deal<R: Arithmetic>(a1: u32, a2: u32, b1: u32, b2: u32, g1: u32) -> u
 pub fn deal_word(g: GateCode, x: u32, l1: &[u32; 24], l2: &[u32; 24]) -> u32
     ensures { result ≡ dealt_word (step_of 32 g) x l1.now l2.now }
 {
-    let op = g.op;
     let a1 = at(l1, g.a);
     let a2 = at(l2, g.a);
-    match op {
-        DEAL_SUM => second_mask::<Numbers>(field(Numbers::plus(a1, a2), g.n, g.b), x),
-        DEAL_NEGATED => second_mask::<Numbers>(field(negated_sum(a1, a2), g.n, g.b), x),
-        DEAL_SIGNED => second_mask::<Numbers>(signed_floor(negated_sum(a1, a2), g.n), x),
-        DEAL_XOR => second_mask::<Numbers>(a1 ^ a2, x),
-        DEAL_BITS => second_mask::<Bits>(negated_sum(a1, a2), x),
-        MUL => product_deal::<Numbers>(a1, a2, at(l1, g.b), at(l2, g.b), x),
-        AND => product_deal::<Bits>(a1, a2, at(l1, g.b), at(l2, g.b), x),
+    match g.op {
+        Op::DealSum => second_mask::<Numbers>(field(Numbers::plus(a1, a2), g.n, g.b), x),
+        Op::DealNegated => second_mask::<Numbers>(field(negated_sum(a1, a2), g.n, g.b), x),
+        Op::DealSigned => second_mask::<Numbers>(signed_floor(negated_sum(a1, a2), g.n), x),
+        Op::DealXor => second_mask::<Numbers>(a1 ^ a2, x),
+        Op::DealBits => second_mask::<Bits>(negated_sum(a1, a2), x),
+        Op::Mul => product_deal::<Numbers>(a1, a2, at(l1, g.b), at(l2, g.b), x),
+        Op::And => product_deal::<Bits>(a1, a2, at(l1, g.b), at(l2, g.b), x),
         _ => 0,
     }
 }

@@ -2,32 +2,34 @@
 // `Costs`).
 #![tactic(auto)]
 
-ghost use Rattle.std.specs.Prelude.{◌≡◌};
+ghost use Rattle.std.specs.Prelude.{◌≡◌, ◌↔◌, [], ◌∷◌, IsTrue};
 ghost use Rattle.gates.specs.Speech.{shape};
 ghost use Rattle.gates.specs.Codes.{step_of};
 ghost use Rattle.gates.specs.Costs.{used_at};
+ghost use Rattle.gates.specs.Walk.{Exchanging};
 
-use gates::{FIRST_DEAL, FIRST_EXCHANGE, FIRST_UNDEALT, GateCode, PAST, Shape, Used};
+use gates::{GateCode, Op, Shape, Used};
 
 // A product or refresh waits for a word; a deal takes one; every other gate is local.
 pub fn shape_of(g: GateCode) -> Shape
     ensures { result ≡ shape (step_of 32 g) }
 {
-    let op = g.op;
     let d = g.d;
-    if op < FIRST_DEAL {
-        return Shape::Local;
+    match g.op {
+        Op::DealSum | Op::DealNegated | Op::DealSigned | Op::DealXor | Op::DealBits => {
+            Shape::Dealing { d }
+        }
+        Op::Mul | Op::And => Shape::Product { d },
+        Op::Refresh | Op::MulKnown | Op::AndKnown => Shape::Undealt { d },
+        _ => Shape::Local,
     }
-    if op < FIRST_EXCHANGE {
-        return Shape::Dealing { d };
-    }
-    if op < FIRST_UNDEALT {
-        return Shape::Product { d };
-    }
-    if op < PAST {
-        return Shape::Undealt { d };
-    }
-    Shape::Local
+}
+
+// Whether hosts 1 and 2 exchange words at the gate: a product or refresh, which a walk halts at.
+pub fn exchanges(g: GateCode) -> bool
+    ensures { IsTrue result ↔ Exchanging (step_of 32 g ∷ []) }
+{
+    matches!(shape_of(g), Shape::Product { .. } | Shape::Undealt { .. })
 }
 
 // A deal takes its first mask from A; a product g1 and a mask of A, a mask of B, and a deal; a refresh and a product

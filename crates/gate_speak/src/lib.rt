@@ -8,7 +8,7 @@ ghost use Rattle.shares.specs.Gates.{known_product_word1, known_product_word2};
 ghost use Rattle.gates.specs.Speech.{spoken1, spoken2, met};
 ghost use Rattle.gates.specs.Codes.{step_of};
 
-use gates::{AND, AND_KNOWN, GateCode, MUL, MUL_KNOWN, REFRESH};
+use gates::{GateCode, Op};
 use word_lists::at;
 use words::rings::{Arithmetic, Bits, Numbers};
 
@@ -65,15 +65,14 @@ fn known_word2<R: Arithmetic>(v: u32, b2: u32, l2: u32) -> u32
 pub fn word1(g: GateCode, m: &[u32; 24], l: &[u32; 24], g1: u32, l1: u32) -> u32
     ensures { result ≡ spoken1 (step_of 32 g) m.now l.now g1 l1 }
 {
-    let op = g.op;
     let a = g.a;
     let b = g.b;
-    match op {
-        MUL => product_word1::<Numbers>(at(m, a), at(m, b), at(l, a), at(l, b), g1, l1),
-        AND => product_word1::<Bits>(at(m, a), at(m, b), at(l, a), at(l, b), g1, l1),
-        REFRESH => refresh_word1::<Numbers>(at(m, a), at(l, a), l1),
-        MUL_KNOWN => known_word1::<Numbers>(at(m, a), at(m, b), at(l, b), l1),
-        AND_KNOWN => known_word1::<Bits>(at(m, a), at(m, b), at(l, b), l1),
+    match g.op {
+        Op::Mul => product_word1::<Numbers>(at(m, a), at(m, b), at(l, a), at(l, b), g1, l1),
+        Op::And => product_word1::<Bits>(at(m, a), at(m, b), at(l, a), at(l, b), g1, l1),
+        Op::Refresh => refresh_word1::<Numbers>(at(m, a), at(l, a), l1),
+        Op::MulKnown => known_word1::<Numbers>(at(m, a), at(m, b), at(l, b), l1),
+        Op::AndKnown => known_word1::<Bits>(at(m, a), at(m, b), at(l, b), l1),
         _ => 0,
     }
 }
@@ -82,15 +81,14 @@ pub fn word1(g: GateCode, m: &[u32; 24], l: &[u32; 24], g1: u32, l1: u32) -> u32
 pub fn word2(g: GateCode, m: &[u32; 24], l: &[u32; 24], g2: u32, l2: u32) -> u32
     ensures { result ≡ spoken2 (step_of 32 g) m.now l.now g2 l2 }
 {
-    let op = g.op;
     let a = g.a;
     let b = g.b;
-    match op {
-        MUL => product_word2::<Numbers>(at(m, a), at(m, b), at(l, a), at(l, b), g2, l2),
-        AND => product_word2::<Bits>(at(m, a), at(m, b), at(l, a), at(l, b), g2, l2),
-        REFRESH => refresh_word2::<Numbers>(at(l, a), l2),
-        MUL_KNOWN => known_word2::<Numbers>(at(m, a), at(l, b), l2),
-        AND_KNOWN => known_word2::<Bits>(at(m, a), at(l, b), l2),
+    match g.op {
+        Op::Mul => product_word2::<Numbers>(at(m, a), at(m, b), at(l, a), at(l, b), g2, l2),
+        Op::And => product_word2::<Bits>(at(m, a), at(m, b), at(l, a), at(l, b), g2, l2),
+        Op::Refresh => refresh_word2::<Numbers>(at(l, a), l2),
+        Op::MulKnown => known_word2::<Numbers>(at(m, a), at(l, b), l2),
+        Op::AndKnown => known_word2::<Bits>(at(m, a), at(l, b), l2),
         _ => 0,
     }
 }
@@ -99,13 +97,12 @@ pub fn word2(g: GateCode, m: &[u32; 24], l: &[u32; 24], g2: u32, l2: u32) -> u32
 pub fn met_word(g: GateCode, u: u32, v: u32) -> u32
     ensures { result ≡ met (step_of 32 g) u v }
 {
-    let op = g.op;
-    match op {
-        MUL => Numbers::plus(u, v),
-        AND => Bits::plus(u, v),
-        REFRESH => Numbers::plus(u, v),
-        MUL_KNOWN => Numbers::plus(u, v),
-        AND_KNOWN => Bits::plus(u, v),
+    match g.op {
+        Op::Mul => Numbers::plus(u, v),
+        Op::And => Bits::plus(u, v),
+        Op::Refresh => Numbers::plus(u, v),
+        Op::MulKnown => Numbers::plus(u, v),
+        Op::AndKnown => Bits::plus(u, v),
         _ => 0,
     }
 }

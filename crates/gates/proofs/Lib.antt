@@ -8,5 +8,5 @@ pub mod Turns
 pub mod Duet
 pub mod Fetched
 pub mod Codes
-pub mod Spoken
+pub mod Shapes
 pub mod Known

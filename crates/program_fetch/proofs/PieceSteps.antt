@@ -1,15 +1,16 @@
 -- The steps of a walk by the pieces of a program: those of a piece, and what stands behind it; and the code of the gate at an index.
 -- Assumes nothing.
-use Rattle.std.proofs.Common.{◌≡◌, ℕ, suc, ◌+◌, ◌-◌, ◌<◌, ◌≤◌, Bool, true, false, cond, List, [], ◌∷◌, ◌++◌, map, length, drop, sym, refl, ap, ◌∙◌, arith, length-append, length-drop}
+use Rattle.std.proofs.Common.{◌≡◌, ℕ, suc, ◌+◌, ◌-◌, ◌<◌, ◌≤◌, Bool, true, false, cond, List, [], ◌∷◌, ◌++◌, map, length, drop, sym, refl, ap, ◌∙◌, subst, arith, length-append, length-drop}
 use lib.ListN.{length-map}
+use native.Mathlib.Decide.{dec_lt}
 use Rattle.gates.specs.declared.GateCode.{GateCode}
 use Rattle.gates.specs.Gates.{Gate}
 use Rattle.gates.specs.Steps.{Step, end}
 use Rattle.gates.specs.Meaning.{meaning, order_steps}
-use Rattle.gates.specs.Codes.{fetched, gates_with, read, step_of}
-use Rattle.gates.proofs.Fetched as Fetched
+use Rattle.gates.specs.Codes.{fetched, read, step_of}
+use Rattle.gates.specs.Walk.{Exchanging}
 use Rattle.gates.proofs.Fetched.{first_left, some_gate, beyond}
-use Rattle.gates.proofs.Codes.{read_at}
+use Rattle.gates.proofs.Codes.{read_at, read_past}
 use Rattle.tables.specs.Table.{Row}
 use Rattle.programs.specs.declared.Order.{Order}
 use Rattle.programs.specs.Orders.{program}
@@ -20,18 +21,15 @@ use Rattle.program_fetch.proofs.Stands.{Stands}
 -- ---- the code of the gate at an index
 
 module _ (w : ℕ) (gs : List Gate) (i : ℕ) (c : GateCode) (e : read c ≡ fetched gs i) where
-  -- the gates that its operands make, of which its operation takes one
-  abbrev choices : List Gate
-  choices = gates_with c.d c.a c.b c.n
-
-  -- told by the operation
-  pub inside : c.op < 20 → i < length gs
-  unfolding read gates_with
-  inside h = let p = some_gate choices c.op h in Fetched.inside gs i p.0 (sym e ∙ p.1)
-
-  pub outside : 20 ≤ c.op → length gs ≤ i
-  unfolding read gates_with
-  outside h = Fetched.outside gs i (sym e ∙ beyond choices c.op h)
+  -- told by the step: past the last gate no word is exchanged
+  pub inside : Exchanging (step_of w c ∷ []) → i < length gs
+  inside h =
+      elim (dec_lt i (length gs)) [
+        | yes l ↦ l
+        | no n ↦
+            let past : step_of w c ≡ end = read_past w c (e ∙ beyond gs i (omega (arith, n))) in
+            absurd (subst (λ (x : Step). Exchanging (x ∷ [])) past h)
+      ]
 
   -- the steps from there on
   pub first_step : i < length gs → map (meaning w) (drop i gs) ≡ step_of w c ∷ map (meaning w) (drop (suc i) gs)

@@ -1,5 +1,5 @@
 -- The pieces that the code walks a program by: their gates, and the piece in which a gate stands. Assumes nothing.
-use Rattle.std.specs.Prelude.{ℕ, zero, suc, ◌+◌, ◌-◌, ◌*◌, ◌/◌, ◌%◌, ◌^◌, true, false, cond, List, []}
+use Rattle.std.specs.Prelude.{ℕ, zero, suc, ◌-◌, ◌*◌, ◌/◌, ◌%◌, ◌^◌, true, false, cond, List, []}
 use Rattle.std.specs.Prelude.{◌∷◌, ◌++◌, length, take, pos, ◌-ℤ◌, ◌==◌, nat_lt, slice_index_or}
 use Rattle.words.specs.Words.{neg}
 use Rattle.words.specs.Signed.{wrap}

@@ -5,9 +5,7 @@ ghost use Rattle.programs.specs.Programs.{adder, rounds, sign_program, to_number
 ghost use Rattle.truncations.specs.Adder.{distances, updates};
 
 use crate::codes::{on_slots, past, with_constant, with_part};
-use gates::{
-    ADD, AND, AND_KNOWN, BIT, DEAL_BITS, DEAL_XOR, GateCode, MUL_KNOWN, PUBLIC, SCALE, SUB, UP, XOR,
-};
+use gates::{GateCode, Op};
 use programs::{
     ADDER_GATES, ADDER_HEAD, G_SLOT, N_SLOT, P_SLOT, ROUND_GATES, S_SLOT, SIGN_BIT, SIGN_NUMBER,
     SIGN_XOR, T_SLOT, WIDTH,
@@ -23,11 +21,11 @@ fn round_gate(i: usize) -> GateCode
     }
     let distance = 1u32 << (i / ROUND_GATES) as u32;
     match i % ROUND_GATES {
-        0 => with_constant(UP, S_SLOT, G_SLOT, distance),
-        1 => on_slots(AND, T_SLOT, P_SLOT, S_SLOT),
-        2 => on_slots(XOR, G_SLOT, G_SLOT, T_SLOT),
-        3 => with_constant(UP, S_SLOT, P_SLOT, distance),
-        _ => on_slots(AND, P_SLOT, P_SLOT, S_SLOT),
+        0 => with_constant(Op::Up, S_SLOT, G_SLOT, distance),
+        1 => on_slots(Op::And, T_SLOT, P_SLOT, S_SLOT),
+        2 => on_slots(Op::Xor, G_SLOT, G_SLOT, T_SLOT),
+        3 => with_constant(Op::Up, S_SLOT, P_SLOT, distance),
+        _ => on_slots(Op::And, P_SLOT, P_SLOT, S_SLOT),
     }
 }
 
@@ -37,11 +35,11 @@ pub(crate) fn adder_gate(x: u32, i: usize) -> GateCode
     ensures { read result ≡ fetched (adder 32 x) i }
 {
     match i {
-        0 => on_slots(DEAL_BITS, N_SLOT, x, 0),
-        1 => with_part(PUBLIC, P_SLOT, x, 0, WIDTH),
-        2 => on_slots(AND_KNOWN, G_SLOT, P_SLOT, N_SLOT),
-        3 => on_slots(XOR, P_SLOT, P_SLOT, N_SLOT),
-        4 => with_constant(BIT, N_SLOT, P_SLOT, WIDTH - 1),
+        0 => on_slots(Op::DealBits, N_SLOT, x, 0),
+        1 => with_part(Op::Public, P_SLOT, x, 0, WIDTH),
+        2 => on_slots(Op::AndKnown, G_SLOT, P_SLOT, N_SLOT),
+        3 => on_slots(Op::Xor, P_SLOT, P_SLOT, N_SLOT),
+        4 => with_constant(Op::Bit, N_SLOT, P_SLOT, WIDTH - 1),
         _ => round_gate(i - ADDER_HEAD),
     }
 }
@@ -51,12 +49,12 @@ pub(crate) fn number_gate(i: usize) -> GateCode
     ensures { read result ≡ fetched (to_number 32) i }
 {
     match i {
-        0 => on_slots(DEAL_XOR, S_SLOT, T_SLOT, 0),
-        1 => with_part(PUBLIC, P_SLOT, T_SLOT, 0, WIDTH),
-        2 => on_slots(MUL_KNOWN, T_SLOT, P_SLOT, S_SLOT),
-        3 => with_constant(SCALE, T_SLOT, T_SLOT, 2),
-        4 => on_slots(ADD, P_SLOT, P_SLOT, S_SLOT),
-        5 => on_slots(SUB, T_SLOT, P_SLOT, T_SLOT),
+        0 => on_slots(Op::DealXor, S_SLOT, T_SLOT, 0),
+        1 => with_part(Op::Public, P_SLOT, T_SLOT, 0, WIDTH),
+        2 => on_slots(Op::MulKnown, T_SLOT, P_SLOT, S_SLOT),
+        3 => with_constant(Op::Scale, T_SLOT, T_SLOT, 2),
+        4 => on_slots(Op::Add, P_SLOT, P_SLOT, S_SLOT),
+        5 => on_slots(Op::Sub, T_SLOT, P_SLOT, T_SLOT),
         _ => past(),
     }
 }
@@ -69,8 +67,8 @@ pub(crate) fn sign_gate(x: u32, i: usize) -> GateCode
         return adder_gate(x, i);
     }
     match i {
-        SIGN_BIT => with_constant(BIT, T_SLOT, G_SLOT, WIDTH - 2),
-        SIGN_XOR => on_slots(XOR, T_SLOT, T_SLOT, N_SLOT),
+        SIGN_BIT => with_constant(Op::Bit, T_SLOT, G_SLOT, WIDTH - 2),
+        SIGN_XOR => on_slots(Op::Xor, T_SLOT, T_SLOT, N_SLOT),
         _ => number_gate(i - SIGN_NUMBER),
     }
 }

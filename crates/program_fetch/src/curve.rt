@@ -10,7 +10,7 @@ ghost use Rattle.program_fetch.specs.Pieces.{change, first_gates, row_start, row
 use crate::blocks::sign_gate;
 use crate::codes::{on_slots, past, with_constant};
 use crate::kinds::minus;
-use gates::{ADD, CONST, GateCode, MUL, PLUS, SCALE, SUB};
+use gates::{GateCode, Op};
 use programs::{
     ACC_SLOT, RES_SLOT, SATURATION_HEAD, SATURATION_LAST, SATURATION_PLUS, SATURATION_PRODUCT,
     T_SLOT, Y_SLOT,
@@ -65,7 +65,7 @@ pub(crate) fn first_gate(table: &[u32], i: usize) -> GateCode
     ensures { read result ≡ fetched (first_gates 32 (rows table.now)) i }
 {
     match i {
-        0 => with_constant(CONST, ACC_SLOT, 0, first_term(table)),
+        0 => with_constant(Op::Const, ACC_SLOT, 0, first_term(table)),
         _ => past(),
     }
 }
@@ -86,7 +86,7 @@ pub(crate) fn row_start_gate(x: u32, table: &[u32], row: usize, i: usize) -> Gat
     ensures { read result ≡ fetched (row_start 32 (rows table.now) row x) i }
 {
     match i {
-        0 => with_constant(PLUS, Y_SLOT, x, minus(row_count(table, row))),
+        0 => with_constant(Op::Plus, Y_SLOT, x, minus(row_count(table, row))),
         _ => past(),
     }
 }
@@ -96,8 +96,8 @@ pub(crate) fn row_end_gate(table: &[u32], row: usize, i: usize) -> GateCode
     ensures { read result ≡ fetched (row_end 32 (rows table.now) row) i }
 {
     match i {
-        0 => with_constant(SCALE, RES_SLOT, RES_SLOT, slope_change(table, row)),
-        1 => on_slots(ADD, ACC_SLOT, ACC_SLOT, RES_SLOT),
+        0 => with_constant(Op::Scale, RES_SLOT, RES_SLOT, slope_change(table, row)),
+        1 => on_slots(Op::Add, ACC_SLOT, ACC_SLOT, RES_SLOT),
         _ => past(),
     }
 }
@@ -119,12 +119,12 @@ pub(crate) fn saturation_gate(x: u32, d: u32, table: &[u32], i: usize) -> GateCo
     ensures { read result ≡ fetched (saturation 32 (last_count (rows table.now)) x d) i }
 {
     match i {
-        0 => with_constant(CONST, Y_SLOT, 0, last_count(table)),
-        1 => on_slots(SUB, Y_SLOT, Y_SLOT, x),
+        0 => with_constant(Op::Const, Y_SLOT, 0, last_count(table)),
+        1 => on_slots(Op::Sub, Y_SLOT, Y_SLOT, x),
         SATURATION_HEAD..SATURATION_PLUS => sign_gate(Y_SLOT, i - SATURATION_HEAD),
-        SATURATION_PLUS => with_constant(PLUS, RES_SLOT, ACC_SLOT, 1),
-        SATURATION_PRODUCT => on_slots(MUL, RES_SLOT, T_SLOT, RES_SLOT),
-        SATURATION_LAST => on_slots(SUB, d, ACC_SLOT, RES_SLOT),
+        SATURATION_PLUS => with_constant(Op::Plus, RES_SLOT, ACC_SLOT, 1),
+        SATURATION_PRODUCT => on_slots(Op::Mul, RES_SLOT, T_SLOT, RES_SLOT),
+        SATURATION_LAST => on_slots(Op::Sub, d, ACC_SLOT, RES_SLOT),
         _ => past(),
     }
 }

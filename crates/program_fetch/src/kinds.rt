@@ -7,10 +7,7 @@ ghost use Rattle.programs.specs.Orders.{program};
 
 use crate::blocks::{adder_gate, number_gate, sign_gate};
 use crate::codes::{on_slots, past, with_constant, with_part};
-use gates::{
-    ADD, BIT, CONST, DEAL_NEGATED, DEAL_SIGNED, DEAL_SUM, GateCode, MUL, MUL_KNOWN, PLUS, PUBLIC,
-    PUBLIC_SIGNED, REFRESH, SCALE, SUB,
-};
+use gates::{GateCode, Op};
 use programs::{
     EXACT_HEAD, EXACT_LAST, EXACT_LOW, EXACT_LOW_NUMBER, EXACT_SCALE, EXACT_SUB, EXACT_SUM,
     EXACT_TOP, EXACT_TOP_NUMBER, G_SLOT, N_SLOT, Order, P_SLOT, RELU_LAST, RELU_ONE, RELU_SUB,
@@ -65,12 +62,12 @@ pub(crate) fn one_gate(o: Order, i: usize) -> GateCode
     let a = o.source;
     let c = o.fourth;
     match kind {
-        0 => on_slots(ADD, d, a, c),
-        1 => on_slots(SUB, d, a, c),
-        2 => with_constant(PLUS, d, a, c),
-        3 => with_constant(SCALE, d, a, c),
-        4 => on_slots(MUL, d, a, c),
-        _ => on_slots(REFRESH, d, a, 0),
+        0 => on_slots(Op::Add, d, a, c),
+        1 => on_slots(Op::Sub, d, a, c),
+        2 => with_constant(Op::Plus, d, a, c),
+        3 => with_constant(Op::Scale, d, a, c),
+        4 => on_slots(Op::Mul, d, a, c),
+        _ => on_slots(Op::Refresh, d, a, 0),
     }
 }
 
@@ -79,9 +76,9 @@ pub(crate) fn slack_gate(k: u32, x: u32, d: u32, i: usize) -> GateCode
     ensures { read result ≡ fetched (slack_program k x d) i }
 {
     match i {
-        0 => with_constant(DEAL_SIGNED, N_SLOT, x, k),
-        1 => with_constant(PUBLIC_SIGNED, P_SLOT, x, k),
-        2 => on_slots(ADD, d, N_SLOT, P_SLOT),
+        0 => with_constant(Op::DealSigned, N_SLOT, x, k),
+        1 => with_constant(Op::PublicSigned, P_SLOT, x, k),
+        2 => on_slots(Op::Add, d, N_SLOT, P_SLOT),
         _ => past(),
     }
 }
@@ -92,19 +89,19 @@ pub(crate) fn one_bit_gate(k: u32, x: u32, d: u32, i: usize) -> GateCode
     ensures { read result ≡ fetched (one_bit_program 32 k x d) i }
 {
     match i {
-        0 => with_constant(PLUS, Y_SLOT, x, power(WIDTH - 2, 0)),
-        1 => with_part(DEAL_SUM, N_SLOT, Y_SLOT, k, less(WIDTH - 1, k)),
-        2 => with_part(DEAL_SUM, P_SLOT, Y_SLOT, WIDTH - 1, 1),
-        3 => with_part(PUBLIC, G_SLOT, Y_SLOT, k, less(WIDTH - 1, k)),
-        4 => with_part(PUBLIC, S_SLOT, Y_SLOT, WIDTH - 1, 1),
-        5 => on_slots(MUL_KNOWN, T_SLOT, S_SLOT, P_SLOT),
-        6 => with_constant(SCALE, T_SLOT, T_SLOT, 2),
-        7 => on_slots(ADD, P_SLOT, S_SLOT, P_SLOT),
-        8 => on_slots(SUB, P_SLOT, P_SLOT, T_SLOT),
-        9 => with_constant(SCALE, P_SLOT, P_SLOT, power(WIDTH - 1, k)),
-        10 => on_slots(SUB, G_SLOT, G_SLOT, N_SLOT),
-        11 => on_slots(ADD, G_SLOT, G_SLOT, P_SLOT),
-        12 => with_constant(PLUS, d, G_SLOT, minus(power(WIDTH - 2, k))),
+        0 => with_constant(Op::Plus, Y_SLOT, x, power(WIDTH - 2, 0)),
+        1 => with_part(Op::DealSum, N_SLOT, Y_SLOT, k, less(WIDTH - 1, k)),
+        2 => with_part(Op::DealSum, P_SLOT, Y_SLOT, WIDTH - 1, 1),
+        3 => with_part(Op::Public, G_SLOT, Y_SLOT, k, less(WIDTH - 1, k)),
+        4 => with_part(Op::Public, S_SLOT, Y_SLOT, WIDTH - 1, 1),
+        5 => on_slots(Op::MulKnown, T_SLOT, S_SLOT, P_SLOT),
+        6 => with_constant(Op::Scale, T_SLOT, T_SLOT, 2),
+        7 => on_slots(Op::Add, P_SLOT, S_SLOT, P_SLOT),
+        8 => on_slots(Op::Sub, P_SLOT, P_SLOT, T_SLOT),
+        9 => with_constant(Op::Scale, P_SLOT, P_SLOT, power(WIDTH - 1, k)),
+        10 => on_slots(Op::Sub, G_SLOT, G_SLOT, N_SLOT),
+        11 => on_slots(Op::Add, G_SLOT, G_SLOT, P_SLOT),
+        12 => with_constant(Op::Plus, d, G_SLOT, minus(power(WIDTH - 2, k))),
         _ => past(),
     }
 }
@@ -115,19 +112,19 @@ pub(crate) fn exact_gate(k: u32, x: u32, d: u32, i: usize) -> GateCode
     ensures { read result ≡ fetched (exact_program 32 k x d) i }
 {
     match i {
-        0 => with_constant(PLUS, Y_SLOT, x, power(WIDTH - 1, 0)),
-        1 => with_part(DEAL_NEGATED, RES_SLOT, Y_SLOT, k, WIDTH),
-        2 => with_part(PUBLIC, T_SLOT, Y_SLOT, k, WIDTH),
-        3 => on_slots(ADD, RES_SLOT, RES_SLOT, T_SLOT),
+        0 => with_constant(Op::Plus, Y_SLOT, x, power(WIDTH - 1, 0)),
+        1 => with_part(Op::DealNegated, RES_SLOT, Y_SLOT, k, WIDTH),
+        2 => with_part(Op::Public, T_SLOT, Y_SLOT, k, WIDTH),
+        3 => on_slots(Op::Add, RES_SLOT, RES_SLOT, T_SLOT),
         EXACT_HEAD..EXACT_LOW => adder_gate(Y_SLOT, i - EXACT_HEAD),
-        EXACT_LOW => with_constant(BIT, T_SLOT, G_SLOT, less(k, 1)),
+        EXACT_LOW => with_constant(Op::Bit, T_SLOT, G_SLOT, less(k, 1)),
         EXACT_LOW_NUMBER..EXACT_SUM => number_gate(i - EXACT_LOW_NUMBER),
-        EXACT_SUM => on_slots(ADD, RES_SLOT, RES_SLOT, T_SLOT),
-        EXACT_TOP => with_constant(BIT, T_SLOT, G_SLOT, WIDTH - 1),
+        EXACT_SUM => on_slots(Op::Add, RES_SLOT, RES_SLOT, T_SLOT),
+        EXACT_TOP => with_constant(Op::Bit, T_SLOT, G_SLOT, WIDTH - 1),
         EXACT_TOP_NUMBER..EXACT_SCALE => number_gate(i - EXACT_TOP_NUMBER),
-        EXACT_SCALE => with_constant(SCALE, T_SLOT, T_SLOT, full_power(k)),
-        EXACT_SUB => on_slots(SUB, RES_SLOT, RES_SLOT, T_SLOT),
-        EXACT_LAST => with_constant(PLUS, d, RES_SLOT, minus(power(WIDTH - 1, k))),
+        EXACT_SCALE => with_constant(Op::Scale, T_SLOT, T_SLOT, full_power(k)),
+        EXACT_SUB => on_slots(Op::Sub, RES_SLOT, RES_SLOT, T_SLOT),
+        EXACT_LAST => with_constant(Op::Plus, d, RES_SLOT, minus(power(WIDTH - 1, k))),
         _ => past(),
     }
 }
@@ -140,9 +137,9 @@ pub(crate) fn relu_gate(x: u32, d: u32, i: usize) -> GateCode
         return sign_gate(x, i);
     }
     match i {
-        RELU_ONE => with_constant(CONST, S_SLOT, 0, 1),
-        RELU_SUB => on_slots(SUB, S_SLOT, S_SLOT, T_SLOT),
-        RELU_LAST => on_slots(MUL, d, x, S_SLOT),
+        RELU_ONE => with_constant(Op::Const, S_SLOT, 0, 1),
+        RELU_SUB => on_slots(Op::Sub, S_SLOT, S_SLOT, T_SLOT),
+        RELU_LAST => on_slots(Op::Mul, d, x, S_SLOT),
         _ => past(),
     }
 }

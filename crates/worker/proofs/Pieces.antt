@@ -20,14 +20,14 @@ use Rattle.programs.specs.Orders.{program}
 use Rattle.program_fetch.specs.declared.Piece.{Piece}
 use Rattle.program_fetch.specs.Pieces.{piece_gates}
 use Rattle.program_fetch.proofs.Stands.{Stands}
-use Rattle.program_fetch.proofs.PieceSteps.{inside, outside, first_step, piece_cut, gates_behind}
+use Rattle.program_fetch.proofs.PieceSteps.{inside, first_step, piece_cut, gates_behind}
 use Rattle.calls.specs.Lent.{Worker, worker_with}
 use Rattle.calls.specs.declared.Stored.{Stored}
 use Rattle.calls.specs.Calls.{stored_places, Answer, word_at}
 use Rattle.walks.specs.Workers.{cursor}
 use Rattle.walks.specs.Halts.{going_on, reported, steps_from, Going}
 use Rattle.gates.proofs.Fetched.{first_left, never}
-use Rattle.walks.proofs.Within.{exchanging_code}
+use Rattle.gates.specs.Walk.{Exchanging}
 use Rattle.walks.proofs.Programs as Programs
 
 first_same : (x y : Gate) (xs ys : List Gate) → x ∷ xs ≡ y ∷ ys → x ≡ y
@@ -78,26 +78,25 @@ module _ (w : ℕ) (ps : List Row) (ord : Order) (i : ℕ) (p : Piece) (S : Stan
 
   module _ (h : ℕ) (M D : List ℕ) (programs : List (List Gate)) (o x a b dealt : ℕ) (s : Pair)
       (e : drop o programs ≡ program w ps ord ∷ drop (suc o) programs) (j a' dealt' : ℕ) (m l : Lane)
-      (q : Going w (worker_with h M D) (piece_gates w ps p) p.from a dealt s j a' dealt' (m, l)) (c : GateCode)
-      (ec : read c ≡ fetched (piece_gates w ps p) j) where
+      (q : Going w (worker_with h M D) (piece_gates w ps p) p.from a dealt s j a' dealt' (m, l)) where
     abbrev P : Worker
     P = worker_with h M D
 
     abbrev from_here : Answer
     from_here = reported P (steps_from w i (drop o programs)) (cursor o x a b dealt) s
 
-    pub at_exchange : 15 ≤ c.op → c.op < 20 → (v : ℕ)
+    pub at_exchange : (c : GateCode) → read c ≡ fetched (piece_gates w ps p) j → Exchanging (step_of w c ∷ []) → (v : ℕ)
         → v ≡ word_at P.say (step_of w c ∷ []) (cursor 0 0 a' b dealt') (m, l)
         → (u : Used) → u ≡ used_at (step_of w c) → (z : Stored) → z ≡ stored_places (a' + u.a) (b + 1) (dealt' + u.deals)
         → from_here ≡ going_on z.b v m l o x z
-    at_exchange lo hi v ev u eu z ez =
+    at_exchange c ec speaks v ev u eu z ez =
         Programs.halted w h M D programs o x i a b dealt s _ e hs (gates_behind w ps ord i p S) p.from (piece_cut w ps ord i p S)
-        j a' dealt' m l q (step_of w c) _ (exchanging_code w c lo hi) (first_step w hs j c ec (inside w hs j c ec hi)) v ev u eu
+        j a' dealt' m l q (step_of w c) _ speaks (first_step w hs j c ec (inside w hs j c ec speaks)) v ev u eu
         ∙ ap (λ (y : Stored). going_on y.b v m l o x y) (sym ez)
 
-    module _ (past : 20 ≤ c.op) where
+    module _ (past : length (piece_gates w ps p) ≤ j) where
       over : drop j hs ≡ []
-      over = drop_of_length-le hs (outside w hs j c ec past)
+      over = drop_of_length-le hs past
 
       pub next_piece : p.last ≡ false
           → from_here ≡ reported P (steps_from w (i + (p.end - p.from)) (drop o programs)) (cursor o x a' b dealt') (m, l)

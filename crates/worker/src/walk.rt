@@ -1,7 +1,8 @@
 // A host's walk from gate to gate: within a piece of a program up to the next product or refresh, and over the pieces
 // of the orders of a job. Additions and subtractions are done at once (R-2).
-ghost use Rattle.std.specs.Prelude.{◌≡◌, ℕ, ◌/◌, ◌+◌, ◌^◌, ◌≤◌, ◌<◌, length, drop};
-ghost use Rattle.gates.specs.Codes.{fetched, read};
+ghost use Rattle.std.specs.Prelude.{◌≡◌, ℕ, ◌/◌, ◌+◌, ◌^◌, ◌≤◌, ◌<◌, [], ◌∷◌, length, drop, MatchOption};
+ghost use Rattle.gates.specs.Codes.{fetched, read, step_of};
+ghost use Rattle.gates.specs.Walk.{Exchanging};
 ghost use Rattle.gates.specs.Steps.{Lane};
 ghost use Rattle.gates.specs.Hosts.{pair_of};
 ghost use Rattle.tables.specs.Table.{rows};
@@ -14,8 +15,8 @@ ghost use Rattle.worker.specs.Answers.{halt_on};
 ghost use Rattle.worker.specs.Jobs.{Accepted};
 
 use calls::Stored;
-use gate_shape::used_by;
-use gates::{FIRST_EXCHANGE, GateCode, Lanes, PAST, Used};
+use gate_shape::{exchanges, used_by};
+use gates::{GateCode, Lanes, Used};
 use job_add::{add_in_place, adds_here};
 use job_order::order_at;
 use program_fetch::{Piece, gate_at, piece_at};
@@ -82,11 +83,12 @@ fn past(used: Used, more: Used) -> Used
     }
 }
 
-// Where a walk through a piece stopped: what was used before, and the gate there.
+// Where a walk through a piece stopped: what was used before, and the product or refresh there; none past the last
+// gate.
 #[derive(Clone, Copy)]
 struct Stop {
     used: Used,
-    gate: GateCode,
+    gate: Option<GateCode>,
 }
 
 // Where a walk through a job halted: the word given, the place, and the walk's places there.
@@ -118,26 +120,27 @@ fn walk_piece(host: &Worker<'_>, p: Piece, table: &[u32], used: Used, lanes: &mu
         (piece_gates 32 (rows table.now) p)
         p.from used.a used.deals (pair_of lanes.old)
         j result.used.a result.used.deals (pair_of lanes.new)
-        × (read result.gate ≡ fetched (piece_gates 32 (rows table.now) p) j)
-        × (15 ≤ result.gate.op) × (result.used.b ≡ used.b) }
+        × MatchOption result.gate
+        (length (piece_gates 32 (rows table.now) p) ≤ j)
+        (λ g. (read g ≡ fetched (piece_gates 32 (rows table.now) p) j) × Exchanging (step_of 32 g ∷ []))
+        × (result.used.b ≡ used.b) }
 {
     let mut at = used;
     for i in p.from..p.end {
         let gate = gate_at(p, table, i);
-        if FIRST_EXCHANGE <= gate.op {
-            return Stop { used: at, gate };
+        if exchanges(gate) {
+            return Stop {
+                used: at,
+                gate: Some(gate),
+            };
         }
         host.step(gate, at, lanes);
         at = past(at, used_by(gate));
     }
-    let gate = GateCode {
-        op: PAST,
-        d: 0,
-        a: 0,
-        b: 0,
-        n: 0,
-    };
-    Stop { used: at, gate }
+    Stop {
+        used: at,
+        gate: None,
+    }
 }
 
 // From a place of an accepted job, at a gate of its order, to the next product or refresh, or to the end, on the lanes
@@ -170,9 +173,8 @@ pub(crate) fn advance(
         }
         let p = piece_at(o, job.table, at.gate);
         let stop = walk_piece(host, p, job.table, at.used, lanes);
-        let g = stop.gate;
         at.used = stop.used;
-        if g.op < PAST {
+        if let Some(g) = stop.gate {
             let word = host.say(g, at.used, lanes);
             let stored = at.places_with(used_by(g));
             return halted(word, order as u32, turn, stored);

@@ -11,7 +11,7 @@ ghost use Rattle.walks.specs.Workers.{deal_taken, new_mask, sum_of, heard_at};
 use gate_local::{step_m, step_mask};
 use gate_shape::{shape_of, used_by};
 use gate_speak::{met_word, word1, word2};
-use gates::{FIRST_DEAL, GateCode, Lanes, Shape, Used};
+use gates::{GateCode, Lanes, Shape, Used};
 use word_lists::{put, word_after, word_at};
 
 // Host 1 or 2 with what it is lent: its masks, A of host 1 and B of host 2, and the deals. Its lanes are m and its mask.
@@ -47,11 +47,10 @@ impl Worker<'_> {
     {
         step_m(g, &mut lanes.first);
         // a local gate takes nothing
-        if g.op < FIRST_DEAL {
-            step_mask(g, 0, &mut lanes.second);
-            return;
+        match shape_of(g) {
+            Shape::Dealing { .. } => step_mask(g, self.deal_taken(used), &mut lanes.second),
+            _ => step_mask(g, 0, &mut lanes.second),
         }
-        step_mask(g, self.deal_taken(used), &mut lanes.second);
     }
 
     // Host 1's new mask is from A, after g1 where the gate uses two words of it, host 2's from B.

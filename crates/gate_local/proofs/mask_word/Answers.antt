@@ -1,70 +1,46 @@
-use Rattle.std.proofs.Common.{◌≤◌, refl, arith}
-use Rattle.words.specs.Words.{add}
-use Rattle.words.proofs.Words.{sub_of}
-use Rattle.gates.specs.Codes.{fetched, gates_with, fetched_step}
-use Rattle.gates.specs.Hosts.{on_mask}
+use Rattle.std.proofs.Common.{rules}
+use Rattle.gates.specs.Codes.{step_of, read, gate_with, fetched_step}
 use Rattle.gates.specs.Meaning.{meaning}
-use Rattle.gates.proofs.Codes.{coded}
-use Rattle.gate_local.proofs.Words.{no_mask}
+use Rattle.gates.specs.Hosts.{on_mask}
+use Rattle.words.specs.Words.{add, sub, mul}
 use Rattle.gate_local.proofs.mask_word.Goals as goal
 
-pub returns-in-0 : goal.returns-in-0
-unfolding add gates_with fetched fetched_step meaning on_mask
-returns-in-0 c v = rw (
-  coded 32 c.args.g 0 c.in-0.is,
-  c.wrapping_add_u32.ensures.value,
-  c.at.ensures,
-  c.at-x.ensures,
-) refl
+pub returns-in-Add : goal.returns-in-Add
+unfolding step_of read gate_with fetched_step meaning on_mask add
+returns-in-Add c = search rules
 
-pub returns-in-1 : goal.returns-in-1
-unfolding add gates_with fetched fetched_step meaning on_mask
-returns-in-1 c v = rw (
-  coded 32 c.args.g 1 c.in-1.is,
-  sub_of 32 c.wrapping_sub_u32.result c.at-in-1.result (omega arith) (omega arith) c.wrapping_sub_u32.ensures.value,
-  c.at-in-1.ensures,
-  c.at-x.ensures,
-) refl
+pub returns-in-Sub : goal.returns-in-Sub
+unfolding step_of read gate_with fetched_step meaning on_mask sub
+returns-in-Sub c = search rules
 
-pub returns-in-2 : goal.returns-in-2
-unfolding gates_with fetched fetched_step meaning on_mask
-returns-in-2 c v = rw (
-  coded 32 c.args.g 2 c.in-2.is,
-  c.at-in-2.ensures,
-  c.at-x.ensures,
-) refl
+pub returns-in-Xor : goal.returns-in-Xor
+unfolding step_of read gate_with fetched_step meaning on_mask
+returns-in-Xor c = search rules
 
-pub returns-in-3 : goal.returns-in-3
-unfolding gates_with fetched fetched_step meaning on_mask
-returns-in-3 c v = rw (
-  coded 32 c.args.g 3 c.in-3.is,
-  c.wrapping_mul.ensures,
-  c.at-x.ensures,
-) refl
+pub returns-in-Scale : goal.returns-in-Scale
+unfolding step_of read gate_with fetched_step meaning on_mask mul
+returns-in-Scale c = search rules
 
-pub returns-in-4 : goal.returns-in-4
-unfolding gates_with fetched fetched_step meaning on_mask
-returns-in-4 c v = rw (coded 32 c.args.g 4 c.in-4.is, c.at-x.ensures) refl
+pub returns-in-Plus : goal.returns-in-Plus
+unfolding step_of read gate_with fetched_step meaning on_mask
+returns-in-Plus c = search rules
 
-pub returns-in-5 : goal.returns-in-5
-unfolding gates_with fetched fetched_step meaning on_mask
-returns-in-5 c v = rw (
-  coded 32 c.args.g 5 c.in-5.is,
-  c.shift_up.ensures,
-  c.at-x.ensures,
-) refl
+pub returns-in-Up : goal.returns-in-Up
+unfolding step_of read gate_with fetched_step meaning on_mask
+returns-in-Up c = search rules
 
-pub returns-in-6 : goal.returns-in-6
-unfolding gates_with fetched fetched_step meaning on_mask
-returns-in-6 c v = rw (
-  coded 32 c.args.g 6 c.in-6.is,
-  c.bit_of.ensures,
-  c.at-x.ensures,
-) refl
+pub returns-in-Bit : goal.returns-in-Bit
+unfolding step_of read gate_with fetched_step meaning on_mask
+returns-in-Bit c = search rules
+
+pub returns-in-Const : goal.returns-in-Const
+unfolding step_of read gate_with fetched_step meaning on_mask
+returns-in-Const c = search rules
+
+pub returns-in-DealSum : goal.returns-in-DealSum
+unfolding step_of read gate_with fetched_step meaning on_mask
+returns-in-DealSum c = search rules
 
 pub returns-in_default : goal.returns-in_default
-returns-in_default c v =
-    let s = c in
-    let n = c.in_default.in_default-own.rest in
-    let h : 4 ≤ s.args.g.op = omega (arith, n.0.0.0.0.0.0.1, n.0.0.0.0.0.1, n.0.0.0.0.1, n.0.0.0.1) in
-    no_mask 32 s.args.g v _ (omega (arith, h, n.0.0.1, n.0.1, n.1)) s.requires
+unfolding step_of read gate_with fetched_step meaning on_mask
+returns-in_default c = search rules

@@ -1,6 +1,6 @@
 use Rattle.std.proofs.Common.{◌-◌, take, drop, ◌∙◌, arith}
 use Rattle.truncations.specs.Adder.{doubled, distances, updates}
-use Rattle.gates.specs.Codes.{fetched, gates_with}
+use Rattle.gates.specs.Codes.{fetched, gate_with}
 use Rattle.programs.specs.Programs.{update_gates, rounds, adder, to_number, sign_program}
 use Rattle.program_fetch.proofs.Fetched.{inside, behind}
 use Rattle.program_fetch.proofs.blocks.sign_gate.Goals as goal
@@ -12,11 +12,11 @@ returns-then-i-lt-SIGN_BIT c =
     c.adder_gate.ensures ∙ inside (adder 32 s.x) (drop 28 (sign_program 32 s.x)) s.i c.if-i-lt-SIGN_BIT.true
 
 pub returns-in-28 : goal.returns-in-28
-unfolding gates_with fetched sign_program adder rounds update_gates updates distances doubled to_number
+unfolding gate_with fetched sign_program adder rounds update_gates updates distances doubled to_number
 returns-in-28 c = simp c.in-28.is c.with_constant.ensures
 
 pub returns-in-29 : goal.returns-in-29
-unfolding gates_with fetched sign_program adder rounds update_gates updates distances doubled to_number
+unfolding gate_with fetched sign_program adder rounds update_gates updates distances doubled to_number
 returns-in-29 c = simp c.in-29.is c.on_slots.ensures
 
 pub returns-in_default : goal.returns-in_default

@@ -1,6 +1,6 @@
-use Rattle.gates.specs.Codes.{gates_with, fetched}
+use Rattle.gates.specs.Codes.{gate_with, fetched}
 use Rattle.program_fetch.proofs.codes.past.Goals as goal
 
 pub returns : goal.returns
-unfolding gates_with fetched
+unfolding gate_with fetched
 returns c = c.on_slots.ensures

@@ -1,6 +1,6 @@
 use Rattle.std.proofs.Common.{ℕ, sym, ap, ◌∙◌, arith}
 use Rattle.gates.specs.Gates.{Const}
-use Rattle.gates.specs.Codes.{At, fetched, gates_with}
+use Rattle.gates.specs.Codes.{At, fetched, gate_with}
 use Rattle.gates.proofs.Fetched.{beyond}
 use Rattle.tables.specs.Table.{rows}
 use Rattle.programs.specs.Programs.{acc_slot}
@@ -8,7 +8,7 @@ use Rattle.program_fetch.specs.Pieces.{first_gates}
 use Rattle.program_fetch.proofs.curve.first_gate.Goals as goal
 
 pub returns-in-0 : goal.returns-in-0
-unfolding gates_with fetched first_gates
+unfolding gate_with fetched first_gates
 returns-in-0 c =
     simp c.in-0.is
     (c.with_constant.ensures ∙ ap (λ (n : ℕ). At (Const acc_slot n)) c.first_term.ensures)

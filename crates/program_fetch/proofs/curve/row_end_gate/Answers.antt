@@ -1,6 +1,6 @@
 use Rattle.std.proofs.Common.{ℕ, sym, ap, ◌∙◌, arith}
 use Rattle.gates.specs.Gates.{Scale}
-use Rattle.gates.specs.Codes.{At, fetched, gates_with}
+use Rattle.gates.specs.Codes.{At, fetched, gate_with}
 use Rattle.gates.proofs.Fetched.{beyond}
 use Rattle.tables.specs.Table.{rows}
 use Rattle.programs.specs.Programs.{res_slot}
@@ -8,13 +8,13 @@ use Rattle.program_fetch.specs.Pieces.{row_end}
 use Rattle.program_fetch.proofs.curve.row_end_gate.Goals as goal
 
 pub returns-in-0 : goal.returns-in-0
-unfolding gates_with fetched row_end
+unfolding gate_with fetched row_end
 returns-in-0 c =
     simp c.in-0.is
     (c.with_constant.ensures ∙ ap (λ (n : ℕ). At (Scale res_slot res_slot n)) c.slope_change.ensures)
 
 pub returns-in-1 : goal.returns-in-1
-unfolding gates_with fetched row_end
+unfolding gate_with fetched row_end
 returns-in-1 c = simp c.in-1.is c.on_slots.ensures
 
 pub returns-in_default : goal.returns-in_default

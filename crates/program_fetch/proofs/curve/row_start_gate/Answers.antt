@@ -1,7 +1,7 @@
 use Rattle.std.proofs.Common.{ℕ, sym, ap, ◌∙◌, arith}
 use Rattle.words.specs.Words.{neg}
 use Rattle.gates.specs.Gates.{Plus}
-use Rattle.gates.specs.Codes.{At, fetched, gates_with}
+use Rattle.gates.specs.Codes.{At, fetched, gate_with}
 use Rattle.gates.proofs.Fetched.{beyond}
 use Rattle.tables.specs.Table.{rows}
 use Rattle.programs.specs.Programs.{y_slot}
@@ -9,7 +9,7 @@ use Rattle.program_fetch.specs.Pieces.{row_start}
 use Rattle.program_fetch.proofs.curve.row_start_gate.Goals as goal
 
 pub returns-in-0 : goal.returns-in-0
-unfolding gates_with fetched row_start
+unfolding gate_with fetched row_start
 returns-in-0 c =
     let s = c in
     simp c.in-0.is

@@ -1,50 +1,50 @@
 use Rattle.std.proofs.Common.{◌≤◌, List, take, drop, sym, ◌∙◌, arith}
 use Rattle.truncations.specs.Adder.{doubled, distances, updates}
 use Rattle.gates.specs.Gates.{Gate}
-use Rattle.gates.specs.Codes.{fetched, gates_with}
+use Rattle.gates.specs.Codes.{fetched, gate_with}
 use Rattle.gates.proofs.Fetched.{beyond}
 use Rattle.programs.specs.Programs.{y_slot, update_gates, rounds, adder, to_number, exact_program}
 use Rattle.program_fetch.proofs.Fetched.{within}
 use Rattle.program_fetch.proofs.kinds.exact_gate.Goals as goal
 
 pub returns-in-0 : goal.returns-in-0
-unfolding gates_with fetched exact_program adder rounds update_gates updates distances doubled to_number
+unfolding gate_with fetched exact_program adder rounds update_gates updates distances doubled to_number
 returns-in-0 c = simp c.in-0.is (simp c.power.ensures at c.with_constant.ensures)
 
 pub returns-in-1 : goal.returns-in-1
-unfolding gates_with fetched exact_program adder rounds update_gates updates distances doubled to_number
+unfolding gate_with fetched exact_program adder rounds update_gates updates distances doubled to_number
 returns-in-1 c = simp c.in-1.is c.with_part.ensures
 
 pub returns-in-2 : goal.returns-in-2
-unfolding gates_with fetched exact_program adder rounds update_gates updates distances doubled to_number
+unfolding gate_with fetched exact_program adder rounds update_gates updates distances doubled to_number
 returns-in-2 c = simp c.in-2.is c.with_part-in-2.ensures
 
 pub returns-in-3 : goal.returns-in-3
-unfolding gates_with fetched exact_program adder rounds update_gates updates distances doubled to_number
+unfolding gate_with fetched exact_program adder rounds update_gates updates distances doubled to_number
 returns-in-3 c = simp c.in-3.is c.on_slots.ensures
 
 pub returns-in-32 : goal.returns-in-32
-unfolding gates_with fetched exact_program adder rounds update_gates updates distances doubled to_number
+unfolding gate_with fetched exact_program adder rounds update_gates updates distances doubled to_number
 returns-in-32 c = simp c.in-32.is (simp c.less.ensures at c.with_constant-in-32.ensures)
 
 pub returns-in-39 : goal.returns-in-39
-unfolding gates_with fetched exact_program adder rounds update_gates updates distances doubled to_number
+unfolding gate_with fetched exact_program adder rounds update_gates updates distances doubled to_number
 returns-in-39 c = simp c.in-39.is c.on_slots-in-39.ensures
 
 pub returns-in-40 : goal.returns-in-40
-unfolding gates_with fetched exact_program adder rounds update_gates updates distances doubled to_number
+unfolding gate_with fetched exact_program adder rounds update_gates updates distances doubled to_number
 returns-in-40 c = simp c.in-40.is c.with_constant-in-40.ensures
 
 pub returns-in-47 : goal.returns-in-47
-unfolding gates_with fetched exact_program adder rounds update_gates updates distances doubled to_number
+unfolding gate_with fetched exact_program adder rounds update_gates updates distances doubled to_number
 returns-in-47 c = simp c.in-47.is (simp c.full_power.ensures at c.with_constant-in-47.ensures)
 
 pub returns-in-48 : goal.returns-in-48
-unfolding gates_with fetched exact_program adder rounds update_gates updates distances doubled to_number
+unfolding gate_with fetched exact_program adder rounds update_gates updates distances doubled to_number
 returns-in-48 c = simp c.in-48.is c.on_slots-in-48.ensures
 
 pub returns-in-49 : goal.returns-in-49
-unfolding gates_with fetched exact_program adder rounds update_gates updates distances doubled to_number
+unfolding gate_with fetched exact_program adder rounds update_gates updates distances doubled to_number
 returns-in-49 c =
     simp c.in-49.is
     (simp (c.minus.ensures, c.power-in-49.ensures) at c.with_constant-in-49.ensures)

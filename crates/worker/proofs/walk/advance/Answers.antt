@@ -2,6 +2,7 @@ use mathlib.Core.Path.{refl, sym, ap, ◌∙◌}
 use native.Mathlib.Omega.{arith}
 use Prim.Native.Nat.{◌/◌, ◌<◌}
 use lib.ListN.{length}
+use Rattle.std.proofs.lemmas.Option.{MatchOption-at_some, MatchOption-at_none}
 use Rattle.gates.specs.Codes.{step_of}
 use Rattle.gates.proofs.Uses as Uses
 use Rattle.tables.specs.Table.{rows}
@@ -66,7 +67,7 @@ places_with-stored-requires c =
     let S = piece_stands c.piece_at-p.ensures in
     let h : c.loop-order.order < length c.args.job.orders.now / 4 = omega (arith, c.loop-order-test.true, c.loop-order.invariant.0) in
     let f = few_used 32 (rows c.args.job.table.now) _ l.at.gate _ S _ _ _ _ _ _ _ _ c.walk_piece-stop.ensures.1 in
-    let g = Uses.few_used (step_of 32 c.walk_piece-stop.result.gate) _ c.used_by.ensures in (
+    let g = Uses.few_used (step_of 32 c.in-Some.g) _ c.used_by.ensures in (
       omega (arith, g),
       omega (arith, g),
       omega (arith, f, S.few, l.invariant.1, l.invariant.3, h, c.requires.0.few_words),
@@ -74,23 +75,24 @@ places_with-stored-requires c =
       omega (arith, c.requires.4),
     )
 
-pub overflow_cast-order-then-g-lt-PAST : goal.overflow_cast-order-then-g-lt-PAST
-overflow_cast-order-then-g-lt-PAST c =
+pub overflow_cast-order-in-Some : goal.overflow_cast-order-in-Some
+overflow_cast-order-in-Some c =
     omega (arith, c.loop-order.invariant.2)
 
-pub returns-then-g-lt-PAST : goal.returns-then-g-lt-PAST
-returns-then-g-lt-PAST c =
+pub returns-in-Some : goal.returns-in-Some
+returns-in-Some c =
     let l = c.loop-order in
     let a = c.args in
     let J = a.job.orders.now in
     let T = a.job.table.now in
     let there = order_there 32 J T l.order (omega (arith, c.loop-order-test.true, c.loop-order.invariant.0)) _ c.order_at-o.ensures in
     let r = c.walk_piece-stop.ensures in
+    let there_is = MatchOption-at_some _ _ _ c.in-Some.is r.2 in
     c.halted.ensures _ _
     ∙ sym (at_exchange 32 (rows T) _ l.at.gate _ (piece_stands c.piece_at-p.ensures) a.host.now.host a.host.now.masks.now a.host.now.deals.now
-    (job_gates 32 J T) l.order l.turn l.at.used.a l.at.used.b l.at.used.deals (l.lanes.first, l.lanes.second) there _ _ _ _ _ r.1 _ r.2 r.3
-    c.if-g-lt-PAST.true _ (rw (← r.4) c.say-word.ensures) _ c.used_by.ensures _
-    (rw (← r.4) c.places_with-stored.ensures))
+    (job_gates 32 J T) l.order l.turn l.at.used.a l.at.used.b l.at.used.deals (l.lanes.first, l.lanes.second) there _ _ _ _ _ r.1 c.in-Some.g there_is.0
+    there_is.1 _ (rw (← r.3) c.say-word.ensures) _ c.used_by.ensures _
+    (rw (← r.3) c.places_with-stored.ensures))
     ∙ l.invariant.7
 
 pub overflow_add-order-then-p : goal.overflow_add-order-then-p
@@ -125,15 +127,15 @@ loop-order-preserved-then-p c =
     let f = few_used 32 (rows T) _ l.at.gate _ S _ _ _ _ _ _ _ _ r.1 in
     let next =
     next_order 32 (rows T) _ l.at.gate _ S a.host.now.host M D (job_gates 32 J T) l.order l.turn l.at.used.a l.at.used.b l.at.used.deals
-    (l.lanes.first, l.lanes.second) there _ _ _ _ _ r.1 _ r.2 c.if-g-lt-PAST.false c.if-p.true in (
+    (l.lanes.first, l.lanes.second) there _ _ _ _ _ r.1 (MatchOption-at_none _ _ c.in_default.is r.2) c.if-p.true in (
       l.invariant.0,
       omega arith,
       omega (arith, h, c.requires.0.few_words),
       omega (arith, f, S.few, l.invariant.1, l.invariant.3),
       omega (arith, f, S.few, l.invariant.1, l.invariant.4),
       omega (arith, h, c.requires.0.few_words),
-      c.walk_piece-stop.ensures.4 ∙ l.invariant.6,
-      rw c.walk_piece-stop.ensures.4 (sym next ∙ l.invariant.7),
+      c.walk_piece-stop.ensures.3 ∙ l.invariant.6,
+      rw c.walk_piece-stop.ensures.3 (sym next ∙ l.invariant.7),
     )
 
 pub loop-order-smaller : goal.loop-order-smaller
@@ -157,7 +159,7 @@ loop-order-preserved c =
     let f = few_used 32 (rows T) _ l.at.gate _ S _ _ _ _ _ _ _ _ r.1 in
     let next =
     next_piece 32 (rows T) _ l.at.gate _ S a.host.now.host M D (job_gates 32 J T) l.order l.turn l.at.used.a l.at.used.b l.at.used.deals
-    (l.lanes.first, l.lanes.second) there _ _ _ _ _ r.1 _ r.2 c.if-g-lt-PAST.false c.if-p.false in (
+    (l.lanes.first, l.lanes.second) there _ _ _ _ _ r.1 (MatchOption-at_none _ _ c.in_default.is r.2) c.if-p.false in (
       l.invariant.0,
       omega (
         arith,
@@ -169,8 +171,8 @@ loop-order-preserved c =
       omega (arith, f, l.invariant.3),
       omega (arith, f, l.invariant.4),
       l.invariant.5,
-      c.walk_piece-stop.ensures.4 ∙ l.invariant.6,
-      rw c.walk_piece-stop.ensures.4 (sym next ∙ l.invariant.7),
+      c.walk_piece-stop.ensures.3 ∙ l.invariant.6,
+      rw c.walk_piece-stop.ensures.3 (sym next ∙ l.invariant.7),
     )
 
 pub overflow_cast-order-2 : goal.overflow_cast-order-2
