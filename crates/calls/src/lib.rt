@@ -3,7 +3,7 @@
 #![tactic(auto)]
 
 // R-7, a state's stored places: how far A, B and the deals are used.
-#[derive(Clone, Copy)]
+#[derive(Clone, Copy, Debug, PartialEq, Eq)]
 pub struct Stored {
     pub a: u32,
     pub b: u32,

@@ -1,6 +1,6 @@
 -- A day's starting and hearing, from what the code has in hand: its checks, the place, and the walk on its own lanes. Assumes nothing.
 use mathlib.Core.Path.{◌≡◌, refl, sym, ap, ◌∙◌}
-use mathlib.Core.Bool.{Bool, true, false, not, ◌&&◌, cond}
+use mathlib.Core.Bool.{Bool, false, ◌&&◌, cond}
 use mathlib.Core.List.{List, [], ◌∷◌}
 use Prim.Native.Nat.{ℕ, suc, ◌+◌, ◌*◌, ◌≤◌, ◌<◌}
 use native.Mathlib.Nat.{mul-zero}
@@ -18,7 +18,6 @@ use Rattle.programs.specs.declared.Order.{Order}
 use Rattle.programs.specs.Orders.{program}
 use Rattle.programs.specs.Sizes.{times_cost}
 use Rattle.jobs.specs.Job.{Fault}
-use Rattle.jobs.specs.declared.Counts.{Counts}
 use Rattle.jobs.specs.Counts.{counted}
 use Rattle.jobs.specs.CostTable.{kind_costs, kind_cost}
 use Rattle.gates.specs.Gates.{Gate}
@@ -27,7 +26,7 @@ use Rattle.calls.specs.Lent.{lent, lent_fault, Worker, worker_with}
 use Rattle.calls.specs.Places.{Found, nowhere, found, seek}
 use Rattle.calls.specs.declared.Stored.{Stored}
 use Rattle.calls.specs.Calls.{stored_places, State, Answer, refused, fresh, stored_at, same_places, report, hear_walk, hear}
-use Rattle.calls.proofs.Faults.{no_fault, no_fault_passed}
+use Rattle.calls.proofs.Faults.{no_fault}
 use Rattle.walks.specs.Workers.{cursor}
 use Rattle.walks.specs.Halts.{going_on, reported, steps_from}
 use Rattle.walks.proofs.Gates.{first_gate}
@@ -50,12 +49,11 @@ use Rattle.days.proofs.Quarters.{day_gates_count, day_alike}
 use Rattle.days.proofs.Idle.{idle_walk}
 use Rattle.days.proofs.Lanes.{place, own_lane, first_lane, second_lane, given_lanes, front_lane}
 use Rattle.days.proofs.Accepted.{accepted}
-use Rattle.worker.proofs.Places.{are_unequal}
 use Rattle.worker.specs.declared.walk.Halt.{Halt}
 use Rattle.worker.specs.declared.place.Stand.{Stand}
 use Rattle.worker.specs.Answers.{state_with, halt_on}
-use Rattle.call_check.specs.declared.day.Day.{Day}
-use Rattle.call_check.specs.Days.{passed_quarters, passed_n, DayIs}
+use Rattle.call_check.specs.declared.day.CheckedDay.{CheckedDay}
+use Rattle.call_check.specs.Days.{DayIs}
 use Rattle.worker.specs.Days.{used_until, DayLent, DayPlace, DayStandIs, SameDay}
 
 -- ---- the product or refresh where a state stands, in the day's steps
@@ -108,28 +106,26 @@ module _ (h : ℕ) (T S : List ℕ) (H : Hours) (M D : List ℕ) (n : ℕ) (e : 
   σ = day_script 32 T (length S) H
 
   -- which quarters count: by the words in hand as by the hours
-  module _ (z : n ≡ 0) (d : Day) (whole : Counts) (is : DayIs n T H d whole) where
-    pub same_day : SameDay (held d.quarters) H
-    unfolding passed_quarters
-    same_day q l = ap (λ (x : Quarters). held x q) (is.quarters ∙ ap (λ (m : ℕ). passed_quarters m H) z) ∙ held_where (counting H) q l
+  module _ (z : n ≡ 0) (c : CheckedDay) (is : DayIs T H c) where
+    pub same_day : SameDay (held c.day.quarters) H
+    same_day q l = ap (λ (x : Quarters). held x q) is.quarters ∙ held_where (counting H) q l
 
-    pub day_lent : DayLent T S (counted d.curve) (held d.quarters) d.n
-    unfolding passed_n
+    pub day_lent : DayLent T S (counted c.day.curve) (held c.day.quarters) c.day.n
     day_lent =
         let p = accepted T (length S) H (no_fault h σ M D (ap (λ (f : Fault). f.0) (sym e) ∙ z)) in
         record {
           ruled = p.2;
           listed = p.0;
-          counts = is.curve ∙ no_fault_passed n _ z;
+          counts = is.curve;
           counted =
-              is.n ∙ ap (λ (m : ℕ). passed_n m H) z
-              ∙ sym (number_alike (held d.quarters) (counting H) 0 96 (λ k l. let a : 0 + k ≡ k = omega arith in rw a (same_day k l)));
+              is.n
+              ∙ sym (number_alike (held c.day.quarters) (counting H) 0 96 (λ k l. let a : 0 + k ≡ k = omega arith in rw a (same_day k l)));
         }
 
     -- the counts of the whole day
-    pub whole_day : counted whole ≡ cost (job_steps 32 (day_gates 32 (counting H) (rows T)))
+    pub whole_day : counted c.whole ≡ cost (job_steps 32 (day_gates 32 (counting H) (rows T)))
     unfolding day_steps kind_cost kind_costs
-    whole_day = is.counts ∙ no_fault_passed n _ z ∙ sym (day_counts T (length S) H)
+    whole_day = is.counts ∙ sym (day_counts T (length S) H)
 
   abbrev P : Worker
   P = worker_with h M D
@@ -227,13 +223,13 @@ module _ (h : ℕ) (T S : List ℕ) (H : Hours) (M D : List ℕ) (n : ℕ) (e : 
               (cursor s.order s.turn y.at.used.a y.at.used.b y.at.used.deals)
           found_there = ap (λ (ss : List Step). seek s.order s.turn ss origin) (sym steps_are) ∙ pl.is
 
-          pub hear_unequal : (r : Bool) → r ≡ same_places s.stored y.walked → not r ≡ true
+          pub hear_unequal : (s.stored ≡ y.walked → ⊥)
               → refused (18, 0) s ≡ day_hear 32 h T S H M D s v
           unfolding with_shares
-          hear_unequal r er t =
+          hear_unequal t =
               let w = there_in_day T f s.order s.turn _ _ _ _ pl in
               turned 18 0 (at_unequal h σ M D n 0 e larger v z w.0 w.1 _ _ w.3 w.2 found_there
-              (are_unequal s.stored y.walked _ (walked_there T f s.order s.turn y pl is) r er t))
+              (λ e. t (e ∙ sym (walked_there T f s.order s.turn y pl is))))
 
           -- the walk goes on
           pub hear_done : s.stored ≡ y.walked → (h₁ : Halt) (k l : ℕ) (m c : Lane)

@@ -49,16 +49,18 @@ pub record There (w : ℕ) (job table : List ℕ) (o x i a b dealt : ℕ) : Type
   pub is : seek o x (job_steps w (job_gates w job table)) origin
       ≡ found (steps_from w i (drop o (job_gates w job table))) (cursor o x a b dealt)
 
--- ---- stored places, as the code compares them with the walk's
+-- ---- stored places, as the code compares them
 
-module _ (u v w : Stored) (e : v ≡ w) where
-  pub are_equal : (r : Bool) → r ≡ same_places u v → not r ≡ false → u ≡ w
-  are_equal true is t = same_tells u v (sym is) ∙ e
-  are_equal false is t = absurd (apart (sym t))
+module _ (u v : Stored) where
+  pub are_equal : false ≡ not (same_places u v) → u ≡ v
+  are_equal e = go (same_places u v) refl e
+    where
+      go : (r : Bool) → same_places u v ≡ r → false ≡ not r → u ≡ v
+      go true p t = same_tells u v p
+      go false p t = absurd (apart t)
 
-  pub are_unequal : (r : Bool) → r ≡ same_places u v → not r ≡ true → u ≡ w → ⊥
-  are_unequal true is t p = absurd (apart t)
-  are_unequal false is t p = apart (is ∙ same_told u v (p ∙ sym e))
+  pub are_unequal : true ≡ not (same_places u v) → u ≡ v → ⊥
+  are_unequal e q = apart (sym (ap not (same_told u v q)) ∙ sym e)
 
 -- ---- where a hearing stands
 

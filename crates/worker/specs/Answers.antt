@@ -1,7 +1,8 @@
 -- The code's structs as the records of the definitions. Assumes nothing.
-use Rattle.std.specs.Prelude.{ℕ}
+use Rattle.std.specs.Prelude.{ℕ, Result, Ok, Err}
 use Rattle.gates.specs.Steps.{Lane}
 use Rattle.gates.specs.Hosts.{Pair}
+use Rattle.jobs.specs.Refusals.{fault_of}
 use Rattle.calls.specs.declared.Stored.{Stored}
 use Rattle.calls.specs.Calls as Calls
 use Rattle.walks.specs.Halts.{going_on}
@@ -9,6 +10,7 @@ use Rattle.worker.specs.declared.walk.Halt.{Halt}
 use Rattle.worker.specs.declared.State.{State}
 use Rattle.worker.specs.declared.Registers.{Registers}
 use Rattle.worker.specs.declared.Answer.{Answer}
+use Rattle.worker.specs.declared.Refused.{Refused}
 
 -- a host's registers are two lanes of sixteen words
 abbrev pub lanes_of : Registers → Pair
@@ -20,15 +22,11 @@ state_with m l o x u = record { m = m; mask = l; order = o; turn = x; stored = u
 abbrev pub state_of : State → Calls.State
 state_of s = state_with s.m s.mask s.order s.turn s.stored
 
-abbrev pub answer_of : Answer → Calls.Answer
-answer_of a =
-    record {
-      number = a.number;
-      index = a.index;
-      spoken = a.spoken;
-      word = a.word;
-      state = state_of a.state;
-    }
+-- "every other number in a refused answer is 0"
+abbrev pub answer_of : Result Answer Refused → Calls.Answer
+answer_of (Ok a) =
+    record { number = 0; index = 0; spoken = a.spoken; word = a.word; state = state_of a.state }
+answer_of (Err r) = Calls.refused (fault_of r.refusal) (state_of r.state)
 
 -- where a walk halted, on these lanes: the words spoken so far are as many as words of B used
 abbrev pub halt_on : Halt → (m mask : Lane) → Calls.Answer

@@ -1,11 +1,13 @@
 // The answers of starting and hearing.
-ghost use Rattle.std.specs.Prelude.{◌≡◌};
+ghost use Rattle.std.specs.Prelude.{◌≡◌, Ok, Err};
+ghost use Rattle.jobs.specs.Refusals.{number_of};
 ghost use Rattle.calls.specs.Calls as Calls;
 ghost use Rattle.worker.specs.Answers.{answer_of, state_of, state_with, halt_on};
 
 use crate::walk::Halt;
-use crate::{Answer, State};
+use crate::{Answer, Refused, State};
 use calls::Stored;
+use jobs::Condition;
 
 // Before the first order, with nothing used.
 pub(crate) fn first_state(m: [u32; 24], mask: [u32; 24]) -> State
@@ -24,27 +26,22 @@ pub(crate) fn first_state(m: [u32; 24], mask: [u32; 24]) -> State
     }
 }
 
-// Every other number in a refused answer is 0.
-pub(crate) fn refused(number: u32, index: u32, s: State) -> Answer
-    ensures { answer_of result ≡ Calls.refused (number, index) (state_of s) }
+// A condition that no order meets.
+pub(crate) fn refused(condition: Condition, state: State) -> Refused
+    ensures { answer_of (Err result) ≡ Calls.refused (number_of condition, 0) (state_of state) }
 {
-    Answer {
-        number,
-        index,
-        spoken: 0,
-        word: 0,
-        state: s,
+    Refused {
+        refusal: condition.into(),
+        state,
     }
 }
 
 // Where a walk halted, on these lanes: the words spoken so far are as many as words of B used.
 pub(crate) fn answered(h: Halt, m: [u32; 24], mask: [u32; 24]) -> Answer
-    ensures { answer_of result ≡ halt_on h m mask }
+    ensures { answer_of (Ok result) ≡ halt_on h m mask }
 {
     let stored = h.stored;
     Answer {
-        number: 0,
-        index: 0,
         spoken: stored.b,
         word: h.word,
         state: State {

@@ -1,6 +1,6 @@
 // Starting and hearing of a day (R-3). Each order of a day that is run (R-6) is walked as one order of a job, with the
 // share of its quarter in a slot of the lanes; what stood there is put back before a call answers.
-ghost use Rattle.std.specs.Prelude.{◌≡◌, true, ℕ, ◌+◌, ◌≤◌, ◌<◌, length, drop};
+ghost use Rattle.std.specs.Prelude.{◌≡◌, true, ℕ, ◌+◌, ◌≤◌, ◌<◌, length, drop, Ok};
 ghost use Rattle.tables.specs.Table.{rows};
 ghost use Rattle.gates.specs.Meaning.{job_steps};
 ghost use Rattle.gates.specs.Steps.{origin};
@@ -22,15 +22,15 @@ ghost use Rattle.worker.specs.Days.{Accepted, SameDay, StandsIn, cost_to, used_u
 use crate::answering::{answered, first_state, refused};
 use crate::day_place::{Daily, place_in, used_before};
 use crate::hearing::resume;
-use crate::place::{Stand, are_same, end_fault, stand_at};
+use crate::place::{Stand, end_fault, stand_at};
 use crate::walk::{Halt, Job, Place, Reach, advance, halted};
-use crate::{Answer, State};
+use crate::{Answer, Refused, State};
 use calendars::next_counted;
-use call_check::{Day, check_day_lent};
-use calls::Stored;
+use call_check::check_day_lent;
 use day_order::{QUARTERS, SHARE_SLOT, enter, leave, order_words, take_share};
 use gates::{Lanes, Used};
 use job_order::order_at;
+use jobs::Condition;
 use word_lists::{at, put};
 use worker_gate::Worker;
 
@@ -124,7 +124,7 @@ pub fn start_day(
     weekday: u32,
     masks: &[u32],
     deals: &[u32],
-) -> Answer
+) -> Result<Answer, Refused>
     ensures { answer_of result
         ≡ day_start 32 host table.now shares.now (hours calendar.now weekday)
         masks.now deals.now }
@@ -133,30 +133,20 @@ pub fn start_day(
         first: [0u32; 24],
         second: [0u32; 24],
     };
-    let lent = check_day_lent(host, table, shares, calendar, weekday, masks, deals);
-    if lent.number != 0 {
-        return refused(lent.number, 0, first_state(lanes.first, lanes.second));
-    }
-    let day = lent.day;
+    let day = match check_day_lent(host, table, shares, calendar, weekday, masks, deals) {
+        Ok(checked) => checked.day,
+        Err(condition) => {
+            let zeros = first_state(lanes.first, lanes.second);
+            return Err(refused(condition, zeros));
+        }
+    };
     let quarters = day.quarters;
     let first = next_counted(quarters, 0);
     let host = Worker { host, masks, deals };
     let h = begin(&host, Daily { table, shares, day }, first, &mut lanes);
     put(&mut lanes.first, SHARE_SLOT, 0);
     put(&mut lanes.second, SHARE_SLOT, 0);
-    answered(h, lanes.first, lanes.second)
-}
-
-fn state(m: [u32; 24], mask: [u32; 24], order: u32, turn: u32, stored: Stored) -> State
-    ensures { state_of result ≡ state_with m mask order turn stored }
-{
-    State {
-        m,
-        mask,
-        order,
-        turn,
-        stored,
-    }
+    Ok(answered(h, lanes.first, lanes.second))
 }
 
 // From the product or refresh where a state stands; the word that stood in the share's slot is put back.
@@ -167,7 +157,7 @@ fn hear_there(host: &Worker<'_>, daily: Daily<'_>, s: State, heard: u32, stand: 
         ≡ lent_fault
         (lent host.now.host (day_script 32 daily.entry.table.now (length daily.entry.shares.now) H)
         host.now.masks.now host.now.deals.now))
-        → answer_of result
+        → answer_of (Ok result)
         ≡ day_hear 32 host.now.host daily.entry.table.now daily.entry.shares.now H
         host.now.masks.now host.now.deals.now (state_with s.m s.mask s.order s.turn stand.walked) heard }
 {
@@ -189,60 +179,6 @@ fn hear_there(host: &Worker<'_>, daily: Daily<'_>, s: State, heard: u32, stand: 
     answered(h, lanes.first, lanes.second)
 }
 
-// Hearing, by the parts of a state.
-fn hear_parts(
-    host: u32,
-    table: &[u32],
-    shares: &[u32],
-    calendar: &[u32],
-    weekday: u32,
-    masks: &[u32],
-    deals: &[u32],
-    m: [u32; 24],
-    mask: [u32; 24],
-    order: u32,
-    turn: u32,
-    stored: Stored,
-    heard: u32,
-) -> Answer
-    ensures { answer_of result
-        ≡ day_hear 32 host table.now shares.now (hours calendar.now weekday)
-        masks.now deals.now (state_with m mask order turn stored) heard }
-{
-    let lent = check_day_lent(host, table, shares, calendar, weekday, masks, deals);
-    if lent.number != 0 {
-        return refused(lent.number, 0, state(m, mask, order, turn, stored));
-    }
-    if QUARTERS < order {
-        let end = QUARTERS as usize + 1;
-        let number = end_fault(order as usize, end, turn, lent.whole, stored);
-        return refused(number, 0, state(m, mask, order, turn, stored));
-    }
-    let Some(place) = place_in(lent.day, table, order, turn) else {
-        return refused(8, 0, state(m, mask, order, turn, stored));
-    };
-    let job = order_words(order);
-    let used = used_before(lent.day, order);
-    let stand = stand_at(order_at(&job, 0), table, used, turn, place);
-    if !are_same(stored, stand.walked) {
-        return refused(18, 0, state(m, mask, order, turn, stored));
-    }
-    let host = Worker { host, masks, deals };
-    let daily = Daily {
-        table,
-        shares,
-        day: lent.day,
-    };
-    let s = State {
-        m,
-        mask,
-        order,
-        turn,
-        stored,
-    };
-    hear_there(&host, daily, s, heard, stand)
-}
-
 impl State {
     // Checks 1, 12, 16, 17, 5, 6 and 7 come first, then 8, 18 and 9; a refusal gives the state back.
     pub fn hear_day(
@@ -255,17 +191,37 @@ impl State {
         masks: &[u32],
         deals: &[u32],
         heard: u32,
-    ) -> Answer
+    ) -> Result<Answer, Refused>
         ensures { answer_of result
             ≡ day_hear 32 host table.now shares.now (hours calendar.now weekday)
             masks.now deals.now (state_of self) heard }
     {
-        let m = self.m;
-        let mask = self.mask;
-        let stored = self.stored;
-        hear_parts(
-            host, table, shares, calendar, weekday, masks, deals, m, mask, self.order, self.turn,
-            stored, heard,
-        )
+        let checked = match check_day_lent(host, table, shares, calendar, weekday, masks, deals) {
+            Ok(checked) => checked,
+            Err(condition) => return Err(refused(condition, self)),
+        };
+        let day = checked.day;
+        let order = self.order;
+        if QUARTERS < order {
+            let end = QUARTERS as usize + 1;
+            let condition = end_fault(order as usize, end, self.turn, checked.whole, self.stored);
+            return Err(refused(condition, self));
+        }
+        let Some(place) = place_in(day, table, order, self.turn) else {
+            return Err(refused(Condition::NoPlace, self));
+        };
+        let job = order_words(order);
+        let stand = stand_at(
+            order_at(&job, 0),
+            table,
+            used_before(day, order),
+            self.turn,
+            place,
+        );
+        if self.stored != stand.walked {
+            return Err(refused(Condition::OtherPlaces, self));
+        }
+        let host = Worker { host, masks, deals };
+        Ok(hear_there(&host, Daily { table, shares, day }, self, heard, stand))
     }
 }

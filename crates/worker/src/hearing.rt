@@ -13,12 +13,13 @@ ghost use Rattle.walks.specs.Halts.{steps_from};
 ghost use Rattle.worker.specs.Jobs.{Accepted, StandsIn};
 
 use crate::answering::{answered, refused};
-use crate::place::{Stand, are_same, end_fault, stand_at};
+use crate::place::{Stand, end_fault, stand_at};
 use crate::walk::{Halt, Job, Place, Reach, advance};
-use crate::{Answer, State};
+use crate::{Answer, Refused, State};
 use call_check::check_lent;
 use gates::{Lanes, Used};
 use job_order::order_at;
+use jobs::Condition;
 use program_seek::seek;
 use worker_gate::Worker;
 
@@ -67,7 +68,7 @@ impl State {
         masks: &[u32],
         deals: &[u32],
         heard: u32,
-    ) -> Answer
+    ) -> Result<Answer, Refused>
         ensures { answer_of result
             ≡ Calls.hear
             (lent host (job_script 32 job.now table.now) masks.now
@@ -75,28 +76,31 @@ impl State {
             (state_of self) heard }
     {
         let order = self.order as usize;
-        let lent = check_lent(host, job, table, masks, deals, order);
-        if lent.number != 0 {
-            return refused(lent.number, lent.index, self);
-        }
+        let before = match check_lent(host, job, table, masks, deals, order) {
+            Ok(before) => before,
+            Err(refusal) => {
+                return Err(Refused {
+                    refusal,
+                    state: self,
+                });
+            }
+        };
         let n = job.len() / 4;
         if n <= order {
-            let number = end_fault(order, n, self.turn, lent.counts, self.stored);
-            return refused(number, 0, self);
+            let condition = end_fault(order, n, self.turn, before, self.stored);
+            return Err(refused(condition, self));
         }
         let o = order_at(job, order);
         let Some(place) = seek(o, table, self.turn) else {
-            return refused(8, 0, self);
+            return Err(refused(Condition::NoPlace, self));
         };
-        let stand = stand_at(o, table, lent.counts, self.turn, place);
-        if !are_same(self.stored, stand.walked) {
-            return refused(18, 0, self);
+        let stand = stand_at(o, table, before, self.turn, place);
+        if self.stored != stand.walked {
+            return Err(refused(Condition::OtherPlaces, self));
         }
-        let m = self.m;
-        let mask = self.mask;
         let mut lanes = Lanes {
-            first: m,
-            second: mask,
+            first: self.m,
+            second: self.mask,
         };
         let place = Place {
             order: self.order,
@@ -111,6 +115,6 @@ impl State {
             stand,
             &mut lanes,
         );
-        answered(h, lanes.first, lanes.second)
+        Ok(answered(h, lanes.first, lanes.second))
     }
 }

@@ -11,10 +11,11 @@ mod walk;
 
 use calls::Stored;
 pub use day::start_day;
+use jobs::Refusal;
 pub use starting::start;
 
 // A host's registers: masked values and the host's own masks.
-#[derive(Clone, Copy)]
+#[derive(Clone, Copy, Debug, PartialEq, Eq)]
 pub struct Registers {
     pub m: [u32; 16],
     pub mask: [u32; 16],
@@ -22,7 +23,7 @@ pub struct Registers {
 
 // A host between two words: its lanes of registers (slots 0 to 15) and kept words (16 to 23), its place, and its stored
 // places in A, B and the deals (R-7).
-#[derive(Clone, Copy)]
+#[derive(Clone, Copy, Debug, PartialEq, Eq)]
 pub struct State {
     pub m: [u32; 24],
     pub mask: [u32; 24],
@@ -31,12 +32,17 @@ pub struct State {
     pub stored: Stored,
 }
 
-// The number, 0 for none, with the order's index; the words spoken so far, the word given, and the state.
-#[derive(Clone, Copy)]
+// The words spoken so far, the word given, and the state.
+#[derive(Clone, Copy, Debug, PartialEq, Eq)]
 pub struct Answer {
-    pub number: u32,
-    pub index: u32,
     pub spoken: u32,
     pub word: u32,
+    pub state: State,
+}
+
+// A call turned down: the state is given back, of a refused starting the registers in it.
+#[derive(Clone, Copy, Debug, PartialEq, Eq)]
+pub struct Refused {
+    pub refusal: Refusal,
     pub state: State,
 }

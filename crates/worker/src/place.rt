@@ -3,13 +3,14 @@
 ghost use Rattle.std.specs.Prelude.{◌≡◌, ◌&&◌, cond, ◌+◌, ◌^◌, ◌<◌, eqb};
 ghost use Rattle.tables.specs.Table.{rows};
 ghost use Rattle.calls.specs.Calls.{stored_places, same_places};
+ghost use Rattle.jobs.specs.Refusals.{number_of};
 ghost use Rattle.worker.specs.Jobs.{StandIs};
 
 use crate::walk::Reach;
 use calls::Stored;
 use gate_shape::used_by;
 use gates::{GateCode, Used};
-use jobs::Counts;
+use jobs::{Condition, Counts};
 use program_fetch::{gate_at, piece_at};
 use programs::{GatePlace, Order};
 
@@ -45,38 +46,32 @@ pub(crate) fn stand_at(o: Order, table: &[u32], used: Counts, turn: u32, place: 
     }
 }
 
-pub(crate) fn are_same(u: Stored, v: Stored) -> bool
-    ensures { result ≡ same_places u v }
-{
-    if u.a != v.a {
-        return false;
-    }
-    if u.b != v.b {
-        return false;
-    }
-    u.deals == v.deals
-}
-
 // Conditions 8, 18 and 9 past the last order, where `whole` has the counts of all orders: the end is the number of
 // orders and 0.
-pub(crate) fn end_fault(order: usize, n: usize, turn: u32, whole: Counts, stored: Stored) -> u32
-    ensures { result
+pub(crate) fn end_fault(
+    order: usize,
+    n: usize,
+    turn: u32,
+    whole: Counts,
+    stored: Stored,
+) -> Condition
+    ensures { number_of result
         ≡ cond (eqb order n && eqb turn 0)
         (cond (same_places stored (stored_places whole.a whole.b whole.deals)) 9 18) 8 }
 {
     if order != n {
-        return 8;
+        return Condition::NoPlace;
     }
     if turn != 0 {
-        return 8;
+        return Condition::NoPlace;
     }
     let all = Stored {
         a: whole.a,
         b: whole.b,
         deals: whole.deals,
     };
-    if are_same(stored, all) {
-        return 9;
+    if stored == all {
+        return Condition::AtEnd;
     }
-    18
+    Condition::OtherPlaces
 }

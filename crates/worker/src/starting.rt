@@ -5,9 +5,9 @@ ghost use Rattle.calls.specs.Scripts.{job_script};
 ghost use Rattle.calls.specs.Lent.{lent};
 ghost use Rattle.worker.specs.Answers.{answer_of, lanes_of};
 
-use crate::answering::{answered, first_state, refused};
+use crate::answering::{answered, first_state};
 use crate::walk::{Job, Place, Reach, advance};
-use crate::{Answer, Registers};
+use crate::{Answer, Refused, Registers};
 use call_check::check_lent;
 use gates::{Lanes, Used};
 use word_lists::copy_front;
@@ -21,27 +21,21 @@ pub fn start(
     masks: &[u32],
     deals: &[u32],
     registers: Registers,
-) -> Answer
+) -> Result<Answer, Refused>
     ensures { answer_of result
         ≡ Calls.start
         (lent host (job_script 32 job.now table.now) masks.now deals.now)
         (lanes_of registers) }
 {
-    let first_m = registers.m;
-    let first_mask = registers.mask;
     let mut lanes = Lanes {
         first: [0u32; 24],
         second: [0u32; 24],
     };
-    copy_front(&first_m, &mut lanes.first, 16);
-    copy_front(&first_mask, &mut lanes.second, 16);
-    let lent = check_lent(host, job, table, masks, deals, 0);
-    if lent.number != 0 {
-        return refused(
-            lent.number,
-            lent.index,
-            first_state(lanes.first, lanes.second),
-        );
+    copy_front(&registers.m, &mut lanes.first, 16);
+    copy_front(&registers.mask, &mut lanes.second, 16);
+    if let Err(refusal) = check_lent(host, job, table, masks, deals, 0) {
+        let state = first_state(lanes.first, lanes.second);
+        return Err(Refused { refusal, state });
     }
     let place = Place { order: 0, turn: 0 };
     let from = Reach {
@@ -54,5 +48,5 @@ pub fn start(
     };
     let host = Worker { host, masks, deals };
     let h = advance(&host, Job { orders: job, table }, place, from, &mut lanes);
-    answered(h, lanes.first, lanes.second)
+    Ok(answered(h, lanes.first, lanes.second))
 }

@@ -1,6 +1,8 @@
-use mathlib.Core.Path.{◌∙◌}
+use mathlib.Core.Path.{refl, sym, ◌∙◌}
 use Rattle.jobs.specs.Job.{job_gates, steps_of}
 use Rattle.jobs.specs.Counts.{counted}
+use Rattle.jobs.proofs.Refusals.{numbered}
+use Rattle.calls.proofs.Faults.{all_passed}
 use Rattle.calls.specs.Scripts.{job_script}
 use Rattle.calls.proofs.Scripts.{job_made}
 use Rattle.worker.specs.Answers.{state_of}
@@ -11,81 +13,83 @@ use Rattle.worker.proofs.Places.{are_equal, are_unequal, accepted, none_there, f
 use Rattle.worker.proofs.Places.{steps_here, speaks_here, walked_here}
 use Rattle.worker.proofs.State.hear.Goals as goal
 
-pub returns-then-lent-ne0 : goal.returns-then-lent-ne0
-returns-then-lent-ne0 c =
+pub returns-in-Err : goal.returns-in-Err
+returns-in-Err c =
     let a = c.args in
-    c.refused.ensures
-    ∙ hear_refused a.host (job_script 32 a.job.now a.table.now) a.masks.now a.deals.now _ _
-    c.check_lent-lent.ensures.fault
-    (state_of a.self) a.heard c.if-lent-ne0.true
+    hear_refused a.host (job_script 32 a.job.now a.table.now) a.masks.now a.deals.now _ _
+    c.in-Err.ensures.fault (state_of a.self) a.heard (numbered c.in-Err.refusal.condition)
 
 pub returns-then-n-order : goal.returns-then-n-order
 returns-then-n-order c =
     let a = c.args in
-    let u = c.check_lent-lent in
+    let u = c.in-Ok.ensures in
+    let counts = u.counts ∙ all_passed _ in
     let J = a.job.now in
     let T = a.table.now in
     let past = c.if-n-order.true in
-    c.refused-then-n-order.ensures
-    ∙ past_programs a.host (job_script 32 J T) a.masks.now a.deals.now _ _ u.ensures.fault
-    (state_of a.self) a.heard c.if-lent-ne0.false 32 (job_gates 32 J T) (job_made 32 J T) _ (gates_count 32 J T)
-    (counted u.result.counts)
-    (whole_job 32 J T a.host a.masks.now a.deals.now _ _ u.ensures.fault c.if-lent-ne0.false
-    (sized J T (accepted 32 J T a.host a.masks.now a.deals.now _ _ u.ensures.fault c.if-lent-ne0.false)) a.self.order past _
-    u.ensures.counts) _ past c.end_fault-number.ensures
+    c.refused.ensures
+    ∙ past_programs a.host (job_script 32 J T) a.masks.now a.deals.now _ _ u.fault
+    (state_of a.self) a.heard refl 32 (job_gates 32 J T) (job_made 32 J T) _ (gates_count 32 J T)
+    (counted c.in-Ok.before)
+    (whole_job 32 J T a.host a.masks.now a.deals.now _ _ u.fault refl
+    (sized J T (accepted 32 J T a.host a.masks.now a.deals.now _ _ u.fault refl)) a.self.order past _
+    counts) _ past c.end_fault-condition.ensures
 
 pub returns-in_default : goal.returns-in_default
 unfolding steps_of
 returns-in_default c =
     let a = c.args in
-    let u = c.check_lent-lent in
+    let u = c.in-Ok.ensures in
+    let counts = u.counts ∙ all_passed _ in
     let J = a.job.now in
     let T = a.table.now in
     c.refused-in_default.ensures
-    ∙ at_nowhere a.host (job_script 32 J T) a.masks.now a.deals.now _ _ u.ensures.fault (state_of a.self) a.heard c.if-lent-ne0.false
-    (none_there 32 J T a.host a.masks.now a.deals.now _ _ u.ensures.fault c.if-lent-ne0.false a.self.order a.self.turn
+    ∙ at_nowhere a.host (job_script 32 J T) a.masks.now a.deals.now _ _ u.fault (state_of a.self) a.heard refl
+    (none_there 32 J T a.host a.masks.now a.deals.now _ _ u.fault refl a.self.order a.self.turn
     c.if-n-order.false _ c.order_at-o.ensures _ c.seek.ensures.is c.in_default.is)
 
 pub stand_at-stand-requires : goal.stand_at-stand-requires
 stand_at-stand-requires c =
     let a = c.args in
-    let u = c.check_lent-lent in
+    let u = c.in-Ok.ensures in
+    let counts = u.counts ∙ all_passed _ in
     let J = a.job.now in
     let T = a.table.now in
-    let t = found_there 32 J T a.host a.masks.now a.deals.now _ _ u.ensures.fault c.if-lent-ne0.false a.self.order a.self.turn
+    let t = found_there 32 J T a.host a.masks.now a.deals.now _ _ u.fault refl a.self.order a.self.turn
     c.if-n-order.false _ c.order_at-o.ensures _ c.seek.ensures.is
-    (sized J T (accepted 32 J T a.host a.masks.now a.deals.now _ _ u.ensures.fault c.if-lent-ne0.false)) _ c.in-Some.is (counted u.result.counts) u.ensures.counts in
+    (sized J T (accepted 32 J T a.host a.masks.now a.deals.now _ _ u.fault refl)) _ c.in-Some.is (counted c.in-Ok.before) counts in
     (t.few_a, t.few_b, t.few_deals)
 
-pub returns-then-not-are_same : goal.returns-then-not-are_same
+pub returns-then-ne : goal.returns-then-ne
 unfolding steps_of
-returns-then-not-are_same c =
+returns-then-ne c =
     let a = c.args in
-    let u = c.check_lent-lent in
+    let u = c.in-Ok.ensures in
+    let counts = u.counts ∙ all_passed _ in
     let J = a.job.now in
     let T = a.table.now in
-    let small = sized J T (accepted 32 J T a.host a.masks.now a.deals.now _ _ u.ensures.fault c.if-lent-ne0.false) in
-    let S = stands_by 32 J T a.host a.masks.now a.deals.now _ _ u.ensures.fault c.if-lent-ne0.false a.self.order a.self.turn
+    let small = sized J T (accepted 32 J T a.host a.masks.now a.deals.now _ _ u.fault refl) in
+    let S = stands_by 32 J T a.host a.masks.now a.deals.now _ _ u.fault refl a.self.order a.self.turn
     c.if-n-order.false _ c.order_at-o.ensures _ c.seek.ensures.is small _ c.in-Some.is
-    (counted u.result.counts) u.ensures.counts _ c.stand_at-stand.ensures in
+    (counted c.in-Ok.before) counts _ c.stand_at-stand.ensures in
     let o = a.self.order in
-    c.refused-then-not-are_same.ensures
-    ∙ at_unequal a.host (job_script 32 J T) a.masks.now a.deals.now _ _ u.ensures.fault
-    (state_of a.self) a.heard c.if-lent-ne0.false _ _ _ _ (speaks_here 32 J T o _ _ _ _ S.0.standing _ S.1)
+    c.refused-then-ne.ensures
+    ∙ at_unequal a.host (job_script 32 J T) a.masks.now a.deals.now _ _ u.fault
+    (state_of a.self) a.heard refl _ _ _ _ (speaks_here 32 J T o _ _ _ _ S.0.standing _ S.1)
     (steps_here 32 J T o _ _ _ _ S.0.standing _ S.1) S.0.is
-    (are_unequal a.self.stored _ _ (walked_here 32 J T o _ _ _ _ S.0.standing _ S.1 a.self.turn) _
-    c.are_same.ensures c.if-not-are_same.true-raw)
+    (λ e. are_unequal a.self.stored _ c.if-ne.ensures (e ∙ sym (walked_here 32 J T o _ _ _ _ S.0.standing _ S.1 a.self.turn)))
 
 pub resume-h-requires : goal.resume-h-requires
 resume-h-requires c =
     let a = c.args in
-    let u = c.check_lent-lent in
+    let u = c.in-Ok.ensures in
+    let counts = u.counts ∙ all_passed _ in
     let J = a.job.now in
     let T = a.table.now in
-    let small = sized J T (accepted 32 J T a.host a.masks.now a.deals.now _ _ u.ensures.fault c.if-lent-ne0.false) in
-    let S = stands_by 32 J T a.host a.masks.now a.deals.now _ _ u.ensures.fault c.if-lent-ne0.false a.self.order a.self.turn
+    let small = sized J T (accepted 32 J T a.host a.masks.now a.deals.now _ _ u.fault refl) in
+    let S = stands_by 32 J T a.host a.masks.now a.deals.now _ _ u.fault refl a.self.order a.self.turn
     c.if-n-order.false _ c.order_at-o.ensures _ c.seek.ensures.is small _ c.in-Some.is
-    (counted u.result.counts) u.ensures.counts _ c.stand_at-stand.ensures in (
+    (counted c.in-Ok.before) counts _ c.stand_at-stand.ensures in (
       small,
       record {
         standing = S.0.standing;
@@ -102,18 +106,18 @@ pub returns : goal.returns
 unfolding steps_of
 returns c =
     let a = c.args in
-    let u = c.check_lent-lent in
+    let u = c.in-Ok.ensures in
+    let counts = u.counts ∙ all_passed _ in
     let J = a.job.now in
     let T = a.table.now in
-    let small = sized J T (accepted 32 J T a.host a.masks.now a.deals.now _ _ u.ensures.fault c.if-lent-ne0.false) in
-    let S = stands_by 32 J T a.host a.masks.now a.deals.now _ _ u.ensures.fault c.if-lent-ne0.false a.self.order a.self.turn
+    let small = sized J T (accepted 32 J T a.host a.masks.now a.deals.now _ _ u.fault refl) in
+    let S = stands_by 32 J T a.host a.masks.now a.deals.now _ _ u.fault refl a.self.order a.self.turn
     c.if-n-order.false _ c.order_at-o.ensures _ c.seek.ensures.is small _ c.in-Some.is
-    (counted u.result.counts) u.ensures.counts _ c.stand_at-stand.ensures in
+    (counted c.in-Ok.before) counts _ c.stand_at-stand.ensures in
     let o = a.self.order in
     c.answered.ensures
     ∙ c.resume-h.ensures a.self.stored
-    ∙ at_exchange a.host (job_script 32 J T) a.masks.now a.deals.now _ _ u.ensures.fault
-    (state_of a.self) a.heard c.if-lent-ne0.false _ _ _ _ (speaks_here 32 J T o _ _ _ _ S.0.standing _ S.1)
+    ∙ at_exchange a.host (job_script 32 J T) a.masks.now a.deals.now _ _ u.fault
+    (state_of a.self) a.heard refl _ _ _ _ (speaks_here 32 J T o _ _ _ _ S.0.standing _ S.1)
     (steps_here 32 J T o _ _ _ _ S.0.standing _ S.1) S.0.is
-    (are_equal a.self.stored _ _ (walked_here 32 J T o _ _ _ _ S.0.standing _ S.1 a.self.turn) _
-    c.are_same.ensures c.if-not-are_same.false-raw)
+    (are_equal a.self.stored _ c.if-ne.ensures ∙ walked_here 32 J T o _ _ _ _ S.0.standing _ S.1 a.self.turn)
