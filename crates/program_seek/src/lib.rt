@@ -4,7 +4,7 @@
 ghost use Rattle.std.specs.Prelude.{◌≡◌, Some, List, [], ◌∷◌, ◌++◌, ℕ, ◌+◌, ◌*◌, ◌^◌, ◌≤◌, ◌<◌};
 ghost use Rattle.gates.specs.Gates.{Gate, Mul, Refresh};
 ghost use Rattle.tables.specs.Table.{rows};
-ghost use Rattle.programs.specs.Blocks.{Below};
+ghost use Rattle.programs.specs.Blocks.{Below, after};
 ghost use Rattle.programs.specs.declared.TheConstants.{ROW};
 ghost use Rattle.programs.specs.Programs.{adder, sign_program, relu_program, one_bit_program};
 ghost use Rattle.programs.specs.Programs.{exact_program, truncation, saturation};
@@ -28,6 +28,29 @@ const ONE_BIT_HEAD: BlockSize = BlockSize {
     deals: 2,
 };
 
+// Behind a block that starts at a place.
+fn after(place: GatePlace, block: BlockSize) -> GatePlace
+    requires { Below (2 ^ 64) (after place block) }
+    ensures { result ≡ after place block }
+{
+    GatePlace {
+        gate: place.gate + block.gates,
+        a: place.a + block.a,
+        deals: place.deals + block.deals,
+    }
+}
+
+// Behind so many gates that use no word of A and no deal.
+fn past(place: GatePlace, gates: usize) -> GatePlace
+    requires { place.gate + gates < 2 ^ 64 }
+    ensures { result ≡ gate_place (place.gate + gates) place.a place.deals }
+{
+    GatePlace {
+        gate: place.gate + gates,
+        ..place
+    }
+}
+
 // The adder's n-th product, whatever gates are behind it. After the first one, the even ones end a round each and the
 // odd ones stand three gates before; the first one is with a known value, and has no deal.
 fn adder_place(n: usize, from: GatePlace) -> GatePlace
@@ -35,14 +58,17 @@ fn adder_place(n: usize, from: GatePlace) -> GatePlace
     ensures { (x : ℕ) (gs : List Gate) → Some result ≡ sought_from 32 (adder 32 x ++ gs) n from }
 {
     if n == 0 {
-        return from.after(DEALT);
+        return after(from, DEALT);
     }
-    from.after(BlockSize {
-        gates: ADDER_HEAD - 1 + ROUND_GATES * n / 2,
-        exchanges: n,
-        a: 2 * n,
-        deals: n,
-    })
+    after(
+        from,
+        BlockSize {
+            gates: ADDER_HEAD - 1 + ROUND_GATES * n / 2,
+            exchanges: n,
+            a: 2 * n,
+            deals: n,
+        },
+    )
 }
 
 // A program whose first gate is its one exchange.
@@ -61,7 +87,7 @@ fn sign_place(n: usize, from: GatePlace) -> GatePlace
     if n < ADDER.exchanges {
         return adder_place(n, from);
     }
-    from.after(ADDER).past(SIGN_NUMBER - SIGN_BIT).after(DEALT)
+    after(past(after(from, ADDER), SIGN_NUMBER - SIGN_BIT), DEALT)
 }
 
 // The sign, and the product that ends the program.
@@ -74,7 +100,7 @@ fn relu_place(n: usize, from: GatePlace) -> Option<GatePlace>
     }
     at_once(
         n - SIGN.exchanges,
-        from.after(SIGN).past(RELU_LAST - RELU_ONE),
+        past(after(from, SIGN), RELU_LAST - RELU_ONE),
     )
 }
 
@@ -83,13 +109,13 @@ fn saturation_place(n: usize, from: GatePlace) -> Option<GatePlace>
     requires { Below (2 ^ 61) from }
     ensures { (r x d : ℕ) → result ≡ sought_from 32 (saturation 32 r x d) n from }
 {
-    let sign = from.past(SATURATION_HEAD);
+    let sign = past(from, SATURATION_HEAD);
     if n < SIGN.exchanges {
         return Some(sign_place(n, sign));
     }
     at_once(
         n - SIGN.exchanges,
-        sign.after(SIGN).past(SATURATION_PRODUCT - SATURATION_PLUS),
+        past(after(sign, SIGN), SATURATION_PRODUCT - SATURATION_PLUS),
     )
 }
 
@@ -98,14 +124,14 @@ fn exact_place(n: usize, from: GatePlace) -> Option<GatePlace>
     requires { Below (2 ^ 61) from }
     ensures { (k x d : ℕ) → result ≡ sought_from 32 (exact_program 32 k x d) n from }
 {
-    let adder = from.after(DEAL).past(EXACT_HEAD - 1);
+    let adder = past(after(from, DEAL), EXACT_HEAD - 1);
     if n < ADDER.exchanges {
         return Some(adder_place(n, adder));
     }
-    let low = adder.after(ADDER).past(1);
+    let low = past(after(adder, ADDER), 1);
     match n - ADDER.exchanges {
-        0 => Some(low.after(DEALT)),
-        1 => Some(low.after(NUMBER).past(2).after(DEALT)),
+        0 => Some(after(low, DEALT)),
+        1 => Some(after(past(after(low, NUMBER), 2), DEALT)),
         _ => None,
     }
 }
@@ -116,7 +142,7 @@ fn one_bit_place(n: usize, from: GatePlace) -> Option<GatePlace>
     ensures { (k x d : ℕ) → result ≡ sought_from 32 (one_bit_program 32 k x d) n from }
 {
     if n == 0 {
-        Some(from.after(ONE_BIT_HEAD))
+        Some(after(from, ONE_BIT_HEAD))
     } else {
         None
     }
@@ -130,7 +156,7 @@ fn refreshed_place(n: usize, from: GatePlace) -> Option<GatePlace>
     if n == 0 {
         return Some(from);
     }
-    one_bit_place(n - 1, from.after(REFRESH))
+    one_bit_place(n - 1, after(from, REFRESH))
 }
 
 // Behind a curve's rows: the truncation of its mode, and then R-1's last steps.
@@ -143,12 +169,12 @@ fn end_place(mode: u32, n: usize, from: GatePlace) -> Option<GatePlace>
         if n < EXACT.exchanges {
             return exact_place(n, from);
         }
-        return saturation_place(n - EXACT.exchanges, from.after(EXACT));
+        return saturation_place(n - EXACT.exchanges, after(from, EXACT));
     }
     if n < REFRESHED.exchanges {
         return refreshed_place(n, from);
     }
-    saturation_place(n - REFRESHED.exchanges, from.after(REFRESHED))
+    saturation_place(n - REFRESHED.exchanges, after(from, REFRESHED))
 }
 
 // Behind a curve's first gate and so many rows.
@@ -172,7 +198,7 @@ fn curve_place(mode: u32, table: &[u32], n: u32) -> Option<GatePlace>
     let count = table.len() / 2;
     let row = n / ROW.exchanges;
     if row < count {
-        return relu_place(n % ROW.exchanges, behind_rows(row).past(ROW_HEAD));
+        return relu_place(n % ROW.exchanges, past(behind_rows(row), ROW_HEAD));
     }
     end_place(mode, n - ROW.exchanges * count, behind_rows(count))
 }

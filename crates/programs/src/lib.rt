@@ -2,8 +2,6 @@
 // number.
 #![tactic(auto)]
 
-ghost use Rattle.std.specs.Prelude.{◌≡◌, ◌+◌, ◌^◌, ◌<◌};
-
 mod kind;
 
 pub use kind::{Kind, UnknownKind};
@@ -23,34 +21,6 @@ pub struct GatePlace {
     pub gate: usize,
     pub a: usize,
     pub deals: usize,
-}
-
-impl GatePlace {
-    ghost use Rattle.programs.specs.Blocks.{Below, after};
-    ghost use Rattle.programs.specs.Seek.{gate_place};
-
-    // Behind a block that starts here.
-    pub fn after(self, block: BlockSize) -> GatePlace
-        requires { Below (2 ^ 64) (after self block) }
-        ensures { result ≡ after self block }
-    {
-        GatePlace {
-            gate: self.gate + block.gates,
-            a: self.a + block.a,
-            deals: self.deals + block.deals,
-        }
-    }
-
-    // Behind so many gates that use no word of A and no deal.
-    pub fn past(self, gates: usize) -> GatePlace
-        requires { self.gate + gates < 2 ^ 64 }
-        ensures { result ≡ gate_place (self.gate + gates) self.a self.deals }
-    {
-        GatePlace {
-            gate: self.gate + gates,
-            ..self
-        }
-    }
 }
 
 pub const START: GatePlace = GatePlace {

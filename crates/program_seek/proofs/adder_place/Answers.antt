@@ -1,4 +1,3 @@
-use mathlib.Core.Path.{◌∙◌}
 use Rattle.program_seek.proofs.Products.{adder_first, adder_later, rounds_32}
 use Rattle.program_seek.proofs.adder_place.Goals as goal
 
