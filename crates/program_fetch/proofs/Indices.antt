@@ -2,9 +2,8 @@
 use Rattle.std.proofs.Common.{◌≡◌, ℕ, zero, suc, ◌+◌, ◌-◌, ◌*◌, ◌/◌, ◌%◌, ◌^◌, ◌<◌, ◌≤◌, List, [], ◌∷◌, length, get_or, ℤ, pos, sym, refl, ap, ◌∙◌, ap₂, arith, to_z-of_z, w64, SFits, to_z, of_z}
 use native.Mathlib.Nat.{zero-mod}
 use lib.ListN.{get_or-eq_default}
-use Rattle.words.specs.Words.{add, sub, mul}
+use Rattle.words.specs.Words.{sub, mul}
 use Rattle.words.specs.Signed.{wrap}
-use Rattle.words.proofs.Words.{sub_of}
 use Rattle.tables.specs.Table.{Row, row, rows, row_at, slope, slopes}
 use Rattle.curves.specs.Curve.{last_count}
 use Rattle.curves.proofs.Wrapping.{wrap_minus}
@@ -87,9 +86,9 @@ some_slope_before ss (suc j) n = let e : suc j - 1 ≡ j = omega arith in rw e
 -- the change of slope is a difference of words
 pub changed : (w : ℕ) (ps : List Row) (j : ℕ) {y z : ℤ} {a b n : ℕ} → SFits w64 y → SFits w64 z
     → y ≡ get_or (slopes ps) j (pos 0) → z ≡ get_or (pos 0 ∷ slopes ps) j (pos 0)
-    → a ≡ wrap w (to_z w64 (of_z w64 y)) → b ≡ wrap w (to_z w64 (of_z w64 z)) → n < 2 ^ w → b < 2 ^ w → (n + b) % 2 ^ w ≡ a
+    → a ≡ wrap w (to_z w64 (of_z w64 y)) → b ≡ wrap w (to_z w64 (of_z w64 z)) → n ≡ sub w a b
     → n ≡ change w ps j
-unfolding change add
-changed w ps j {y} {z} {a} {b} {n} sy sz hy hz ha hb ln lb e =
-    sub_of w n b ln lb e ∙ ap₂ (sub w) (ha ∙ ap (wrap w) (to_z-of_z sy ∙ hy)) (hb ∙ ap (wrap w) (to_z-of_z sz ∙ hz))
+unfolding change
+changed w ps j {y} {z} {a} {b} {n} sy sz hy hz ha hb e =
+    e ∙ ap₂ (sub w) (ha ∙ ap (wrap w) (to_z-of_z sy ∙ hy)) (hb ∙ ap (wrap w) (to_z-of_z sz ∙ hz))
     ∙ sym (wrap_minus w _ _)

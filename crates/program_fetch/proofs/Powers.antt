@@ -1,8 +1,6 @@
--- Powers of 2 as words, and a word taken from 0. Assumes nothing.
-use Rattle.std.proofs.Common.{◌≡◌, ℕ, ◌+◌, ◌-◌, ◌*◌, ◌%◌, ◌^◌, ◌<◌, sym, ap, ◌∙◌, mod-eq_of_lt, one-mul, zero-add, arith}
+-- Powers of 2 as words. Assumes nothing.
+use Rattle.std.proofs.Common.{◌≡◌, ℕ, ◌-◌, ◌*◌, ◌%◌, ◌^◌, ◌<◌, sym, mod-eq_of_lt, one-mul, arith}
 use lib.Pow.{pow-lt}
-use Rattle.words.specs.Words.{add, sub, neg}
-use Rattle.words.proofs.Words.{sub_of}
 
 module _ (w : ℕ) where
   -- a shift of 1
@@ -15,8 +13,3 @@ module _ (w : ℕ) where
       let e : w - 1 - (k - 1) ≡ w - k = omega arith in
       let l : w - k < w = omega arith in
       rw e (sym (mod-eq_of_lt (pow-lt l)))
-
-  -- what n added to wraps to 0
-  pub negated : (n m : ℕ) → m < 2 ^ w → n < 2 ^ w → (m + n) % 2 ^ w ≡ 0 → m ≡ neg w n
-  unfolding add sub neg
-  negated n m hm hn e = sub_of w m n hm hn e ∙ ap (λ (x : ℕ). x % 2 ^ w) (zero-add (2 ^ w - n))

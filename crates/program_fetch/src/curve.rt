@@ -9,12 +9,12 @@ ghost use Rattle.program_fetch.specs.Pieces.{change, first_gates, row_start, row
 
 use crate::blocks::sign_gate;
 use crate::codes::{on_slots, past, with_constant};
-use crate::kinds::minus;
 use gates::{GateCode, Op};
 use programs::{
     ACC_SLOT, RES_SLOT, SATURATION_HEAD, SATURATION_LAST, SATURATION_PLUS, SATURATION_PRODUCT,
     T_SLOT, Y_SLOT,
 };
+use words::rings::{Arithmetic, Numbers};
 
 // 4096 times the first row's value, with which the sum starts.
 fn first_term(table: &[u32]) -> u32
@@ -23,7 +23,7 @@ fn first_term(table: &[u32]) -> u32
     if table.len() < 2 {
         return 0;
     }
-    words::wrapping_mul(4096, table[1])
+    Numbers::times(4096, table[1])
 }
 
 // The slope of the segment after a row, and 0 after the last one.
@@ -57,7 +57,7 @@ fn slope_change(table: &[u32], row: usize) -> u32
 {
     let after = words::word_of(slope_after(table, row));
     let before = words::word_of(slope_before(table, row));
-    std::num::wrapping_sub_u32(after, before)
+    Numbers::minus(after, before)
 }
 
 // The sum starts with 4096 times the first row's value.
@@ -86,7 +86,12 @@ pub(crate) fn row_start_gate(x: u32, table: &[u32], row: usize, i: usize) -> Gat
     ensures { read result ≡ fetched (row_start 32 (rows table.now) row x) i }
 {
     match i {
-        0 => with_constant(Op::Plus, Y_SLOT, x, minus(row_count(table, row))),
+        0 => with_constant(
+            Op::Plus,
+            Y_SLOT,
+            x,
+            Numbers::negative(row_count(table, row)),
+        ),
         _ => past(),
     }
 }

@@ -1,6 +1,5 @@
 // Kinds 0 to 9: the gate at an index of an order's program, from the blocks.
 ghost use Rattle.std.specs.Prelude.{◌≡◌, ◌-◌, ◌%◌, ◌^◌, ◌<◌, ◌≤◌, []};
-ghost use Rattle.words.specs.Words.{neg};
 ghost use Rattle.gates.specs.Codes.{fetched, read};
 ghost use Rattle.programs.specs.Programs.{relu_program, slack_program, one_bit_program, exact_program};
 ghost use Rattle.programs.specs.Orders.{program};
@@ -13,28 +12,16 @@ use programs::{
     EXACT_TOP, EXACT_TOP_NUMBER, G_SLOT, N_SLOT, Order, P_SLOT, RELU_LAST, RELU_ONE, RELU_SUB,
     RES_SLOT, S_SLOT, T_SLOT, WIDTH, Y_SLOT,
 };
+use words::rings::{Arithmetic, Numbers};
 
 // ---- the constants, which depend on the shift k
-
-// a - b, and 0 where b is larger.
-fn less(a: u32, b: u32) -> u32
-    ensures { result ≡ a - b }
-{
-    if b <= a { a - b } else { 0 }
-}
 
 // 2^(top - k), and 1 from k = top on.
 fn power(top: u32, k: u32) -> u32
     requires { top ≤ 31 }
     ensures { result ≡ 2 ^ (top - k) }
 {
-    1u32 << less(top, k)
-}
-
-pub(crate) fn minus(n: u32) -> u32
-    ensures { result ≡ neg 32 n }
-{
-    std::num::wrapping_sub_u32(0, n)
+    1u32 << top.saturating_sub(k)
 }
 
 // 2^(32 - k) as a word: 0 for k = 0, which is no shift of a valid order.
@@ -90,9 +77,15 @@ pub(crate) fn one_bit_gate(k: u32, x: u32, d: u32, i: usize) -> GateCode
 {
     match i {
         0 => with_constant(Op::Plus, Y_SLOT, x, power(WIDTH - 2, 0)),
-        1 => with_part(Op::DealSum, N_SLOT, Y_SLOT, k, less(WIDTH - 1, k)),
+        1 => with_part(
+            Op::DealSum,
+            N_SLOT,
+            Y_SLOT,
+            k,
+            (WIDTH - 1).saturating_sub(k),
+        ),
         2 => with_part(Op::DealSum, P_SLOT, Y_SLOT, WIDTH - 1, 1),
-        3 => with_part(Op::Public, G_SLOT, Y_SLOT, k, less(WIDTH - 1, k)),
+        3 => with_part(Op::Public, G_SLOT, Y_SLOT, k, (WIDTH - 1).saturating_sub(k)),
         4 => with_part(Op::Public, S_SLOT, Y_SLOT, WIDTH - 1, 1),
         5 => on_slots(Op::MulKnown, T_SLOT, S_SLOT, P_SLOT),
         6 => with_constant(Op::Scale, T_SLOT, T_SLOT, 2),
@@ -101,7 +94,7 @@ pub(crate) fn one_bit_gate(k: u32, x: u32, d: u32, i: usize) -> GateCode
         9 => with_constant(Op::Scale, P_SLOT, P_SLOT, power(WIDTH - 1, k)),
         10 => on_slots(Op::Sub, G_SLOT, G_SLOT, N_SLOT),
         11 => on_slots(Op::Add, G_SLOT, G_SLOT, P_SLOT),
-        12 => with_constant(Op::Plus, d, G_SLOT, minus(power(WIDTH - 2, k))),
+        12 => with_constant(Op::Plus, d, G_SLOT, Numbers::negative(power(WIDTH - 2, k))),
         _ => past(),
     }
 }
@@ -117,14 +110,19 @@ pub(crate) fn exact_gate(k: u32, x: u32, d: u32, i: usize) -> GateCode
         2 => with_part(Op::Public, T_SLOT, Y_SLOT, k, WIDTH),
         3 => on_slots(Op::Add, RES_SLOT, RES_SLOT, T_SLOT),
         EXACT_HEAD..EXACT_LOW => adder_gate(Y_SLOT, i - EXACT_HEAD),
-        EXACT_LOW => with_constant(Op::Bit, T_SLOT, G_SLOT, less(k, 1)),
+        EXACT_LOW => with_constant(Op::Bit, T_SLOT, G_SLOT, k.saturating_sub(1)),
         EXACT_LOW_NUMBER..EXACT_SUM => number_gate(i - EXACT_LOW_NUMBER),
         EXACT_SUM => on_slots(Op::Add, RES_SLOT, RES_SLOT, T_SLOT),
         EXACT_TOP => with_constant(Op::Bit, T_SLOT, G_SLOT, WIDTH - 1),
         EXACT_TOP_NUMBER..EXACT_SCALE => number_gate(i - EXACT_TOP_NUMBER),
         EXACT_SCALE => with_constant(Op::Scale, T_SLOT, T_SLOT, full_power(k)),
         EXACT_SUB => on_slots(Op::Sub, RES_SLOT, RES_SLOT, T_SLOT),
-        EXACT_LAST => with_constant(Op::Plus, d, RES_SLOT, minus(power(WIDTH - 1, k))),
+        EXACT_LAST => with_constant(
+            Op::Plus,
+            d,
+            RES_SLOT,
+            Numbers::negative(power(WIDTH - 1, k)),
+        ),
         _ => past(),
     }
 }

@@ -12,7 +12,7 @@ ghost use Rattle.word_lists.specs.Copied.{front_copied};
 pub fn word_at(words: &[u32], i: usize) -> u32
     ensures { result ≡ Steps.at words.now i }
 {
-    if i < words.len() { words[i] } else { 0 }
+    words.get(i).copied().unwrap_or(0)
 }
 
 // The word after the i-th, for every i.
@@ -57,9 +57,5 @@ pub fn copy_front(from: &[u32], to: &mut [u32], n: usize)
     if to.len() < n {
         return;
     }
-    let mut i = 0;
-    while i < n {
-        to[i] = from[i];
-        i += 1;
-    }
+    to[..n].copy_from_slice(&from[..n]);
 }

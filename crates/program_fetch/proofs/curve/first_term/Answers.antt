@@ -6,4 +6,4 @@ pub returns-then-table-lt2 : goal.returns-then-table-lt2
 returns-then-table-lt2 c = no_first_term c.args.table.now 32 c.if-table-lt2.true
 
 pub returns : goal.returns
-returns c = let s = c in c.wrapping_mul.ensures ∙ some_first_term s.args.table.now 32 (omega arith)
+returns c = let s = c in c.times.ensures ∙ some_first_term s.args.table.now 32 (omega arith)

@@ -14,7 +14,7 @@ returns-in-0 c =
     let s = c in
     simp c.in-0.is
     (c.with_constant.ensures
-    ∙ ap (λ (n : ℕ). At (Plus y_slot s.args.x n)) (c.minus.ensures ∙ ap (neg 32) c.row_count.ensures))
+    ∙ ap (λ (n : ℕ). At (Plus y_slot s.args.x n)) (c.negative.ensures ∙ ap (neg 32) c.row_count.ensures))
 
 pub returns-in_default : goal.returns-in_default
 unfolding row_start

@@ -25,7 +25,7 @@ returns-in-3 c = simp c.in-3.is c.on_slots.ensures
 
 pub returns-in-32 : goal.returns-in-32
 unfolding gate_with fetched exact_program adder rounds update_gates updates distances doubled to_number
-returns-in-32 c = simp c.in-32.is (simp c.less.ensures at c.with_constant-in-32.ensures)
+returns-in-32 c = simp c.in-32.is (simp c.saturating_sub.ensures at c.with_constant-in-32.ensures)
 
 pub returns-in-39 : goal.returns-in-39
 unfolding gate_with fetched exact_program adder rounds update_gates updates distances doubled to_number
@@ -47,7 +47,7 @@ pub returns-in-49 : goal.returns-in-49
 unfolding gate_with fetched exact_program adder rounds update_gates updates distances doubled to_number
 returns-in-49 c =
     simp c.in-49.is
-    (simp (c.minus.ensures, c.power-in-49.ensures) at c.with_constant-in-49.ensures)
+    (simp (c.negative.ensures, c.power-in-49.ensures) at c.with_constant-in-49.ensures)
 
 pub returns-in-4-to-31 : goal.returns-in-4-to-31
 unfolding exact_program adder rounds update_gates updates distances doubled to_number

@@ -11,7 +11,7 @@ returns-in-0 c = simp c.in-0.is (simp c.power.ensures at c.with_constant.ensures
 
 pub returns-in-1 : goal.returns-in-1
 unfolding gate_with fetched one_bit_program
-returns-in-1 c = simp c.in-1.is (simp c.less.ensures at c.with_part.ensures)
+returns-in-1 c = simp c.in-1.is (simp c.saturating_sub.ensures at c.with_part.ensures)
 
 pub returns-in-2 : goal.returns-in-2
 unfolding gate_with fetched one_bit_program
@@ -19,7 +19,7 @@ returns-in-2 c = simp c.in-2.is c.with_part-in-2.ensures
 
 pub returns-in-3 : goal.returns-in-3
 unfolding gate_with fetched one_bit_program
-returns-in-3 c = simp c.in-3.is (simp c.less-in-3.ensures at c.with_part-in-3.ensures)
+returns-in-3 c = simp c.in-3.is (simp c.saturating_sub-in-3.ensures at c.with_part-in-3.ensures)
 
 pub returns-in-4 : goal.returns-in-4
 unfolding gate_with fetched one_bit_program
@@ -57,7 +57,7 @@ pub returns-in-12 : goal.returns-in-12
 unfolding gate_with fetched one_bit_program
 returns-in-12 c =
     simp c.in-12.is
-    (simp (c.minus.ensures, c.power-in-12.ensures) at c.with_constant-in-12.ensures)
+    (simp (c.negative.ensures, c.power-in-12.ensures) at c.with_constant-in-12.ensures)
 
 pub returns-in_default : goal.returns-in_default
 unfolding one_bit_program
