@@ -9,14 +9,14 @@ ghost use Rattle.words.specs.Signed.{shr_signed};
 pub fn shift_up(x: u32, n: u32) -> u32
     ensures { result ≡ shl 32 n x }
 {
-    if n < 32 { x << n } else { 0 }
+    x.checked_shl(n).unwrap_or(0)
 }
 
 // floor(x / 2^k), x unsigned.
 fn shift_down(x: u32, k: u32) -> u32
     ensures { result ≡ shr k x }
 {
-    if k < 32 { x >> k } else { 0 }
+    x.checked_shr(k).unwrap_or(0)
 }
 
 // Bit n of x, 0 or 1.

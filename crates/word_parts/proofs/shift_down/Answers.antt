@@ -1,12 +1,10 @@
-use mathlib.Core.Path.{refl, sym}
-use native.Mathlib.Omega.{arith}
+use Rattle.std.proofs.Common.{◌≡◌, ◌≤◌, rules}
 use Rattle.words.specs.Words.{shr}
 use Rattle.word_parts.proofs.Floors.{shr_past}
 use Rattle.word_parts.proofs.shift_down.Goals as goal
 
-pub returns-then-k-lt32 : goal.returns-then-k-lt32
+pub returns : goal.returns
 unfolding shr
-returns-then-k-lt32 c = refl
-
-pub returns-else-k-lt32 : goal.returns-else-k-lt32
-returns-else-k-lt32 c = sym (shr_past 32 _ _ c.if-k-lt32.false (omega arith))
+returns c =
+    let past : 32 ≤ c.args.k → shr c.args.k c.args.x ≡ 0 = λ h. shr_past 32 c.args.k c.args.x h c.ranges.x.fits in
+    search rules

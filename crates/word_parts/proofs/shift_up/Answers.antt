@@ -1,11 +1,8 @@
-use mathlib.Core.Path.{refl, sym}
+use Rattle.std.proofs.Common.{rules}
 use Rattle.words.specs.Words.{shl}
 use Rattle.word_parts.proofs.Floors.{shl_past}
 use Rattle.word_parts.proofs.shift_up.Goals as goal
 
-pub returns-then-n-lt32 : goal.returns-then-n-lt32
+pub returns : goal.returns
 unfolding shl
-returns-then-n-lt32 c = refl
-
-pub returns-else-n-lt32 : goal.returns-else-n-lt32
-returns-else-n-lt32 c = sym (shl_past 32 _ _ c.if-n-lt32.false)
+returns c = let past = shl_past 32 c.args.n c.args.x in search rules
