@@ -4,37 +4,35 @@ use mathlib.Core.Logic.{◌≢◌}
 use mathlib.Core.List.{List}
 use Prim.Native.Nat.{ℕ, zero, suc, ◌≤◌, ◌<◌, ◌/◌}
 use lib.ListN.{length}
-use Rattle.gates.specs.Steps.{Lane}
 use Rattle.gates.specs.Hosts.{Triple, of0, of1, of2}
+use Rattle.std.specs.Prelude.{Result, Ok, Err, IsOk}
+use Rattle.jobs.proofs.Refusals.{numbered}
 use Rattle.jobs.proofs.Indices.{order_count}
+use Rattle.worker.specs.declared.Answer.{Answer as Reply}
+use Rattle.worker.specs.declared.Refused.{Refused}
+use Rattle.worker.specs.Answers.{answer_of}
 use Rattle.worker.proofs.Jobs.{sized}
-use Rattle.calls.specs.Calls.{stored_places, State, Answer, Prepared, fresh, unless, given, start, prepare}
+use Rattle.calls.specs.Calls.{State, Answer, Prepared, refused, unless, given, start, prepare}
 use Rattle.calls.specs.Scripts.{Script, job_script, orders_in, Closed}
 use Rattle.calls.specs.Lent.{lent, dealer_fault}
 use Rattle.runs.specs.Runs.{Stage}
 use Rattle.runs.proofs.Chain.{job_orders}
 use Rattle.runs.proofs.Started.{or_else_none}
 use Rattle.runs.proofs.Progress.{unless_zero}
-use Rattle.trio.specs.Together.{Full, Trio, after_preparation, left, end_answer, begun, heard, together}
+use Rattle.trio.specs.Together.{Full, Trio, Speaks, after_preparation, left, end_answer, begun, heard, together}
 use Rattle.trio.proofs.Positions.{P, Standing, prepare_number, begun_stands}
 use Rattle.trio.proofs.Ends.{ahead, Turn, turn, finish}
 
 -- ---- a starting, or none
 
-pub first_started : (n i : ℕ) (s : State) (a x : Answer) → n ≡ 0 → x ≡ a → x ≡ unless n (n, i) s a
-first_started n i s a x e h = h ∙ sym (unless_zero n (n, i) s a e)
+pub not_turned : (r : Result Reply Refused) → (answer_of r).number ≡ 0 → IsOk r
+not_turned (Ok a) z = refl
+not_turned (Err e) z = absurd (numbered e.refusal.condition z)
 
-pub first_refused : (n i : ℕ) (m mask fm fl : Lane) (a : Answer) → n ≢ 0 → fm ≡ fresh m → fl ≡ fresh mask
-    → record {
-      number = n;
-      index = i;
-      spoken = 0;
-      word = 0;
-      state = record { m = fm; mask = fl; order = 0; turn = 0; stored = stored_places 0 0 0 };
-    } ≡ unless n (n, i) (given (m, mask)) a
-unfolding unless given
-first_refused zero i m mask fm fl a h p q = absurd (h refl)
-first_refused (suc n) i m mask fm fl a h p q = rw (p, q)
+pub no_start : (n i : ℕ) (s : State) (a : Answer) → n ≢ 0 → refused (n, i) s ≡ unless n (n, i) s a
+unfolding unless
+no_start zero i s a h = absurd (h refl)
+no_start (suc n) i s a h = refl
 
 module _ (σ : Script) (A B : List ℕ) where
   -- ---- preparation and both startings, from the answers of the calls
@@ -75,6 +73,24 @@ module _ (σ : Script) (A B : List ℕ) where
   unfolding begun after_preparation
   prepared_none r h buf s e z = ap (λ (x : Trio). x.number) (sym e) ∙ z
 
+  -- a preparation that is not refused was lent enough for both startings
+  module _ (r : Triple) (h : Full σ.slots r) (buf D : List ℕ) (p : Prepared) (e : p ≡ prepare σ A B buf (of0 r)) (d : p.buffer ≡ D)
+      (z : p.number ≡ 0) where
+    begun_speaks : Speaks (begun σ A B r buf)
+    begun_speaks =
+        let s = begun_stands (stage r h) buf (ap (λ (x : Prepared). x.number) (sym e) ∙ z) in
+        (ap (λ (x : Trio). x.one.number) s.is, ap (λ (x : Trio). x.two.number) s.is)
+
+    pub start1_speaks : (start (lent 1 σ A D) (of1 r)).number ≡ 0
+    unfolding begun after_preparation
+    start1_speaks =
+        rw (← d, e) (ap (λ (a : Answer). a.number) (sym (unless_zero _ _ _ _ (ap (λ (x : Prepared). x.number) (sym e) ∙ z))) ∙ begun_speaks.0)
+
+    pub start2_speaks : (start (lent 2 σ B D) (of2 r)).number ≡ 0
+    unfolding begun after_preparation
+    start2_speaks =
+        rw (← d, e) (ap (λ (a : Answer). a.number) (sym (unless_zero _ _ _ _ (ap (λ (x : Prepared). x.number) (sym e) ∙ z))) ∙ begun_speaks.1)
+
   -- what the loop keeps of the three hosts s, whatever registers and buffer they began with
   abbrev pub Going : (first s : Trio) → Type 0
   Going f s = (r : Triple) (h : Full σ.slots r) (buf : List ℕ) → f ≡ begun σ A B r buf → f.number ≡ 0 → Standing (stage r h) buf s
@@ -87,6 +103,12 @@ module _ (σ : Script) (A B : List ℕ) where
     turned : (r : Triple) (h : Full σ.slots r) (buf : List ℕ) (e : f ≡ begun σ A B r buf) (z : f.number ≡ 0)
         → s.one.state.order < k → Turn (stage r h) shut buf (prepared_none r h buf f e z) s
     turned r h buf e z l = turn (stage r h) shut buf (prepared_none r h buf f e z) s (g r h buf e z) (rw ek l)
+
+    pub still_speaks : (r : Triple) (h : Full σ.slots r) (buf : List ℕ) (e : f ≡ begun σ A B r buf) (z : f.number ≡ 0)
+        → s.one.state.order < k → Speaks (heard σ A B s)
+    still_speaks r h buf e z l =
+        let u = (turned r h buf e z l).stands in
+        (ap (λ (x : Trio). x.one.number) u.is, ap (λ (x : Trio). x.two.number) u.is)
 
     pub going_on : (t : Trio) → t ≡ heard σ A B s → s.one.state.order < k → Going f t
     going_on t p l r h buf e z = rw p (turned r h buf e z l).stands

@@ -1,15 +1,17 @@
 -- Document 01, "Stepping": a script that the three hosts run in one place, each word carried to the other host at once.
 -- Assumes nothing.
-use Rattle.std.specs.Prelude.{◌≡◌, List, [], ℕ, length}
+use Rattle.std.specs.Prelude.{◌≡◌, List, [], ℕ, length, Result, Ok, Err}
 use Rattle.gates.specs.Steps.{origin}
 use Rattle.gates.specs.Walk.{whole}
 use Rattle.gates.specs.Hosts.{Pair, Triple, of0, of1, of2, act}
 use Rattle.calls.specs.Scripts.{Script, script_cost, orders_in}
 use Rattle.calls.specs.Lent.{lent}
 use Rattle.calls.specs.declared.Stored.{Stored}
-use Rattle.calls.specs.Calls.{stored_places, Answer, Prepared, fresh, given, unless, start, hear, prepare}
-use Rattle.worker.specs.Answers.{answer_of}
+use Rattle.calls.specs.Calls.{stored_places, Answer, Prepared, fresh, given, unless, refused, start, hear, prepare}
+use Rattle.jobs.specs.Refusals.{number_of, fault_of}
+use Rattle.worker.specs.Answers.{answer_of, state_of}
 use Rattle.trio.specs.declared.Trio.{Trio as Trio'}
+use Rattle.trio.specs.declared.Refused.{Refused}
 use Rattle.trio.specs.declared.Shared.{Shared}
 
 -- the preparation's number, index, deals and masks, the last answers of hosts 1 and 2, and the buffer of deals
@@ -23,17 +25,31 @@ pub record Trio : Type 0 where
   pub buffer : List ℕ
 
 -- the code's three hosts, and the buffer lent to them
-abbrev pub trio_of : Trio' → (buffer : List ℕ) → Trio
-trio_of s buf =
+abbrev pub trio_of : Result Trio' Refused → (buffer : List ℕ) → Trio
+trio_of (Ok s) buf =
     record {
-      number = s.number;
-      index = s.index;
+      number = 0;
+      index = 0;
       deals = s.deals;
       masks = (s.masks.l1, s.masks.l2);
-      one = answer_of s.one;
-      two = answer_of s.two;
+      one = answer_of (Ok s.one);
+      two = answer_of (Ok s.two);
       buffer = buf;
     }
+trio_of (Err r) buf =
+    record {
+      number = number_of r.refusal.condition;
+      index = r.refusal.index;
+      deals = 0;
+      masks = (r.masks.l1, r.masks.l2);
+      one = refused (fault_of r.refusal) (state_of r.one);
+      two = refused (fault_of r.refusal) (state_of r.two);
+      buffer = buf;
+    }
+
+-- neither host was turned down
+abbrev pub Speaks : Trio → Type 0
+Speaks s = (s.one.number ≡ 0) × (s.two.number ≡ 0)
 
 -- the lanes m, L1 and L2 of the registers given
 abbrev pub shared : Shared → Triple
