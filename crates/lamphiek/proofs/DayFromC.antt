@@ -1,9 +1,8 @@
 -- Each call of a day from C is a step of a run of the day's calls. Assumes nothing.
-use mathlib.Core.Path.{◌≡◌, refl, sym, ap, ◌∙◌, subst}
+use mathlib.Core.Path.{◌≡◌, sym, ap, ◌∙◌, subst}
 use mathlib.Core.Logic.{◌≢◌}
 use mathlib.Core.List.{List, [], ◌∷◌}
 use Prim.Native.Nat.{ℕ, ◌<◌}
-use native.Mathlib.Omega.{arith}
 use lib.ListN.{length}
 use lib.Seq.{get_or-take}
 use Rattle.shares.specs.Sharing.{reconstruction}
@@ -16,7 +15,7 @@ use Rattle.day_demands.specs.Settings.{DaySetting, day_staged}
 use Rattle.day_demands.specs.Calls.{list1, list2}
 use Rattle.day_demands.specs.Runs.{DayDealer, unprepared, prepared, DayHost, running, day_world, host_state, with_answer, answering, prepare0}
 use Rattle.day_demands.specs.Runs.{start1, start2, hear1, hear2, DayCompletes, day_prepares, day_starts1, day_starts2, day_hears1, day_hears2}
-use Rattle.day_demands.specs.Runs.{DayRefuses, day_refuses0, day_refuses1, day_refuses2, day_begin, dealer_masks, host_lanes, day_opened}
+use Rattle.day_demands.specs.Runs.{DayRefuses, day_refuses0, day_refuses1, day_refuses2, day_begin, dealer_masks, day_opened}
 use Rattle.day_demands.proofs.Numbers.{day_numbers}
 use Rattle.lamphiek.specs.Layout.{six_in, masks_in, state_in, state_words}
 use Rattle.lamphiek.specs.Stepping.{masks_left, state_left}

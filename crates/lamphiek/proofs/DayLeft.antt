@@ -1,9 +1,9 @@
 -- What a day's call answers has the lengths of the header's structs: lanes of 24 words, masks of sixteen. Assumes nothing.
-use mathlib.Core.Path.{◌≡◌, refl, sym, ap, ◌∙◌}
+use mathlib.Core.Path.{◌≡◌, refl, ap, ◌∙◌}
 use mathlib.Core.List.{List, [], ◌∷◌, ◌++◌}
 use Prim.Native.Nat.{ℕ, zero, suc, ◌+◌, ◌≤◌}
 use native.Mathlib.Omega.{arith}
-use lib.ListN.{length, take, replicate, length-append, length-replicate}
+use lib.ListN.{length, take, replicate, length-append}
 use lib.Seq.{length-take-le, take-take}
 use Rattle.gates.specs.Steps.{Lane}
 use Rattle.gates.specs.Hosts.{Pair}
@@ -13,9 +13,7 @@ use Rattle.calls.specs.Lent.{dealer_fault}
 use Rattle.calls.specs.Calls as Calls
 use Rattle.days.specs.Day.{Hours, day_script}
 use Rattle.days.specs.DayCalls.{firsts, seconds, day_given, with_shares, own_state, day_lent, day_start, day_hear, day_prepare}
-use Rattle.lamphiek.specs.Layout.{state_in}
 use Rattle.lamphiek.proofs.Lanes.{Wide, Full, start_full, hear_full, prepare_wide}
-use Rattle.lamphiek.proofs.Left.{state_full}
 
 -- as many first words as second ones
 as_many : (L : List ℕ) → length (seconds L) ≡ length (firsts L)
