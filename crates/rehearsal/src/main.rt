@@ -6,58 +6,42 @@
 use rehearsal_answer::rehearsed;
 use std::io;
 use std::io::Read;
-use text_lines::{Line, blank, cut, front};
-use text_prints::Text;
+use text_lines::{Line, cut};
 
-// Whether there was anything more to read, and the line that it left open.
-#[derive(Clone, Copy)]
-struct Input {
-    more: bool,
-    line: Line,
+fn answer(rt: &impl Print, line: &Line) -> io::Result<()> {
+    let text = rehearsed(line.as_bytes());
+    rt.write_all(text.as_bytes())
 }
 
-fn print(rt: &impl Print, text: Text) -> io::Result<()> {
-    let bytes = text.bytes;
-    rt.write_all(front(&bytes, text.len))
-}
-
-fn answer(rt: &impl Print, line: Line) -> io::Result<()> {
-    let bytes = line.bytes;
-    print(rt, rehearsed(front(&bytes, line.len)))
-}
-
-// Answers every line that ends in the chunk.
+// Answers every line that ends in the chunk, and hands back the one that it leaves open.
 fn take_in(rt: &impl Print, chunk: &[u8], begun: Line) -> io::Result<Line> {
     let mut piece = cut(chunk, 0, begun);
-    while piece.ended {
-        answer(rt, piece.line)?;
-        piece = cut(chunk, piece.next, blank());
+    while let Some(next) = piece.next {
+        answer(rt, &piece.line)?;
+        piece = cut(chunk, next, Line::new());
     }
     Ok(piece.line)
 }
 
-fn read_some(rt: &impl Print, input: &mut impl Read, line: Line) -> io::Result<Input> {
+// The line that is left open by what is read next; nothing at the input's end.
+fn read_some(rt: &impl Print, input: &mut impl Read, line: Line) -> io::Result<Option<Line>> {
     let mut buffer = [0u8; 4096];
     let n = input.read(&mut buffer)?;
     if n == 0 {
-        return Ok(Input { more: false, line });
+        return Ok(None);
     }
     let open = take_in(rt, &buffer[..n], line)?;
-    Ok(Input {
-        more: true,
-        line: open,
-    })
+    Ok(Some(open))
 }
 
 // The turns are counted up to a number that no input uses up, since a proved loop ends.
 fn read_all(rt: &impl Print, input: &mut impl Read) -> io::Result<Line> {
-    let mut line = blank();
+    let mut line = Line::new();
     for _ in 0..u64::MAX {
-        let taken = read_some(rt, input, line)?;
-        line = taken.line;
-        if !taken.more {
+        let Some(open) = read_some(rt, input, line)? else {
             break;
-        }
+        };
+        line = open;
     }
     Ok(line)
 }
@@ -66,7 +50,7 @@ fn read_all(rt: &impl Print, input: &mut impl Read) -> io::Result<Line> {
 fn main(rt: HostRuntime) -> io::Result<()> {
     let last = read_all(&rt, &mut rt.stdin())?;
     if last.len > 0 {
-        answer(&rt, last)?;
+        answer(&rt, &last)?;
     }
     Ok(())
 }

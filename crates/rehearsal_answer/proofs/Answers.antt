@@ -1,5 +1,6 @@
 -- From the calls' answers to the line that is printed. Assumes nothing.
 use mathlib.Core.Path.{◌≡◌, refl, sym, ap, ◌∙◌}
+use Rattle.std.specs.Prelude.{Option, Some, None}
 use mathlib.Core.Bool.{Bool, true, false, cond}
 use mathlib.Core.List.{List}
 use Prim.Native.Nat.{ℕ, zero, suc, ◌+◌, ◌^◌, ◌<◌}
@@ -7,6 +8,9 @@ use native.Mathlib.Omega.{arith}
 use lib.Dec.{T, lit≤, lit<}
 use lib.IntN.{ℤ}
 use lib.ListN.{take}
+use mir.Syntax.{w64}
+use mir.Val.{SFits, of_z, to_z}
+use mir.ValLaws.{to_z-of_z}
 use Rattle.words.specs.Words.{numbers}
 use Rattle.words.specs.Signed.{signed, wrap, in_range}
 use Rattle.words.proofs.Words.{Word, add_lt}
@@ -23,16 +27,17 @@ use Rattle.shares.specs.declared.Opening.TheVariants.{Opened, Disagree}
 use Rattle.runs.specs.Runs.{opened_slot}
 use Rattle.text_lines.specs.Lines.{Parsed, asking, parsed}
 use Rattle.text_lines.specs.Buffers.{Buffer, filled}
-use Rattle.text_lines.specs.Answers.{asked}
-use Rattle.text_lines.specs.declared.Asked.{Asked}
-use Rattle.text_lines.specs.declared.Asked.TheVariants.{Reading, Malformed}
+use Rattle.text_lines.specs.Answers.{asked, mode_number}
+use Rattle.text_lines.specs.declared.parsing.Mode.{Mode}
+use Rattle.text_lines.specs.declared.parsing.Mode.TheVariants.{Exact, OneBit}
+use Rattle.text_lines.specs.declared.parsing.Request.{Request}
 use Rattle.text_lines.proofs.Chunks.{kept_reads}
 use Rattle.text_prints.specs.Printed.{answered, refused}
 use Rattle.trio.specs.declared.Trio.{Trio as Trio'}
 use Rattle.trio.specs.Together.{Trio}
 use Rattle.rehearsal_answer.specs.Rehearsal as Spec
 use Rattle.rehearsal_answer.specs.Rehearsal.{first_a, first_b, answer_of, answer}
-use Rattle.rehearsal_answer.specs.Trial.{trial, Ran}
+use Rattle.rehearsal_answer.specs.Trial.{trial, mode_word, Ran}
 use Rattle.rehearsal_answer.proofs.Trials.{opens_first, deals_are, words_are, value_is}
 
 -- the words of a curve fit a word
@@ -64,18 +69,27 @@ kept_answered line = ap answer_of (kept_reads line)
 abbrev holding : Parsed → Buffer
 holding p = filled 80 (answer_of p)
 
-module _ (line : List ℕ) (v : Asked) (e : asked v ≡ parsed line) where
-  pub reading_asked : (m : ℕ) (z : ℤ) → v ≡ Reading m z → (t : Buffer) → t ≡ holding (asking m z) → t ≡ filled 80 (answer line)
-  unfolding answer
-  reading_asked m z h t g = g ∙ ap holding (sym (ap asked h) ∙ e)
+-- the mode as the order's fourth word
+pub mode_word_is : (m : Mode) → mode_number m ≡ mode_word (mode_number m)
+mode_word_is Exact = refl
+mode_word_is OneBit = refl
 
-  pub nothing_asked : v ≡ Malformed → (t : Buffer) → t ≡ filled 80 (refused 0) → t ≡ filled 80 (answer line)
+module _ (line : List ℕ) (v : Option Request) (e : asked v ≡ parsed line) where
+  pub reading_asked : (r : Request) → v ≡ Some r → (t : Buffer) → t ≡ holding (asked (Some r)) → t ≡ filled 80 (answer line)
+  unfolding answer
+  reading_asked r h t g = g ∙ ap holding (sym (ap asked h) ∙ e)
+
+  pub nothing_asked : v ≡ None → (t : Buffer) → t ≡ filled 80 (refused 0) → t ≡ filled 80 (answer line)
   unfolding answer answer_of
   nothing_asked h t g = g ∙ ap holding (sym (ap asked h) ∙ e)
 
 -- ---- the three hosts' answer
 
-module _ (mode : ℕ) (z : ℤ) (v : Sharing) (e : sharing v ≡ split 32 z first_a first_b) where
+module _ (mode : ℕ) (z : ℤ) (fits : SFits w64 z) (v : Sharing)
+    (split_as : sharing v ≡ split 32 (to_z w64 (of_z w64 z)) first_a first_b) where
+  e : sharing v ≡ split 32 z first_a first_b
+  e = split_as ∙ ap (λ (y : ℤ). split 32 y first_a first_b) (to_z-of_z w64 z fits)
+
   abbrev share_of : Share ℕ
   share_of = masked (numbers 32) (wrap 32 z) first_a first_b
 

@@ -9,10 +9,8 @@ pub fn fill(list: &mut [u32], factor: u32, offset: u32)
     ensures { list.new ≡ multiples factor (offset + 1) (length list.old) }
 {
     let mut word = words::wrapping_mul(factor, offset);
-    let mut i = 0;
-    while i < list.len() {
-        word = std::num::wrapping_add_u32(word, factor);
-        list[i] = word;
-        i += 1;
+    for next in list {
+        word = word.wrapping_add(factor);
+        *next = word;
     }
 }

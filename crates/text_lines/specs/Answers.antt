@@ -1,21 +1,32 @@
--- The code's types as the document's: what a line asks for, a line as far as it is read, what a cut gives.
--- Assumes nothing.
-use Rattle.text_lines.specs.declared.Asked.{Asked}
-use Rattle.text_lines.specs.declared.Asked.TheVariants.{Reading, Malformed}
-use Rattle.text_lines.specs.declared.Line.{Line}
-use Rattle.text_lines.specs.declared.Piece.{Piece}
+-- The code's types as the document's: what a line asks for, what a short text holds, what a cut gives. Assumes nothing.
+use Rattle.std.specs.Prelude.{ℕ, true, false, Option, None, Some}
+use Rattle.text_lines.specs.declared.parsing.Mode.{Mode}
+use Rattle.text_lines.specs.declared.parsing.Mode.TheVariants.{Exact, OneBit}
+use Rattle.text_lines.specs.declared.parsing.Request.{Request}
+use Rattle.text_lines.specs.declared.short.Short.{Short}
+use Rattle.text_lines.specs.declared.cutting.Piece.{Piece}
 use Rattle.text_lines.specs.Lines.{Parsed, refusing, asking}
 use Rattle.text_lines.specs.Buffers.{Buffer, buffer}
 use Rattle.text_lines.specs.Input.{Cut, cut_is}
 
+-- "mode 0 exact, 1 one-bit"
+abbrev pub mode_number : Mode → ℕ
+mode_number Exact = 0
+mode_number OneBit = 1
+
 -- what the code found in a line: "Other lines, or over 64 bytes, print "refused 0""
-abbrev pub asked : Asked → Parsed
-asked (Reading mode reading) = asking mode reading
-asked Malformed = refusing 0
+abbrev pub asked : Option Request → Parsed
+asked (Some r) = asking (mode_number r.mode) r.reading
+asked None = refusing 0
 
--- all that a line holds
-abbrev pub held : Line → Buffer
-held l = buffer l.bytes l.len
+-- all that a short text holds
+abbrev pub held : {N : ℕ} → Short N → Buffer
+held t = buffer t.bytes t.len
 
-abbrev pub piece : Piece → Cut
-piece p = cut_is p.ended p.next (held p.line)
+-- a cut of a chunk that ends at a place: a line that does not end is left open there
+abbrev pub cut_at : (end : ℕ) (next : Option ℕ) → Buffer → Cut
+cut_at end (Some next) line = cut_is true next line
+cut_at end None line = cut_is false end line
+
+abbrev pub piece : (end : ℕ) → Piece → Cut
+piece end p = cut_at end p.next (held p.line)

@@ -1,94 +1,66 @@
 // Reading a line, from left to right: each function takes what is left of it.
-ghost use Rattle.std.specs.Prelude.{◌≡◌, ◌<◌, ◌^◌};
-ghost use Rattle.text_lines.specs.Lines.{parsed, after_letter, after_space, after_sign, with_sign};
-ghost use Rattle.text_lines.specs.Answers.{asked};
+ghost use Rattle.std.specs.Prelude.{◌≡◌};
+ghost use Rattle.text_lines.specs.Lines.{parsed, after_space, after_sign};
+ghost use Rattle.text_lines.specs.Answers.{asked, mode_number};
 
-use crate::Asked;
+// How a reading is calibrated: "E" or "S", with the number that an order has for it.
+#[derive(Clone, Copy, Debug, PartialEq, Eq)]
+pub enum Mode {
+    Exact = 0,
+    OneBit = 1,
+}
 
-// The line, without its newline.
-pub fn parse(line: &[u8]) -> Asked
+impl Mode {
+    pub fn number(self) -> u32
+        ensures { result ≡ mode_number self }
+    {
+        self as u32
+    }
+}
+
+// What a line asks for.
+#[derive(Clone, Copy, Debug, PartialEq, Eq)]
+pub struct Request {
+    pub mode: Mode,
+    pub reading: i64,
+}
+
+// The line, without its newline; nothing of a malformed one.
+pub fn parse(line: &[u8]) -> Option<Request>
     ensures { asked result ≡ parsed line.now }
 {
-    if 64 < line.len() {
-        return Asked::Malformed;
+    if line.len() > 64 {
+        return None;
     }
-    if line.len() == 0 {
-        return Asked::Malformed;
+    match line.strip_prefix(b"E ") {
+        Some(rest) => read_sign(Mode::Exact, rest),
+        None => read_sign(Mode::OneBit, line.strip_prefix(b"S ")?),
     }
-    if line[0] == 69 {
-        return read_space(0, &line[1..]);
-    }
-    if line[0] == 83 {
-        return read_space(1, &line[1..]);
-    }
-    Asked::Malformed
 }
 
-fn read_space(mode: u32, rest: &[u8]) -> Asked
-    ensures { asked result ≡ after_letter mode rest.now }
+fn read_sign(mode: Mode, rest: &[u8]) -> Option<Request>
+    ensures { asked result ≡ after_space (mode_number mode) rest.now }
 {
-    if rest.len() == 0 {
-        return Asked::Malformed;
+    match rest.strip_prefix(b"-") {
+        Some(digits) => read_digits(mode, true, digits),
+        None => read_digits(mode, false, rest),
     }
-    if rest[0] == 32 {
-        return read_sign(mode, &rest[1..]);
-    }
-    Asked::Malformed
 }
 
-fn read_sign(mode: u32, rest: &[u8]) -> Asked
-    ensures { asked result ≡ after_space mode rest.now }
+fn read_digits(mode: Mode, minus: bool, digits: &[u8]) -> Option<Request>
+    ensures { asked result ≡ after_sign (mode_number mode) minus digits.now }
 {
-    if rest.len() == 0 {
-        return Asked::Malformed;
+    if digits.is_empty() || digits.len() > 10 {
+        return None;
     }
-    if rest[0] == 45 {
-        return read_digits(mode, true, &rest[1..]);
-    }
-    read_digits(mode, false, rest)
-}
-
-fn read_digits(mode: u32, minus: bool, rest: &[u8]) -> Asked
-    ensures { asked result ≡ after_sign mode minus rest.now }
-{
-    if rest.len() == 0 {
-        return Asked::Malformed;
-    }
-    if 10 < rest.len() {
-        return Asked::Malformed;
-    }
-    let mut value: u64 = 0;
-    let mut i = 0;
-    while i < rest.len() {
-        let b = rest[i];
-        if b < 48 {
-            return Asked::Malformed;
+    let mut size: u64 = 0;
+    for digit in digits {
+        if !digit.is_ascii_digit() {
+            return None;
         }
-        if 57 < b {
-            return Asked::Malformed;
-        }
-        value = value * 10 + wide(b - 48);
-        i += 1;
+        size = size * 10 + u64::from(digit - b'0');
     }
-    Asked::Reading {
-        mode,
-        reading: signed(minus, value),
-    }
-}
-
-fn wide(x: u8) -> u64
-    ensures { result ≡ x }
-{
-    x as u64
-}
-
-fn signed(minus: bool, value: u64) -> i64
-    requires { value < 10 ^ 10 }
-    ensures { result ≡ with_sign minus value }
-{
-    if minus {
-        0 - value as i64
-    } else {
-        value as i64
-    }
+    let size = size as i64;
+    let reading = if minus { -size } else { size };
+    Some(Request { mode, reading })
 }

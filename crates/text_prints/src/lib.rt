@@ -1,96 +1,63 @@
-// The lines that the rehearsal program prints (document 01, "House table by hand"), as short texts. A byte behind 80
-// others is left out, so that no step asks for room; no line is longer than 66.
+// The lines that the rehearsal program prints (document 01, "House table by hand"), as short texts. No line is longer
+// than 66 bytes.
 #![tactic(auto)]
 
 ghost use Rattle.std.specs.Prelude.{◌≡◌, [], ◌∷◌};
 ghost use Rattle.text_lines.specs.Buffers.{filled, with_bytes};
+ghost use Rattle.text_lines.specs.Answers.{held};
 ghost use Rattle.text_prints.specs.Printed.{letter, shown, signed_shown, answered, refused};
-ghost use Rattle.text_prints.specs.Answers.{held};
 
-// A short text: the first `len` of its bytes, and zeros behind them.
-#[derive(Clone, Copy)]
-pub struct Text {
-    pub bytes: [u8; 80],
-    pub len: usize,
-}
+use text_lines::Short;
 
+pub type Text = Short<80>;
+
+// The mode stays a number: what is printed is promised of every number, and `text_lines::Mode` has two.
 pub fn answer_text(mode: u32, reading: i64, value: i64, deals: u32, words: u32) -> Text
     ensures { held result ≡ filled 80 (answered mode reading value deals words) }
 {
-    let t0 = put(empty(), letter_of(mode));
-    let t1 = put_column(t0, reading);
-    let t2 = put_column(t1, value);
-    let t3 = put_column(t2, deals as i64);
-    let t4 = put_column(t3, words as i64);
-    put(t4, 10)
+    let mut line = Text::new();
+    line.push(letter_of(mode));
+    put_column(&mut line, reading);
+    put_column(&mut line, value);
+    put_column(&mut line, i64::from(deals));
+    put_column(&mut line, i64::from(words));
+    line.push(b'\n');
+    line
 }
 
 pub fn refusal_text(number: u32) -> Text
     ensures { held result ≡ filled 80 (refused number) }
 {
-    let t0 = put_bytes(empty(), b"refused ");
-    let t1 = put_number(t0, number as u64);
-    put(t1, 10)
+    let mut refusal = Text::new();
+    refusal.extend_from_slice(b"refused ");
+    put_number(&mut refusal, u64::from(number));
+    refusal.push(b'\n');
+    refusal
 }
 
 fn letter_of(mode: u32) -> u8
     ensures { result ≡ letter mode }
 {
-    if mode == 0 { 69 } else { 83 }
+    if mode == 0 { b'E' } else { b'S' }
 }
 
-fn empty() -> Text
-    ensures { held result ≡ filled 80 [] }
+// Digits are put by hand: these texts can't fail, while only an Ok of `write!` says what was written.
+fn put_number(text: &mut Text, n: u64)
+    ensures { held text.new ≡ with_bytes 80 (held text.old) (shown n) }
 {
-    Text {
-        bytes: [0; 80],
-        len: 0,
+    if n >= 10 {
+        put_number(text, n / 10);
     }
-}
-
-fn put(t: Text, b: u8) -> Text
-    ensures { held result ≡ with_bytes 80 (held t) (b ∷ []) }
-{
-    let at = t.len;
-    if 80 <= at {
-        return t;
-    }
-    let mut longer = t;
-    longer.bytes[at] = b;
-    longer.len = at + 1;
-    longer
-}
-
-fn put_bytes(t: Text, s: &[u8]) -> Text
-    ensures { held result ≡ with_bytes 80 (held t) s.now }
-{
-    let mut longer = t;
-    let mut i = 0;
-    while i < s.len() {
-        longer = put(longer, s[i]);
-        i += 1;
-    }
-    longer
-}
-
-// The last digit behind those before it.
-fn put_number(t: Text, n: u64) -> Text
-    ensures { held result ≡ with_bytes 80 (held t) (shown n) }
-{
-    if n < 10 {
-        return put(t, 48 + n as u8);
-    }
-    put(put_number(t, n / 10), 48 + (n % 10) as u8)
+    text.push(b'0' + (n % 10) as u8);
 }
 
 // A space and a number.
-fn put_column(t: Text, z: i64) -> Text
-    ensures { held result ≡ with_bytes 80 (held t) (32 ∷ signed_shown z) }
+fn put_column(text: &mut Text, z: i64)
+    ensures { held text.new ≡ with_bytes 80 (held text.old) (32 ∷ signed_shown z) }
 {
-    let spaced = put(t, 32);
+    text.push(b' ');
     if z < 0 {
-        put_number(put(spaced, 45), (-1 - z) as u64 + 1)
-    } else {
-        put_number(spaced, z as u64)
+        text.push(b'-');
     }
+    put_number(text, z.unsigned_abs());
 }

@@ -1,11 +1,14 @@
 use native.Mathlib.Omega.{arith}
-use Rattle.text_prints.specs.Answers.{held}
-use Rattle.text_prints.proofs.Decimals.{shown_digit, last_digit}
+use Rattle.text_lines.specs.Buffers.{with_bytes}
+use Rattle.text_lines.specs.Answers.{held}
+use Rattle.text_prints.proofs.Decimals.{only_digit, last_digit}
+use Rattle.text_prints.proofs.+put_number.Goals.{then-n-ge10, else-n-ge10}
 use Rattle.text_prints.proofs.+put_number.Goals as goal
 
-pub returns-then-n-lt10 : goal.returns-then-n-lt10
-returns-then-n-lt10 t c = rw (shown_digit c.args.n c.if-n-lt10.true) c.put.ensures
-
 pub returns : goal.returns
-returns t c =
-    last_digit (held c.args.t) c.args.n c.if-n-lt10.false (omega arith) c.put_number.ensures c.put-2.ensures
+unfolding with_bytes
+returns t c = elim c.if-n-ge10.branch [
+  | then-n-ge10 w ↦ last_digit (held c.args.text.now) c.args.n w.if-n-ge10.true (omega arith) w.put_number.ensures
+      (rw w.text-is at c.push.ensures)
+  | else-n-ge10 w ↦ only_digit (held c.args.text.now) c.args.n w.if-n-ge10.false (rw w.text-is at c.push.ensures)
+]

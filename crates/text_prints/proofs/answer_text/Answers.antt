@@ -9,16 +9,14 @@ use Rattle.text_prints.proofs.Rows.{answer}
 use Rattle.text_prints.proofs.answer_text.Goals as goal
 
 pub returns : goal.returns
+unfolding with_bytes
 returns c =
-    let t3 = c in
-    let t1 = t3 in
-    let e = t1 in
-    let a = e.args in
-    answer a.mode a.reading a.value a.deals a.words e.ranges.reading e.ranges.value e.ranges.deals e.ranges.words
-    (t1.put-t0.ensures ∙ ap₂ (λ (x : Buffer) (y : ℕ). with_bytes 80 x (y ∷ [])) t1.empty.ensures
-    t1.letter_of.ensures)
-    (rw (to_z-of_z w64 a.reading e.ranges.reading) at t1.put_column-t1.ensures)
-    (rw (to_z-of_z w64 a.value e.ranges.value) at t3.put_column-t2.ensures)
-    (rw (shows_word a.deals e.ranges.deals) at t3.put_column-t3.ensures)
-    (rw (shows_word a.words e.ranges.words) at c.put_column-t4.ensures)
-    c.put.ensures
+    let a = c.args in
+    let r = c.ranges in
+    answer a.mode a.reading a.value a.deals a.words r.reading r.value r.deals r.words
+    (c.push.ensures ∙ ap₂ (λ (x : Buffer) (y : ℕ). with_bytes 80 x (y ∷ [])) c.new-line.ensures c.letter_of.ensures)
+    (rw (to_z-of_z w64 a.reading r.reading) at c.put_column.ensures)
+    (rw (to_z-of_z w64 a.value r.value) at c.put_column-2.ensures)
+    (rw (shows_word a.deals c.from.result r.deals c.from.ensures) at c.put_column-3.ensures)
+    (rw (shows_word a.words c.from-2.result r.words c.from-2.ensures) at c.put_column-4.ensures)
+    c.push-2.ensures

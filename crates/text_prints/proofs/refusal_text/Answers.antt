@@ -5,10 +5,9 @@ use Rattle.text_prints.proofs.Rows.{refusal}
 use Rattle.text_prints.proofs.refusal_text.Goals as goal
 
 pub returns : goal.returns
+unfolding with_bytes
 returns c =
-    let e = c in
-    refusal e.args.number e.ranges.number
-    (c.put_bytes-t0.ensures ∙ ap (λ (x : Buffer). with_bytes 80 x refused_word)
-    c.empty.ensures)
-    c.put_number-t1.ensures
-    c.put.ensures
+    refusal c.args.number c.ranges.number
+    (c.extend_from_slice.ensures ∙ ap (λ (x : Buffer). with_bytes 80 x refused_word) c.new-refusal.ensures)
+    (rw c.from.ensures at c.put_number.ensures)
+    c.push.ensures

@@ -1,48 +1,23 @@
-use borrow.Author.Tests.{eq-eqb, ne_eqb}
-use mathlib.Core.List.{List}
-use Prim.Native.Nat.{ℕ}
-use lib.ListN.{get_or}
-use Rattle.text_lines.specs.Lines.{from_letter}
-use Rattle.text_lines.proofs.Reading.{empty, first, tail, long, short}
+use Rattle.text_lines.proofs.Reading.{by_prefix, long, short}
 use Rattle.text_lines.proofs.parsing.parse.Goals as goal
 
 pub returns-then-line-gt64 : goal.returns-then-line-gt64
 returns-then-line-gt64 c = long c.args.line.now c.if-line-gt64.true
 
-pub returns-then-line-eq0 : goal.returns-then-line-eq0
-unfolding from_letter
-returns-then-line-eq0 c =
-    let s : List ℕ = c.args.line.now in
-    rw (short s c.if-line-gt64.false, empty s c.if-line-eq0.true)
+pub returns-in-Some : goal.returns-in-Some
+returns-in-Some c =
+    let s = c.args.line.now in
+    let e = c.in-Some.ensures.cases in
+    rw (short s c.if-line-gt64.false, by_prefix s, e.0, ← e.1) c.read_sign.ensures
 
-pub returns-then-line-eq69 : goal.returns-then-line-eq69
-unfolding from_letter
-returns-then-line-eq69 c =
-    let e = c in
-    let s : List ℕ = e.args.line.now in
-    rw (short s e.if-line-gt64.false, first s e.if-line-eq0.false, eq-eqb (get_or s 0 0) 69 c.if-line-eq69.true)
-    (rw tail at c.read_space.ensures)
+pub returns-in_err-strip_prefix-in-None : goal.returns-in_err-strip_prefix-in-None
+returns-in_err-strip_prefix-in-None c =
+    let s = c.args.line.now in
+    let e = c.in_err-strip_prefix-in-None.ensures.cases in
+    rw (c.from_residual.ensures, short s c.if-line-gt64.false, by_prefix s, c.in-None.ensures.cases, e)
 
-pub returns-then-line-eq83 : goal.returns-then-line-eq83
-unfolding from_letter
-returns-then-line-eq83 c =
-    let e = c in
-    let s : List ℕ = e.args.line.now in
-    rw (
-      short s e.if-line-gt64.false,
-      first s e.if-line-eq0.false,
-      ne_eqb (get_or s 0 0) 69 c.if-line-eq69.false,
-      eq-eqb (get_or s 0 0) 83 c.if-line-eq83.true,
-    ) (rw tail at c.read_space-then-line-eq83.ensures)
-
-pub returns : goal.returns
-unfolding from_letter
-returns c =
-    let e = c in
-    let s : List ℕ = e.args.line.now in
-    rw (
-      short s e.if-line-gt64.false,
-      first s e.if-line-eq0.false,
-      ne_eqb (get_or s 0 0) 69 c.if-line-eq69.false,
-      ne_eqb (get_or s 0 0) 83 c.if-line-eq83.false,
-    )
+pub returns-in_ok-strip_prefix-in-None : goal.returns-in_ok-strip_prefix-in-None
+returns-in_ok-strip_prefix-in-None c =
+    let s = c.args.line.now in
+    let e = c.in_ok-strip_prefix-in-None.ensures.cases in
+    rw (short s c.if-line-gt64.false, by_prefix s, c.in-None.ensures.cases, e.0, ← e.1) c.read_sign-in-None.ensures
