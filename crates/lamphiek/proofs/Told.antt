@@ -9,9 +9,13 @@ use lib.ListN.{length, drop, length-drop, drop_of_length-le}
 use Rattle.words.proofs.Integers.{le_or_lt}
 use Rattle.gates.specs.Costs.{Cost}
 use Rattle.jobs.specs.Job.{Fault, job_fault, job_cost}
-use Rattle.jobs.specs.Answers.{Verdict, refusal, judged, check_job, need, leftover_number, leftover_part}
+use Rattle.jobs.specs.Answers.{Verdict, refusal, acceptance, judged, check_job, need, leftover_number, leftover_part}
 use Rattle.jobs.specs.declared.Which.{Which}
 use Rattle.calls.specs.Calls as Calls
+use Rattle.std.specs.Prelude.{Result, Ok, Err}
+use Rattle.dealer.specs.declared.Prepared.{Prepared}
+use Rattle.dealer.specs.declared.Refused.{Refused}
+use Rattle.dealer.specs.Answers as Dealer
 use Rattle.lamphiek.specs.declared.Answer.{Answer}
 use Rattle.lamphiek.specs.Layout.{written, answer, counts_out}
 use Rattle.lamphiek.specs.Checking.{checked, counts_left, unused, last}
@@ -45,7 +49,7 @@ module _ (J T old : List ℕ) where
       go zero f q p = let z : ◌≡◌ {A = Bool} false true = ap (λ (v : Verdict). v.accepted) p in let y : ◌≡◌ {A = ℕ} 0 1 = cc in absurd (omega arith)
       go (suc m) f q p = not_written f.0 _ old (λ z. omega arith)
 
-  pub check_accepted : (k : Cost) → record { accepted = true; number = 0; index = 0; counts = k } ≡ check_job 32 J T
+  pub check_accepted : (k : Cost) → acceptance k ≡ check_job 32 J T
       → (answer 0 0 0 0 ≡ checked (check_job 32 J T)) × (counts_out k ≡ counts_left (check_job 32 J T) old)
   unfolding written
   check_accepted k e = (ap checked e, ap (λ (v : Verdict). counts_left v old) e)
@@ -80,3 +84,8 @@ from_dealer X p r put w same er ep = (
   er ∙ ap prepared same,
   (ap (λ (x : Calls.Prepared). x.buffer) same, ep ∙ ap (λ (x : Calls.Prepared). masks_left x w) same),
 )
+
+-- the buffer of an answer is the code's
+pub buffer_of : (r : Result Prepared Refused) (buf : List ℕ) → buf ≡ (Dealer.answer r buf).buffer
+buffer_of (Ok p) buf = refl
+buffer_of (Err e) buf = refl

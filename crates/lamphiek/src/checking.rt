@@ -5,10 +5,10 @@ ghost use Rattle.jobs.specs.Answers.{check_job, leftover_number};
 ghost use Rattle.jobs.specs.declared.Which.TheVariants.{ListA, ListB};
 ghost use Rattle.lamphiek.specs.Checking.{checked, counts_left, unused, last};
 
-use crate::Answer;
+use crate::{Answer, turned_down};
 use job_check::check;
 use job_leftover::leftover;
-use jobs::{Checked, Which};
+use jobs::Which;
 use tables::HOUSE;
 
 // Checks a job with its table, and writes its counts. Numbers 2 to 5.
@@ -19,14 +19,8 @@ pub extern "C" fn lamphiek_check(job: &[u32], table: &[u32], counts: &mut [u32; 
         ≡ counts_left (check_job 32 job.now table.now) counts.old }
 {
     match check(job, table) {
-        Checked::Refused { number, index } => Answer {
-            number,
-            index,
-            count: 0,
-            word: 0,
-        },
-        Checked::Accepted { deals, words, a, b } => {
-            *counts = [deals, words, a, b];
+        Ok(found) => {
+            *counts = [found.deals, found.words, found.a, found.b];
             Answer {
                 number: 0,
                 index: 0,
@@ -34,6 +28,7 @@ pub extern "C" fn lamphiek_check(job: &[u32], table: &[u32], counts: &mut [u32; 
                 word: 0,
             }
         }
+        Err(refusal) => turned_down(refusal),
     }
 }
 

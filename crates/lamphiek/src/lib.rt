@@ -3,6 +3,12 @@
 // in the order of its fields.
 #![tactic(auto)]
 
+ghost use Rattle.std.specs.Prelude.{◌≡◌};
+ghost use Rattle.jobs.specs.Refusals.{number_of};
+ghost use Rattle.lamphiek.specs.Layout.{answer};
+
+use jobs::Refusal;
+
 mod checking;
 mod day;
 mod layout;
@@ -19,4 +25,16 @@ pub struct Answer {
     pub index: u32,
     pub count: u32,
     pub word: u32,
+}
+
+// A refusal gives its number and the order's index, and every other number in it is 0.
+pub(crate) fn turned_down(refusal: Refusal) -> Answer
+    ensures { result ≡ answer (number_of refusal.condition) refusal.index 0 0 }
+{
+    Answer {
+        number: refusal.condition.number(),
+        index: refusal.index,
+        count: 0,
+        word: 0,
+    }
 }

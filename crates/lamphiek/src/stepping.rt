@@ -5,27 +5,27 @@ ghost use Rattle.worker.specs.Answers.{answer_of};
 ghost use Rattle.lamphiek.specs.Stepping.{preparation, prepared, masks_left};
 ghost use Rattle.lamphiek.specs.Stepping.{starting, hearing, spoken, state_left};
 
-use crate::Answer;
 use crate::layout::{masks_in, put_masks, put_state, registers_in, state_in};
-use dealer::prepare;
+use crate::{Answer, turned_down};
+use dealer::{Prepared, prepare};
 use worker::start;
 
 // The dealer's answer: its masks go into the lent words, its numbers are given.
-pub(crate) fn put_prepared(masks: &mut [u32; 32], p: dealer::Prepared) -> Answer
+pub(crate) fn put_prepared(masks: &mut [u32; 32], p: Result<Prepared, dealer::Refused>) -> Answer
     ensures answer { (buffer : List ℕ) → result ≡ prepared (Dealer.answer p buffer) }
     ensures masks { (buffer : List ℕ) → masks.new ≡ masks_left (Dealer.answer p buffer) masks.old }
 {
-    let said = Answer {
-        number: p.number,
-        index: p.index,
-        count: p.deals,
-        word: 0,
+    let done = match p {
+        Ok(done) => done,
+        Err(refused) => return turned_down(refused.refusal),
     };
-    if p.number != 0 {
-        return said;
+    put_masks(masks, done.masks);
+    Answer {
+        number: 0,
+        index: 0,
+        count: done.deals,
+        word: 0,
     }
-    put_masks(masks, p.masks);
-    said
 }
 
 // Host 0 prepares: its deals are written, and its masks of the results over those of the registers. Numbers 2 to 7.
@@ -54,21 +54,24 @@ pub extern "C" fn lamphiek_prepare(
 }
 
 // A worker's answer: its state goes into the lent words, its numbers are given.
-pub(crate) fn put_answer(state: &mut [u32; 53], a: worker::Answer) -> Answer
+pub(crate) fn put_answer(
+    state: &mut [u32; 53],
+    a: Result<worker::Answer, worker::Refused>,
+) -> Answer
     ensures answer { result ≡ spoken (answer_of a) }
     ensures state { state.new ≡ state_left (answer_of a) state.old }
 {
-    let said = Answer {
-        number: a.number,
-        index: a.index,
-        count: a.spoken,
-        word: a.word,
+    let said = match a {
+        Ok(said) => said,
+        Err(held) => return turned_down(held.refusal),
     };
-    if a.number != 0 {
-        return said;
+    put_state(state, said.state);
+    Answer {
+        number: 0,
+        index: 0,
+        count: said.spoken,
+        word: said.word,
     }
-    put_state(state, a.state);
-    said
 }
 
 // Host 1 or 2 starts: from the registers in its state to its first word. Numbers 1 to 7.

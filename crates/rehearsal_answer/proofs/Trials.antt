@@ -41,7 +41,11 @@ use Rattle.runs.specs.Orders.{source_value}
 use Rattle.runs.proofs.Opened.{order_leaves}
 use Rattle.sample_masks.proofs.Multiples.{multiples_length, multiples_at, multiples_fit}
 use Rattle.gates.specs.Hosts.{Triple, share}
-use Rattle.trio.specs.Together.{Trio}
+use Rattle.std.specs.Prelude.{Result, Ok, Err, IsOk}
+use Rattle.jobs.proofs.Refusals.{numbered}
+use Rattle.trio.specs.declared.Trio.{Trio as Trio'}
+use Rattle.trio.specs.declared.Refused.{Refused}
+use Rattle.trio.specs.Together.{Trio, trio_of, after_preparation, together}
 use Rattle.trio.proofs.Positions.{prepare_number, left_of, P}
 use Rattle.trio.proofs.Leaves.{left_one, register_opens, words_spoken, deals_dealt}
 use Rattle.rehearsal_answer.specs.Rehearsal as Spec
@@ -102,6 +106,10 @@ unfolding job_fault ill_sized orders orders_fault fault_at order_fault unknown_k
 job_sound zero = rw house_ruled
 job_sound (suc m) = rw house_ruled
 
+pub not_turned : (r : Result Trio' Refused) (buf : List ℕ) → (trio_of r buf).number ≡ 0 → IsOk r
+not_turned (Ok s) buf z = refl
+not_turned (Err e) buf z = absurd (numbered e.refusal.condition z)
+
 -- ---- the setting
 
 fits_zeros : (n i : ℕ) → at (replicate n 0) i < 2 ^ 32
@@ -146,6 +154,10 @@ module _ (mode m l1 l2 : ℕ) where
   accepted =
       sym (prepare_number (staged 32 S).script S.A S.B buffer (S.r1, S.r2))
       ∙ rw (job_sound mode, script_counts mode, ← lists_long mode)
+
+  pub goes_through : (trial mode m l1 l2).number ≡ 0
+  unfolding trial together after_preparation
+  goes_through = accepted
 
   -- ---- the counts
 

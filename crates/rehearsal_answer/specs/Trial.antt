@@ -1,5 +1,5 @@
 -- The job that the three hosts run for a line of the rehearsal: "one curve order on the house table". Assumes nothing.
-use Rattle.std.specs.Prelude.{◌≡◌, List, [], ◌∷◌, ℕ, zero, suc, replicate}
+use Rattle.std.specs.Prelude.{◌≡◌, List, [], ◌∷◌, ℕ, zero, suc, replicate, Ok}
 use Rattle.gates.specs.Steps.{Lane}
 use Rattle.tables.specs.Table.{house}
 use Rattle.calls.specs.Scripts.{job_script}
@@ -36,4 +36,4 @@ trial mode m l1 l2 =
 -- the code's three hosts, whatever became of its buffer
 pub record Ran (r : Trio') (s : Trio) : Type 0 where
   pub buffer : List ℕ
-  pub is : trio_of r buffer ≡ s
+  pub is : trio_of (Ok r) buffer ≡ s

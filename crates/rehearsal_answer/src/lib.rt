@@ -39,7 +39,7 @@ const LIST_B: usize = 8 * ROW.exchanges + EXACT.exchanges + SATURATION.exchanges
 
 const DEALS: usize = 8 * ROW.deals + EXACT.deals + SATURATION.deals;
 
-// The curve order on a share in register 0.
+// The curve order on a share in register 0, which is not turned down.
 fn curve(mode: Mode, m: u32, l1: u32, l2: u32) -> Trio
     ensures { Ran result (trial (mode_number mode) m l1 l2) }
 {
@@ -54,7 +54,7 @@ fn curve(mode: Mode, m: u32, l1: u32, l2: u32) -> Trio
         l1: in_first(l1),
         l2: in_first(l2),
     };
-    run(&job, &tables::HOUSE, &a, &b, &mut deals, registers)
+    run(&job, &tables::HOUSE, &a, &b, &mut deals, registers).unwrap()
 }
 
 fn rehearse(request: Request) -> Text
