@@ -44,7 +44,8 @@ pub record StandIs (w : ℕ) (ps : List Row) (order : Order) (i a b dealt : ℕ)
 -- it stands at a product or refresh of an order of a job, with few gates, turns and words before it
 pub record StandsIn (j : Job) (order turn : ℕ) (s : Stand) : Type 0 where
   pub standing : Standing 32 j.orders.now j.table.now order s.at.gate
-  pub is : StandIs 32 (rows j.table.now) (order_at j.orders.now order) s.at.gate s.at.used.a s.at.used.b s.at.used.deals s
+  pub is : StandIs 32 (rows j.table.now) (order_at j.orders.now order)
+      s.at.gate s.at.used.a s.at.used.b s.at.used.deals s
   pub few_gates : s.at.gate < 1000
   pub few_turns : turn < 1000
   pub few_a : s.at.used.a < 2 ^ 30

@@ -14,7 +14,8 @@ use gate_speak::{met_word, word1, word2};
 use gates::{GateCode, Lanes, Shape, Used};
 use word_lists::{put, word_after, word_at};
 
-// Host 1 or 2 with what it is lent: its masks, A of host 1 and B of host 2, and the deals. Its lanes are m and its mask.
+// Host 1 or 2 with what it is lent: its masks, A of host 1 and B of host 2, and the deals. Its lanes are m and its
+// mask. Its methods take it by reference: by value a starting takes 43 instructions more of some 1,200.
 #[derive(Clone, Copy)]
 pub struct Worker<'a> {
     pub host: u32,
