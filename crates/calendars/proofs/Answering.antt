@@ -1,19 +1,18 @@
 -- The check's number, and the answer of `counted`, case by case. Assumes nothing.
-use mathlib.Core.Path.{◌≡◌, sym, ◌∙◌}
+use mathlib.Core.Path.{◌≡◌, sym, ap, ◌∙◌}
 use mathlib.Core.Bool.{Bool, true, false}
 use mathlib.Core.List.{List}
 use Prim.Native.Nat.{ℕ, ◌+◌}
 use native.Mathlib.Omega.{arith}
 use borrow.Author.Tests.{ne_eqb}
-use lib.Count.{ones}
 use Rattle.calendars.specs.declared.Quarters.{Quarters}
+use Rattle.calendars.specs.Ranges.{number}
 use Rattle.calendars.specs.Calendar.{sound, counts, counted_quarters, calendar_number}
-use Rattle.calendars.specs.Quarters.{quarters_where}
+use Rattle.calendars.specs.Quarters.{held, quarters_where}
 use Rattle.calendars.specs.Answers.{refused, counted, Readable}
 use Rattle.calendars.specs.Hours.{Sound}
 use Rattle.calendars.proofs.Calendars.{rules}
-use Rattle.calendars.proofs.Packing.{packed_ones}
-use Rattle.calendars.proofs.Counting.{number_of_words, answered}
+use Rattle.calendars.proofs.Counting.{number_alike, held_where, answered}
 
 module _ (c : List ℕ) (d : ℕ) where
   -- ---- the check's number
@@ -46,18 +45,16 @@ module _ (c : List ℕ) (d : ℕ) where
           let day = kept.each_day d kept.weekday in
           record { sized = kept.sized; weekday = omega (arith, kept.weekday); opens = day.at_most_eight; cleans = day.at_most_four }
 
-      module _ {q : Quarters} (is_q : q ≡ quarters_where (counts c d)) where
-        abbrev sum : ℕ
-        sum = ones q.low + ones q.middle + ones q.high
+      module _ {q : Quarters} (is_q : q ≡ quarters_where (counts c d)) {n : ℕ} (is_n : n ≡ number (held q) 0 96) where
+        counted_are : counted_quarters c d ≡ n
+        counted_are =
+            sym (is_n ∙ ap (λ (x : Quarters). number (held x) 0 96) is_q
+            ∙ number_alike (held (quarters_where (counts c d))) (counts c d) 0 96 (λ k l.
+            let a : 0 + k ≡ k = omega arith in rw a (held_where (counts c d) k l)))
 
-        is_n : counted_quarters c d ≡ sum
-        is_n =
-            number_of_words (counts c d)
-            ∙ rw (is_q, packed_ones (counts c d) 0 32, packed_ones (counts c d) 32 32, packed_ones (counts c d) 64 32)
-
-        pub none : sum ≡ 0 → refused 17 ≡ counted c d
+        pub none : n ≡ 0 → refused 17 ≡ counted c d
         unfolding counted
-        none h = rw (number_17 (sym is_b ∙ ok) (is_n ∙ h))
+        none h = rw (number_17 (sym is_b ∙ ok) (counted_are ∙ h))
 
-        pub some_count : (sum ≡ 0 → ⊥) → record { number = 0; quarters = q; n = sum } ≡ counted c d
-        some_count h = rw (answered c d (number_0 (sym is_b ∙ ok) (λ z. h (sym is_n ∙ z))), is_n, ← is_q)
+        pub some_count : (n ≡ 0 → ⊥) → record { number = 0; quarters = q; n = n } ≡ counted c d
+        some_count h = rw (answered c d (number_0 (sym is_b ∙ ok) (λ z. h (sym counted_are ∙ z))), counted_are, ← is_q)

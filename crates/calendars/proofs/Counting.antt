@@ -3,12 +3,13 @@
 use mathlib.Core.Path.{◌≡◌, refl, sym, ap, ◌∙◌}
 use mathlib.Core.Bool.{Bool, true, false, cond}
 use mathlib.Core.List.{List}
-use Prim.Native.Nat.{ℕ, zero, suc, ◌+◌, ◌-◌, ◌*◌, ◌≤◌, ◌<◌}
+use Prim.Native.Nat.{ℕ, zero, suc, ◌+◌, ◌*◌, ◌/◌, ◌%◌, ◌≤◌, ◌<◌}
 use native.Mathlib.Nat.{div-mul-le_self, div-lt_iff_lt-mul}
 use native.Mathlib.Numerals.{add-one}
 use native.Mathlib.Omega.{arith}
-use borrow.Author.Tests.{lt-ltb, le-ltb, ltb-true, ltb-false, eqb-true, eqb-false, ne_eqb}
-use lib.Dec.{ltb, eqb}
+use borrow.Author.Tests.{lt-ltb, le-ltb, eqb-true, eqb-false, ne_eqb}
+use lib.Dec.{eqb}
+use lib.ListN.{get_or}
 use Rattle.words.specs.Words.{bit}
 use Rattle.calendars.specs.declared.Quarters.{Quarters}
 use Rattle.calendars.specs.Ranges.{digit, number, next, packed}
@@ -109,44 +110,40 @@ next_holds f q (suc n) l = go (f q) refl (next f (suc q) n) l (next_holds f (suc
 -- ---- a quarter, by the word that its bit is in
 
 module _ (x : Quarters) (q : ℕ) where
-  pub in_low : q < 32 → eqb (bit x.low q) 1 ≡ held x q
+  pub in_words : q < 96 → eqb (bit (get_or x.words (q / 32) 0) (q % 32)) 1 ≡ held x q
   unfolding held
-  in_low h = rw (lt-ltb q 32 h)
-
-  pub in_middle : 32 ≤ q → q < 64 → eqb (bit x.middle (q - 32)) 1 ≡ held x q
-  unfolding held
-  in_middle l h = rw (le-ltb q 32 l, lt-ltb q 64 h)
-
-  pub in_high : 64 ≤ q → q < 96 → eqb (bit x.high (q - 64)) 1 ≡ held x q
-  unfolding held
-  in_high l h = rw (le-ltb q 32 (omega arith), le-ltb q 64 l, lt-ltb q 96 h)
+  in_words h = rw (lt-ltb q 96 h)
 
   pub in_none : 96 ≤ q → false ≡ held x q
   unfolding held
-  in_none l = rw (le-ltb q 32 (omega arith), le-ltb q 64 (omega arith), le-ltb q 96 l)
+  in_none l = rw (le-ltb q 96 l)
+
+-- bit i of word k
+pub in_word : (x : Quarters) (k i : ℕ) → k < 3 → i < 32 → eqb (bit (get_or x.words k 0) i) 1 ≡ held x (32 * k + i)
+in_word x k i h l =
+    let word : (32 * k + i) / 32 ≡ k = omega arith in
+    let place : (32 * k + i) % 32 ≡ i = omega arith in
+    rw (word, place) at (in_words x (32 * k + i) (omega arith))
 
 -- the bits of a test are the test
-pub held_where : (f : ℕ → Bool) (q : ℕ) → q < 96 → held (quarters_where f) q ≡ f q
-held_where f q h = go (ltb q 32) (ltb q 64) refl refl
-  where
-    digit_is : (b : Bool) → eqb (digit b) 1 ≡ b
-    digit_is true = refl
-    digit_is false = refl
+module _ (f : ℕ → Bool) where
+  word_where : (k : ℕ) → k < 3 → get_or (quarters_where f).words k 0 ≡ packed f (32 * k) 32
+  word_where zero h = refl
+  word_where (suc zero) h = refl
+  word_where (suc (suc zero)) h = refl
+  word_where (suc (suc (suc k))) h = absurd (omega arith)
 
-    word : (p i : ℕ) → i < 32 → p + i ≡ q → eqb (bit (packed f p 32) i) 1 ≡ f q
-    word p i l e = ap (λ (x : ℕ). eqb x 1) (bit_packed f p 32 i l) ∙ digit_is (f (p + i)) ∙ ap f e
-
-    go : (a b : Bool) → ltb q 32 ≡ a → ltb q 64 ≡ b → held (quarters_where f) q ≡ f q
-    go true b s t =
-        let l : q < 32 = ltb-true q 32 s in
-        sym (in_low (quarters_where f) q l) ∙ word 0 q l (omega arith)
-    go false true s t =
-        let m : 32 ≤ q = ltb-false q 32 s in
-        let l : q < 64 = ltb-true q 64 t in
-        sym (in_middle (quarters_where f) q m l) ∙ word 32 (q - 32) (omega arith) (omega arith)
-    go false false s t =
-        let m : 64 ≤ q = ltb-false q 64 t in
-        sym (in_high (quarters_where f) q m h) ∙ word 64 (q - 64) (omega arith) (omega arith)
+  pub held_where : (q : ℕ) → q < 96 → held (quarters_where f) q ≡ f q
+  held_where q h =
+      let e : 32 * (q / 32) + q % 32 ≡ q = omega arith in
+      let w : bit (get_or (quarters_where f).words (q / 32) 0) (q % 32) ≡ digit (f q)
+      = ap (λ (x : ℕ). bit x (q % 32)) (word_where (q / 32) (omega arith))
+      ∙ bit_packed f (32 * (q / 32)) 32 (q % 32) (omega arith) ∙ ap (λ (x : ℕ). digit (f x)) e in
+      sym (in_words (quarters_where f) q h) ∙ ap (λ (x : ℕ). eqb x 1) w ∙ digit_is (f q)
+    where
+      digit_is : (b : Bool) → eqb (digit b) 1 ≡ b
+      digit_is true = refl
+      digit_is false = refl
 
 -- ---- the factor
 

@@ -1,18 +1,19 @@
 -- How many of the quarters that are held as bits come before one. Assumes nothing.
 use mathlib.Core.Path.{◌≡◌, refl, sym, ap, ◌∙◌}
 use mathlib.Core.Bool.{Bool, true, false, ◌&&◌}
-use Prim.Native.Nat.{ℕ, ◌+◌, ◌-◌, ◌≤◌, ◌<◌}
+use Prim.Native.Nat.{ℕ, ◌+◌, ◌-◌, ◌*◌, ◌≤◌, ◌<◌}
 use native.Mathlib.Omega.{arith}
 use borrow.Author.Tests.{lt-ltb, le-ltb, ltb-true, ltb-false}
 use lib.Bits.{bit_and}
 use lib.Count.{ones}
 use lib.Dec.{ltb, eqb}
+use lib.ListN.{get_or}
 use Rattle.words.specs.Words.{bit}
 use Rattle.calendars.specs.declared.Quarters.{Quarters}
 use Rattle.calendars.specs.Ranges.{number, packed}
 use Rattle.calendars.specs.Quarters.{held}
 use Rattle.calendars.proofs.Packing.{packed_masked, packed_ones}
-use Rattle.calendars.proofs.Counting.{number_le, number_add, number_alike, number_none, number_of_words, in_low, in_middle, in_high, in_none}
+use Rattle.calendars.proofs.Counting.{number_le, number_add, number_alike, number_none, number_of_words, in_word, in_none}
 
 -- a test of the numbers below one is a test of none beyond it
 number_below : (f : ℕ → Bool) (n m : ℕ) → ((k : ℕ) → m ≤ k → f k ≡ false) → number (λ k. f k && ltb k n) 0 m ≡ number f 0 n
@@ -58,32 +59,21 @@ ones_few w q g is_r =
     = packed_masked f g q 32 w (λ i l. let a : q + i - q ≡ i = omega arith in rw a) in
     omega (arith, is_r ∙ ap ones p ∙ packed_ones (λ k. f k && g k) q 32, number_le (λ k. f k && g k) q 32)
 
-module _ (x : Quarters) (q : ℕ) {low middle high : ℕ}
-    (is_low : low ≡ ones (bit_and x.low (packed (λ k. ltb k q) 0 32)))
-    (is_middle : middle ≡ ones (bit_and x.middle (packed (λ k. ltb k q) 32 32)))
-    (is_high : high ≡ ones (bit_and x.high (packed (λ k. ltb k q) 64 32)))
-  where
-    abbrev both : ℕ → Bool
-    both k = held x k && ltb k q
+module _ (x : Quarters) (q : ℕ) where
+  abbrev both : ℕ → Bool
+  both k = held x k && ltb k q
 
-    word_ones : (p w : ℕ) → ((i : ℕ) → i < 32 → eqb (bit w i) 1 ≡ held x (p + i))
-        → ones (bit_and w (packed (λ k. ltb k q) p 32)) ≡ number both p 32
-    word_ones p w h = ap ones (packed_masked (held x) (λ k. ltb k q) p 32 w h) ∙ packed_ones both p 32
+  -- what the function `ones_before` answers of word k
+  word_ones : (k : ℕ) → k < 3 → {r : ℕ} → r ≡ ones (bit_and (get_or x.words k 0) (packed (λ j. ltb j q) (32 * k) 32))
+      → r ≡ number both (32 * k) 32
+  word_ones k h e =
+      e ∙ ap ones (packed_masked (held x) (λ j. ltb j q) (32 * k) 32 (get_or x.words k 0) (λ i l. in_word x k i h l))
+      ∙ packed_ones both (32 * k) 32
 
-    low_is : low ≡ number both 0 32
-    low_is = is_low ∙ word_ones 0 x.low (λ i l. let a : 0 + i ≡ i = omega arith in rw a (in_low x i l))
-
-    middle_is : middle ≡ number both 32 32
-    middle_is =
-        is_middle ∙ word_ones 32 x.middle (λ i l.
-        let a : 32 + i - 32 ≡ i = omega arith in rw a at (in_middle x (32 + i) (omega arith) (omega arith)))
-
-    high_is : high ≡ number both 64 32
-    high_is =
-        is_high ∙ word_ones 64 x.high (λ i l.
-        let a : 64 + i - 64 ≡ i = omega arith in rw a at (in_high x (64 + i) (omega arith) (omega arith)))
-
-    pub ones_are : low + middle + high ≡ number (held x) 0 q
-    ones_are =
-        let s : low + middle + high ≡ number both 0 32 + number both 32 32 + number both 64 32 = rw (low_is, middle_is, high_is) in
-        s ∙ sym (number_of_words both) ∙ number_below (held x) q 96 (λ k l. sym (in_none x k l))
+  pub ones_are : {u v w : ℕ} → u ≡ ones (bit_and (get_or x.words 0 0) (packed (λ k. ltb k q) 0 32))
+      → v ≡ ones (bit_and (get_or x.words 1 0) (packed (λ k. ltb k q) 32 32))
+      → w ≡ ones (bit_and (get_or x.words 2 0) (packed (λ k. ltb k q) 64 32)) → u + v + w ≡ number (held x) 0 q
+  ones_are is_u is_v is_w =
+      let s = number_of_words both in
+      omega (arith, word_ones 0 (omega arith) is_u, word_ones 1 (omega arith) is_v, word_ones 2 (omega arith) is_w, s)
+      ∙ number_below (held x) q 96 (λ k l. sym (in_none x k l))

@@ -1,16 +1,15 @@
 -- The quarters that lie in windows, window by window, and the rule of the two kinds of window, as bits. Assumes nothing.
-use mathlib.Core.Path.{◌≡◌, refl, sym, ap, ap₂, ◌∙◌}
-use mathlib.Core.Bool.{Bool, ◌&&◌, ◌||◌}
+use mathlib.Core.Path.{◌≡◌, refl, sym, ap₂, ◌∙◌}
+use mathlib.Core.Bool.{◌&&◌, ◌||◌}
 use mathlib.Core.List.{List}
-use Prim.Native.Nat.{ℕ, ◌+◌, ◌/◌, ◌≤◌}
+use Prim.Native.Nat.{ℕ, ◌+◌, ◌/◌}
 use native.Mathlib.Numerals.{add-one}
 use native.Mathlib.Omega.{arith}
 use lib.Bits.{bit_or}
 use lib.Dec.{leb, ltb}
-use Rattle.calendars.specs.declared.Quarters.{Quarters}
 use Rattle.calendars.specs.Ranges.{some, packed}
 use Rattle.calendars.specs.Calendar.{open_windows, cleaning_windows, open_at, cleaning_at, start, end, first_minute, in_window, lies, in_open, in_cleaning, counts}
-use Rattle.calendars.specs.Quarters.{quarters_where, Ruled}
+use Rattle.calendars.specs.Quarters.{Ruled}
 use Rattle.calendars.proofs.Ranges.{some_more}
 use Rattle.calendars.proofs.Packing.{packed_none, packed_same, packed_or, quarters_held}
 
@@ -31,27 +30,9 @@ module _ (c : List ℕ) (at : ℕ) where
         ap₂ bit_or p r ∙ packed_or (lies c at i) (λ k. leb s k && ltb k e) q 32
         ∙ packed_same (λ k. lies c at i k || (leb s k && ltb k e)) (lies c at (i + 1)) one_more q 32
 
-  pub all_marks : {i n x y z : ℕ} → i ≤ n → n ≤ i → x ≡ packed (lies c at i) 0 32 → y ≡ packed (lies c at i) 32 32 → z ≡ packed (lies c at i) 64 32
-      → record { low = x; middle = y; high = z } ≡ quarters_where (lies c at n)
-  all_marks {i} {n} h l p r t = let a : i ≡ n = omega arith in rw (p, r, t, a)
-
 module _ (c : List ℕ) (d : ℕ) where
-  abbrev opens : ℕ → Bool
-  opens = lies c (open_at d) (open_windows c d)
-
-  abbrev cleans : ℕ → Bool
-  cleans = lies c (cleaning_at d) (cleaning_windows c d)
-
-  ruled : (q : ℕ) {x y z : ℕ} → Ruled x y z → x ≡ packed opens q 32 → y ≡ packed cleans q 32 → z ≡ packed (counts c d) q 32
+  pub by_rule : (q : ℕ) {opened cleaned r : ℕ} → opened ≡ packed (lies c (open_at d) (open_windows c d)) q 32
+      → cleaned ≡ packed (lies c (cleaning_at d) (cleaning_windows c d)) q 32 → Ruled opened cleaned r
+      → r ≡ packed (counts c d) q 32
   unfolding counts in_open in_cleaning
-  ruled q law p r = law opens cleans q p r
-
-  pub by_rule : {opened cleaned : Quarters} → opened ≡ quarters_where (lies c (open_at d) (open_windows c d))
-      → cleaned ≡ quarters_where (lies c (cleaning_at d) (cleaning_windows c d)) → {x y z : ℕ}
-      → Ruled opened.low cleaned.low x → Ruled opened.middle cleaned.middle y → Ruled opened.high cleaned.high z
-      → record { low = x; middle = y; high = z } ≡ quarters_where (counts c d)
-  by_rule p r {x} {y} {z} is_x is_y is_z =
-      let low : x ≡ packed (counts c d) 0 32 = ruled 0 is_x (ap (λ (s : Quarters). s.low) p) (ap (λ (s : Quarters). s.low) r) in
-      let middle : y ≡ packed (counts c d) 32 32 = ruled 32 is_y (ap (λ (s : Quarters). s.middle) p) (ap (λ (s : Quarters). s.middle) r) in
-      let high : z ≡ packed (counts c d) 64 32 = ruled 64 is_z (ap (λ (s : Quarters). s.high) p) (ap (λ (s : Quarters). s.high) r) in
-      rw (low, middle, high)
+  by_rule q p r law = law (lies c (open_at d) (open_windows c d)) (lies c (cleaning_at d) (cleaning_windows c d)) q p r

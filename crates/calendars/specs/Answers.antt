@@ -1,5 +1,5 @@
 -- What `counted` answers, for every list and every weekday. Assumes nothing.
-use Rattle.std.specs.Prelude.{cond, List, ◌≡◌, ℕ, ◌≤◌, ◌<◌, eqb, length, Result, Ok, Err}
+use Rattle.std.specs.Prelude.{cond, List, [], ◌∷◌, ◌≡◌, ℕ, ◌≤◌, ◌<◌, eqb, length, Result, Ok, Err}
 use Rattle.calendars.specs.declared.Quarters.{Quarters}
 use Rattle.calendars.specs.declared.checks.CountedQuarters.{CountedQuarters}
 use Rattle.calendars.specs.declared.checks.HoursError.{HoursError}
@@ -15,7 +15,7 @@ pub record Counted : Type 0 where
 
 -- a number, and all else 0
 abbrev pub refused : ℕ → Counted
-refused k = record { number = k; quarters = record { low = 0; middle = 0; high = 0 }; n = 0 }
+refused k = record { number = k; quarters = record { words = 0 ∷ 0 ∷ 0 ∷ [] }; n = 0 }
 
 -- which quarters count, and how many
 abbrev pub accepted : List ℕ → ℕ → Counted

@@ -1,5 +1,5 @@
 -- The 96 quarters of a day as bits, 32 to a word: quarter q at bit q % 32 of word q / 32. Assumes nothing.
-use Rattle.std.specs.Prelude.{Bool, false, cond, ◌≡◌, ℕ, ◌-◌, eqb, ltb, leb}
+use Rattle.std.specs.Prelude.{Bool, ◌&&◌, cond, [], ◌∷◌, ◌≡◌, ℕ, ◌/◌, ◌%◌, eqb, ltb, leb, get_or}
 use Rattle.words.specs.Words.{bit}
 use Rattle.calendars.specs.declared.Quarters.{Quarters}
 use Rattle.calendars.specs.Ranges.{packed}
@@ -7,13 +7,11 @@ use Rattle.calendars.specs.Calendar.{rule, factor}
 
 -- whether quarter q's bit is 1; there is none from 96 on
 unfoldable pub held : Quarters → ℕ → Bool
-held x q =
-    cond (ltb q 32) (eqb (bit x.low q) 1)
-    (cond (ltb q 64) (eqb (bit x.middle (q - 32)) 1) (cond (ltb q 96) (eqb (bit x.high (q - 64)) 1) false))
+held x q = ltb q 96 && eqb (bit (get_or x.words (q / 32) 0) (q % 32)) 1
 
 -- the quarters of a day that a test holds of
 abbrev pub quarters_where : (ℕ → Bool) → Quarters
-quarters_where f = record { low = packed f 0 32; middle = packed f 32 32; high = packed f 64 32 }
+quarters_where f = record { words = packed f 0 32 ∷ packed f 32 32 ∷ packed f 64 32 ∷ [] }
 
 -- the rule of the two kinds of window, of 32 quarters at once: where o and k have the bits of those in open and in
 -- cleaning windows, r has the bits of those that count

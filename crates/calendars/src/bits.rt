@@ -20,16 +20,7 @@ fn bit_at(word: u32, i: u32) -> bool
 pub fn counts_at(x: Quarters, quarter: u32) -> bool
     ensures { result ≡ held x quarter }
 {
-    if quarter < 32 {
-        return bit_at(x.low, quarter);
-    }
-    if quarter < 64 {
-        return bit_at(x.middle, quarter - 32);
-    }
-    if quarter < 96 {
-        return bit_at(x.high, quarter - 64);
-    }
-    false
+    quarter < 96 && bit_at(x.words[(quarter / 32) as usize], quarter % 32)
 }
 
 // How many of a word's bits stand for quarters before one, where its 32 quarters are those from `first` on.
@@ -44,10 +35,9 @@ fn ones_before(word: u32, quarter: u32, first: u32) -> u32
 pub fn counted_before(x: Quarters, quarter: u32) -> u32
     ensures { result ≡ number (held x) 0 quarter }
 {
-    let low = ones_before(x.low, quarter, 0);
-    let middle = ones_before(x.middle, quarter, 32);
-    let high = ones_before(x.high, quarter, 64);
-    low + middle + high
+    ones_before(x.words[0], quarter, 0)
+        + ones_before(x.words[1], quarter, 32)
+        + ones_before(x.words[2], quarter, 64)
 }
 
 // The first quarter that counts, from one on; where none does, 96, or the quarter itself if it is above.

@@ -3,6 +3,7 @@ ghost use Rattle.std.specs.Prelude.{◌≡◌};
 ghost use Rattle.calendars.specs.Answers.{counted, number_of, answer_of};
 
 use crate::Quarters;
+use crate::bits::counted_before;
 use crate::rules::sound;
 use crate::windows::quarters;
 
@@ -39,7 +40,7 @@ pub fn counted(calendar: &[u32], weekday: u32) -> Result<CountedQuarters, HoursE
         return Err(HoursError::UnsoundCalendar);
     }
     let quarters = quarters(calendar, weekday as usize);
-    let n = quarters.low.count_ones() + quarters.middle.count_ones() + quarters.high.count_ones();
+    let n = counted_before(quarters, 96);
     if n == 0 {
         return Err(HoursError::NoQuarter);
     }

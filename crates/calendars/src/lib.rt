@@ -16,7 +16,5 @@ pub use factors::factor;
 // The 96 quarters as bits, quarter q at bit q % 32 of word q / 32.
 #[derive(Clone, Copy, Debug, PartialEq, Eq)]
 pub struct Quarters {
-    pub low: u32,
-    pub middle: u32,
-    pub high: u32,
+    pub words: [u32; 3],
 }

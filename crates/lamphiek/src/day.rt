@@ -26,8 +26,7 @@ pub extern "C" fn lamphiek_day_quarters(
 {
     let (number, count) = match calendars::counted(calendar, weekday) {
         Ok(found) => {
-            let held = found.quarters;
-            *quarters = [held.low, held.middle, held.high];
+            *quarters = found.quarters.words;
             (0, found.n)
         }
         Err(e) => (e.number(), 0),

@@ -8,7 +8,7 @@ pub quarters-quarters-requires : goal.quarters-quarters-requires
 quarters-quarters-requires c = readable _ _ c.sound.ensures c.if-not-sound.false
 
 pub returns-then-n-eq0 : goal.returns-then-n-eq0
-returns-then-n-eq0 c = none _ _ c.sound.ensures c.if-not-sound.false c.quarters-quarters.ensures c.if-n-eq0.true
+returns-then-n-eq0 c = none _ _ c.sound.ensures c.if-not-sound.false c.quarters-quarters.ensures c.counted_before-n.ensures c.if-n-eq0.true
 
 pub returns : goal.returns
-returns c = some_count _ _ c.sound.ensures c.if-not-sound.false c.quarters-quarters.ensures c.if-n-eq0.false
+returns c = some_count _ _ c.sound.ensures c.if-not-sound.false c.quarters-quarters.ensures c.counted_before-n.ensures c.if-n-eq0.false
