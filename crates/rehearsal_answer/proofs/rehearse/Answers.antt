@@ -9,13 +9,13 @@ pub returns-in_default : goal.returns-in_default
 returns-in_default c =
     let r = c.args.request in
     out_of_range (mode_number r.mode) r.reading (search rules) c.share.result c.share.ensures
-    c.in_default.is _ c.refusal_text.ensures
+    _ c.in_default.is _ c.refusal_text.ensures
 
 pub returns-in_default-opened : goal.returns-in_default-opened
 returns-in_default-opened c =
     let r = c.args.request in
     absurd (agreed (mode_number r.mode) r.reading (search rules) c.share.result c.share.ensures _ c.in-Ok.is
-    c.curve-done.result c.curve-done.ensures c.opened.result c.opened.ensures c.in_default-opened.is)
+    c.curve-done.result c.curve-done.ensures c.opened.result c.opened.ensures _ c.in_default-opened.is)
 
 pub overflow_add-words : goal.overflow_add-words
 overflow_add-words c =
