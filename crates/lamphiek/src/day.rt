@@ -26,7 +26,8 @@ pub extern "C" fn lamphiek_day_quarters(
 {
     let (number, count) = match calendars::counted(calendar, weekday) {
         Ok(found) => {
-            *quarters = found.quarters.words;
+            let words = found.quarters.words;
+            *quarters = words;
             (0, found.n)
         }
         Err(e) => (e.number(), 0),
