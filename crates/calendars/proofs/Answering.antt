@@ -9,7 +9,7 @@ use Rattle.calendars.specs.declared.Quarters.{Quarters}
 use Rattle.calendars.specs.Ranges.{number}
 use Rattle.calendars.specs.Calendar.{sound, counts, counted_quarters, calendar_number}
 use Rattle.calendars.specs.Quarters.{held, quarters_where}
-use Rattle.calendars.specs.Answers.{refused, counted, Readable}
+use Rattle.calendars.specs.Answers.{refused, counted}
 use Rattle.calendars.specs.Hours.{Sound}
 use Rattle.calendars.proofs.Calendars.{rules}
 use Rattle.calendars.proofs.Counting.{number_alike, held_where, answered}
@@ -37,13 +37,8 @@ module _ (c : List ℕ) (d : ℕ) where
     broken e = rw (number_16 (sym is_b ∙ e))
 
     module _ (ok : b ≡ true) where
-      kept : Sound c d
+      pub kept : Sound c d
       kept = (rules c d).0 (sym is_b ∙ ok)
-
-      pub readable : Readable c d
-      readable =
-          let day = kept.each_day d kept.weekday in
-          record { sized = kept.sized; weekday = omega (arith, kept.weekday); opens = day.at_most_eight; cleans = day.at_most_four }
 
       module _ {q : Quarters} (is_q : q ≡ quarters_where (counts c d)) {n : ℕ} (is_n : n ≡ number (held q) 0 96) where
         counted_are : counted_quarters c d ≡ n

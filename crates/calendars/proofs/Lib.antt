@@ -6,6 +6,7 @@ pub mod Marks
 pub mod Counting
 pub mod Held
 pub mod FactorTable
+pub mod Alone
 pub mod Answering
 pub mod Refusals
 pub mod Calendars

@@ -1,5 +1,5 @@
 -- What `counted` answers, for every list and every weekday. Assumes nothing.
-use Rattle.std.specs.Prelude.{cond, List, [], ◌∷◌, ◌≡◌, ℕ, ◌≤◌, ◌<◌, eqb, length, Result, Ok, Err}
+use Rattle.std.specs.Prelude.{cond, List, [], ◌∷◌, ℕ, ◌≤◌, eqb, Result, Ok, Err}
 use Rattle.calendars.specs.declared.Quarters.{Quarters}
 use Rattle.calendars.specs.declared.checks.CountedQuarters.{CountedQuarters}
 use Rattle.calendars.specs.declared.checks.HoursError.{HoursError}
@@ -34,9 +34,7 @@ abbrev pub answer_of : Result CountedQuarters HoursError → Counted
 answer_of (Ok d) = record { number = 0; quarters = d.quarters; n = d.n }
 answer_of (Err e) = refused (number_of e)
 
--- what a sound calendar has, as far as reading a weekday's windows needs it
-pub record Readable (c : List ℕ) (d : ℕ) : Type 0 where
-  pub sized : length c ≡ 182
-  pub weekday : d < 7
+-- what a sound weekday has, as far as reading its windows needs it
+pub record HasRoom (c : List ℕ) (d : ℕ) : Type 0 where
   pub opens : open_windows c d ≤ 8
   pub cleans : cleaning_windows c d ≤ 4

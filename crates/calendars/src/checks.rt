@@ -2,10 +2,10 @@
 ghost use Rattle.std.specs.Prelude.{◌≡◌};
 ghost use Rattle.calendars.specs.Answers.{counted, number_of, answer_of};
 
-use crate::Quarters;
 use crate::bits::counted_before;
 use crate::rules::sound;
 use crate::windows::quarters;
+use crate::{Quarters, WEEKDAY_WORDS};
 
 // Which quarters of a weekday count, and how many.
 #[derive(Clone, Copy, Debug, PartialEq, Eq)]
@@ -39,7 +39,8 @@ pub fn counted(calendar: &[u32], weekday: u32) -> Result<CountedQuarters, HoursE
     if !sound(calendar, weekday) {
         return Err(HoursError::UnsoundCalendar);
     }
-    let quarters = quarters(calendar, weekday as usize);
+    let (days, _) = calendar.as_chunks::<WEEKDAY_WORDS>();
+    let quarters = quarters(&days[weekday as usize]);
     let n = counted_before(quarters, 96);
     if n == 0 {
         return Err(HoursError::NoQuarter);

@@ -13,6 +13,13 @@ pub use bits::{counted_before, counts_at, next_counted};
 pub use checks::{CountedQuarters, HoursError, counted};
 pub use factors::factor;
 
+// A weekday's words: how many open and how many cleaning windows, then the room for each, two words to a window.
+const WEEKDAY_WORDS: usize = 26;
+
+const OPEN_AT: usize = 2;
+
+const CLEANING_AT: usize = 18;
+
 // The 96 quarters as bits, quarter q at bit q % 32 of word q / 32.
 #[derive(Clone, Copy, Debug, PartialEq, Eq)]
 pub struct Quarters {

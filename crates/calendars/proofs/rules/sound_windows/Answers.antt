@@ -8,7 +8,7 @@ use Rattle.calendars.proofs.rules.sound_windows.Goals as goal
 pub returns : goal.returns
 unfolding sound_window
 returns c =
-    let f = sound_window c.args.calendar.now c.args.at in
+    let f = sound_window c.args.day.now c.args.at in
     let n = c.args.n in
     every_answer f n (cases_from_all _ _ _ (λ x. f x ≡ true) (λ x. f x ≡ false) c.all.ensures.ran (YieldsList-from_range 0 n n refl (sub-zero n))
     (λ x q k. search rules) (λ x q k. search rules))
