@@ -168,7 +168,7 @@ fn is_wrong_at_end(rows: &[[u32; 2]], mode: Mode, case: u32, seed: u32) -> bool 
         let at_last = trial.compared(rows);
         return at_last.value != 0 || at_last.line != 0;
     }
-    trial.run(rows).opened(3) != Some(-1)
+    !trial.run(rows).is_ok_and(|ran| ran.opened(3) == Ok(-1))
 }
 
 // On the six fixed tables, the fifteen drawn ones and the house table: twelve cases in each mode.

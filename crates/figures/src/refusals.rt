@@ -1,10 +1,11 @@
-// The calls that turn a case down (document 01, "Turned down"). A refused call is to give back what it was given, write
-// nothing, and answer 0 for every other number.
+// The calls that turn a case down (document 01, "Turned down"). A refused call is to give back what it was given and
+// write nothing; that every other number in its answer is 0 is said by its type, which has none.
 use crate::draw::drawn;
 use crate::trials::front;
 use calls::Stored;
 use dealer::{Masks, prepare};
-use jobs::{Checked, Which};
+use job_leftover::{leftover, unused};
+use jobs::{Refusal, Which};
 use worker::{Answer, Registers, State, start};
 
 // A call that checks a job: starting or hearing of a host, unused masks, preparation, and checking alone.
@@ -33,7 +34,7 @@ impl Call {
     pub(crate) const HEARINGS: [Call; 2] = [Call::Hearing(1), Call::Hearing(2)];
 }
 
-// A call and what it is to answer: the number and the order's index.
+// A call, and the refusal that it is to answer.
 #[derive(Clone, Copy)]
 pub(crate) struct Case {
     pub(crate) call: Call,
@@ -44,17 +45,7 @@ pub(crate) struct Case {
     pub(crate) masks: usize,
     pub(crate) masks_b: usize,
     pub(crate) deals: usize,
-    pub(crate) number: u32,
-    pub(crate) index: u32,
-}
-
-fn same_stored(s: Stored, t: Stored) -> bool {
-    s.a == t.a && s.b == t.b && s.deals == t.deals
-}
-
-fn same_state(s: State, t: State) -> bool {
-    let lanes = s.m == t.m && s.mask == t.mask;
-    lanes && s.order == t.order && s.turn == t.turn && same_stored(s.stored, t.stored)
+    pub(crate) due: Refusal,
 }
 
 // A lane with no kept words.
@@ -66,7 +57,7 @@ fn lane(registers: [u32; 16]) -> [u32; 24] {
 
 impl Case {
     // With all that the call needs. Host 1 hears at the first place, host 2 at one that no job here has.
-    pub(crate) fn new(call: Call, number: u32, index: u32) -> Self {
+    pub(crate) fn new(call: Call, due: Refusal) -> Self {
         let (order, turn) = match call {
             Call::Hearing(2) => (7, 9),
             _ => (0, 0),
@@ -83,13 +74,8 @@ impl Case {
             masks: 512,
             masks_b: 512,
             deals: 512,
-            number,
-            index,
+            due,
         }
-    }
-
-    fn is_due(&self, number: u32, index: u32) -> bool {
-        number == self.number && index == self.index
     }
 
     fn state(&self, m: [u32; 24], mask: [u32; 24]) -> State {
@@ -102,10 +88,12 @@ impl Case {
         }
     }
 
-    // Whether a host turned the call down as is due, and gave back its state.
-    fn is_turned_down(&self, given: State, r: Answer) -> bool {
-        let silent = r.spoken == 0 && r.word == 0;
-        self.is_due(r.number, r.index) && silent && same_state(r.state, given)
+    // What a host is to answer: it gives back its state.
+    fn turned_down(&self, state: State) -> Result<Answer, worker::Refused> {
+        Err(worker::Refused {
+            refusal: self.due,
+            state,
+        })
     }
 
     fn starting(&self, host: u32, job: &[u32], table: &[u32]) -> bool {
@@ -114,8 +102,8 @@ impl Case {
         let mask = drawn(74);
         let masks = front(&lent, self.masks);
         let deals = front(&lent, self.deals);
-        let r = start(host, job, table, masks, deals, Registers { m, mask });
-        self.is_turned_down(self.state(lane(m), lane(mask)), r)
+        let given = self.state(lane(m), lane(mask));
+        start(host, job, table, masks, deals, Registers { m, mask }) == self.turned_down(given)
     }
 
     // From a state with drawn registers and kept words.
@@ -124,8 +112,7 @@ impl Case {
         let given = self.state(drawn(73), drawn(74));
         let masks = front(&lent, self.masks);
         let deals = front(&lent, self.deals);
-        let r = given.hear(host, job, table, masks, deals, 123456789);
-        self.is_turned_down(given, r)
+        given.hear(host, job, table, masks, deals, 123456789) == self.turned_down(given)
     }
 
     // The masks and the whole buffer are to stay as before.
@@ -133,30 +120,33 @@ impl Case {
         let lent = drawn::<512>(81);
         let before = drawn::<512>(77);
         let mut buffer = before;
-        let l1 = drawn(75);
-        let l2 = drawn(76);
+        let masks = Masks {
+            l1: drawn(75),
+            l2: drawn(76),
+        };
         let a = front(&lent, self.masks);
         let b = front(&lent, self.masks_b);
         let deals = &mut buffer[..self.deals.min(512)];
-        let p = prepare(job, table, a, b, deals, Masks { l1, l2 });
-        let kept = p.masks.l1 == l1 && p.masks.l2 == l2 && buffer == before;
-        self.is_due(p.number, p.index) && p.deals == 0 && kept
+        let turned_down = Err(dealer::Refused {
+            refusal: self.due,
+            masks,
+        });
+        prepare(job, table, a, b, deals, masks) == turned_down && buffer == before
     }
 
-    // Only the number, and the whole list.
+    // Only the condition, and, where the call gives its number, the whole list.
     fn unused_masks(&self, which: Which, job: &[u32], table: &[u32]) -> bool {
         let lent = drawn::<512>(81);
         let masks = front(&lent, self.masks);
         let mut said = 99;
-        let rest = job_leftover::leftover(job, table, which, masks, &mut said);
-        said == self.number && rest == masks
+        let rest = leftover(job, table, which, masks, &mut said);
+        let condition = self.due.condition;
+        let numbered = said == condition.number() && rest == masks;
+        unused(job, table, which, masks) == Err(condition) && numbered
     }
 
     fn checking(&self, job: &[u32], table: &[u32]) -> bool {
-        match job_check::check(job, table) {
-            Checked::Refused { number, index } => self.is_due(number, index),
-            Checked::Accepted { .. } => false,
-        }
+        job_check::check(job, table) == Err(self.due)
     }
 
     // Whether the call, on this job and table, answers anything else than is due.

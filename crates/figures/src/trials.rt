@@ -5,9 +5,9 @@ use crate::orders::{Kind, Mode};
 use crate::plain::{carry, floor_shift, number, one_bit, positive, product};
 use crate::sums::Sums;
 use calls::Stored;
-use shares::Opening;
-use trio::{Shared, Trio};
-use worker::State;
+use shares::Disagree;
+use trio::{Refused, Shared, Trio};
+use worker::Answer;
 
 // An order, what its source opens, and the seed of everything else: of l1, l2 and m of the registers, A, B and the deal
 // buffer.
@@ -21,35 +21,33 @@ pub(crate) struct Trial {
     pub(crate) seed: u32,
 }
 
-// A job run by the three hosts, and whether the deal buffer's words past the deals are as before.
+// A job run to its end by the three hosts, and whether the deal buffer's words past the deals are as before.
 #[derive(Clone, Copy)]
 pub(crate) struct Ran {
     hosts: Trio,
     kept: bool,
 }
 
-// The value that shares stand for; none where they disagree.
-pub(crate) fn opening(o: Opening) -> Option<i64> {
-    match o {
-        Opening::Opened(z) => Some(z),
-        Opening::Disagree => None,
-    }
-}
-
 // A job run on drawn lists, with so many words of B.
-pub(crate) fn run(job: &[u32], table: &[u32], seed: u32, b_words: usize, shares: Shared) -> Ran {
+pub(crate) fn run(
+    job: &[u32],
+    table: &[u32],
+    seed: u32,
+    b_words: usize,
+    shares: Shared,
+) -> Result<Ran, Refused> {
     let a = drawn::<512>(word(seed, 4));
     let b = drawn::<512>(word(seed, 5));
     let buffer = drawn::<512>(word(seed, 6));
     let mut deals = buffer;
-    let hosts = trio::run(job, table, &a, front(&b, b_words), &mut deals, shares);
+    let hosts = trio::run(job, table, &a, front(&b, b_words), &mut deals, shares)?;
     let written = hosts.deals as usize;
     let kept = deals
         .iter()
         .zip(&buffer)
         .skip(written)
         .all(|(now, then)| now == then);
-    Ran { hosts, kept }
+    Ok(Ran { hosts, kept })
 }
 
 // The first n words; all where there are fewer.
@@ -58,23 +56,21 @@ pub(crate) fn front(list: &[u32], n: usize) -> &[u32] {
 }
 
 // Whether a host at the end of one order has spoken so many words and stored the places of these and of the deals.
-fn is_at_end(s: State, said: u32, spoken: u32, deals: u32) -> bool {
-    let Stored { a, b, deals: used } = s.stored;
-    let placed = a == spoken.wrapping_add(deals) && b == spoken && used == deals;
-    s.order == 1 && s.turn == 0 && said == spoken && placed
+fn is_at_end(host: Answer, spoken: u32, deals: u32) -> bool {
+    let s = host.state;
+    let due = Stored {
+        a: spoken.wrapping_add(deals),
+        b: spoken,
+        deals,
+    };
+    s.order == 1 && s.turn == 0 && host.spoken == spoken && s.stored == due
 }
 
 impl Ran {
     // What a register opens on the three hosts' shares.
-    pub(crate) fn opened(&self, r: u32) -> Option<i64> {
+    pub(crate) fn opened(&self, r: u32) -> Result<i64, Disagree> {
         let s = self.hosts;
-        opening(trio_open::opened(s.masks, s.one.state, s.two.state, r as usize))
-    }
-
-    // Whether any of the three turned the job down.
-    fn is_refused(&self) -> bool {
-        let s = self.hosts;
-        s.number != 0 || s.one.number != 0 || s.two.number != 0
+        trio_open::opened(s.masks, s.one.state, s.two.state, r as usize)
     }
 }
 
@@ -133,7 +129,7 @@ impl Trial {
     }
 
     // The order on drawn shares of every register, the source's of x.
-    pub(crate) fn run(&self, table: &[[u32; 2]]) -> Ran {
+    pub(crate) fn run(&self, table: &[[u32; 2]]) -> Result<Ran, Refused> {
         let l1 = drawn(word(self.seed, 1));
         let l2 = drawn(word(self.seed, 2));
         let mut m = drawn::<16>(word(self.seed, 3));
@@ -150,30 +146,35 @@ impl Trial {
 
     // Whether a register beside the target opens something else than before.
     fn others_changed(&self, ran: &Ran) -> bool {
-        (0..16).any(|r| r != self.target && ran.opened(r) != Some(number(self.value(r))))
+        (0..16).any(|r| r != self.target && ran.opened(r) != Ok(number(self.value(r))))
     }
 
-    // Whether something is refused, or the hosts' counts are not the kind's; each worker speaks half the words.
+    // Whether the hosts' counts are not the kind's; each worker speaks half the words.
     fn is_miscounted(&self, ran: &Ran, rows: u32) -> bool {
         let due = self.kind.cost(rows);
         let half = due.words / 2;
         let s = ran.hosts;
-        let ended = is_at_end(s.one.state, s.one.spoken, half, due.deals)
-            && is_at_end(s.two.state, s.two.spoken, half, due.deals);
-        ran.is_refused() || !ran.kept || !ended || s.deals != due.deals
+        let ended = is_at_end(s.one, half, due.deals) && is_at_end(s.two, half, due.deals);
+        !ran.kept || !ended || s.deals != due.deals
     }
 
-    // The trial run and compared. The line C holds a curve up to the last row.
+    // The trial run and compared; one that is refused goes wrong in all. The line C holds a curve up to the last row.
     pub(crate) fn compared(&self, table: &[[u32; 2]]) -> Sums {
-        let ran = self.run(table);
-        let found = ran.opened(self.target);
         let curve = Curve::new(positive(self.x), table);
         let on_line = matches!(self.kind, Kind::Curve(_)) && !curve.above;
-        let close = found.is_some_and(|z| curve.is_close(words::word_of(z)));
-        let value = found != Some(number(self.plain_value(&curve)));
+        let (value, close, kept, counts) = match self.run(table) {
+            Ok(ran) => {
+                let found = ran.opened(self.target);
+                (
+                    found != Ok(number(self.plain_value(&curve))),
+                    found.is_ok_and(|z| curve.is_close(words::word_of(z))),
+                    self.others_changed(&ran),
+                    self.is_miscounted(&ran, curve.rows),
+                )
+            }
+            Err(_) => (true, false, true, true),
+        };
         let line = on_line && !close;
-        let kept = self.others_changed(&ran);
-        let counts = self.is_miscounted(&ran, curve.rows);
         Sums {
             cases: 1,
             value: u32::from(value),

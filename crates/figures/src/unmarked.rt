@@ -1,6 +1,6 @@
 // The cases of "House table by hand" that document 01 does not mark, the limits of splitting, and shares that disagree.
-use crate::trials::{opening, run};
-use shares::{DealerShare, Shares, Sharing, WorkerShare};
+use crate::trials::run;
+use shares::{DealerShare, Disagree, OutOfRange, Shares, WorkerShare};
 use trio::Shared;
 
 // Register 0, and zeros behind it.
@@ -18,7 +18,8 @@ pub(crate) fn is_slack_wrong(i: u32) -> bool {
     let m = registers(2147483648);
     let l1 = registers(mask);
     let l2 = registers(2147483648u32.wrapping_sub(mask));
-    run(&[6, 0, 0, 1], &[], 51, 0, Shared { m, l1, l2 }).opened(0) != Some(-2147483648)
+    let ran = run(&[6, 0, 0, 1], &[], 51, 0, Shared { m, l1, l2 });
+    !ran.is_ok_and(|ran| ran.opened(0) == Ok(-2147483648))
 }
 
 // Four readings that can be split, and four that are out of range.
@@ -37,8 +38,8 @@ const SPLIT: [i64; 8] = [
 pub(crate) fn is_split_wrong(i: u32) -> bool {
     let reading = SPLIT[i as usize % 8];
     match shares::share(reading, 2654435769, 2246822519) {
-        Sharing::Shared(s) => 3 < i || opening(shares::reconstruct(s)) != Some(reading),
-        Sharing::OutOfRange => i < 4,
+        Ok(s) => 3 < i || shares::reconstruct(s) != Ok(reading),
+        Err(OutOfRange) => i < 4,
     }
 }
 
@@ -58,5 +59,5 @@ pub(crate) fn is_opened(i: u32) -> bool {
             p2.l = 5;
         }
     }
-    opening(shares::reconstruct(Shares { p0, p1, p2 })).is_some()
+    shares::reconstruct(Shares { p0, p1, p2 }) != Err(Disagree)
 }

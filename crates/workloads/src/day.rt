@@ -6,7 +6,7 @@ use calls::Stored;
 use dealer::prepare_day;
 use tables::HOUSE;
 use words::wrapping_mul;
-use worker::{Answer, State, start_day};
+use worker::{Answer, Refused, State, start_day};
 
 // The order behind a day's last one.
 const END: u32 = 97;
@@ -91,30 +91,30 @@ impl Day {
         }
     }
 
-    fn begun(&self, lists: &Lists) -> Workers {
+    fn begun(&self, lists: &Lists) -> Result<Workers, Refused> {
         let one = self.one.as_flattened();
         let two = self.two.as_flattened();
         let calendar = self.calendar.as_flattened();
-        Workers {
-            one: start_day(1, &HOUSE, one, calendar, WEEKDAY, &lists.a, &[]),
-            two: start_day(2, &HOUSE, two, calendar, WEEKDAY, &lists.b, &lists.deals),
-        }
+        Ok(Workers {
+            one: start_day(1, &HOUSE, one, calendar, WEEKDAY, &lists.a, &[])?,
+            two: start_day(2, &HOUSE, two, calendar, WEEKDAY, &lists.b, &lists.deals)?,
+        })
     }
 
     // Host 1's hearing.
-    fn heard(&self, lists: &Lists, state: State, word: u32) -> Answer {
+    fn heard(&self, lists: &Lists, state: State, word: u32) -> Result<Answer, Refused> {
         let one = self.one.as_flattened();
         let calendar = self.calendar.as_flattened();
         state.hear_day(1, &HOUSE, one, calendar, WEEKDAY, &lists.a, &[], word)
     }
 
     // Each host hears the word that the other spoke last.
-    fn exchanged(&self, lists: &Lists, s: Workers) -> Workers {
+    fn exchanged(&self, lists: &Lists, s: Workers) -> Result<Workers, Refused> {
         let two = self.two.as_flattened();
         let calendar = self.calendar.as_flattened();
         let second = s.two.state;
-        Workers {
-            one: self.heard(lists, s.one.state, s.two.word),
+        Ok(Workers {
+            one: self.heard(lists, s.one.state, s.two.word)?,
             two: second.hear_day(
                 2,
                 &HOUSE,
@@ -124,26 +124,27 @@ impl Day {
                 &lists.b,
                 &lists.deals,
                 s.one.word,
-            ),
-        }
+            )?,
+        })
     }
 
     // Both hosts from their startings to the end.
-    fn ended(&self, lists: &Lists) -> Workers {
-        let mut s = self.begun(lists);
+    fn ended(&self, lists: &Lists) -> Result<Workers, Refused> {
+        let mut s = self.begun(lists)?;
         for _ in 0..HEARINGS {
             if s.one.state.order == END {
                 break;
             }
-            s = self.exchanged(lists, s);
+            s = self.exchanged(lists, s)?;
         }
-        s
+        Ok(s)
     }
 
+    // No turn is refused: what the hosts are lent of a day is sound, and the lists suffice. A refusal would count 0.
     fn running(&self, lists: &mut Lists) -> u32 {
         let zero = self.zero.as_flattened();
         let calendar = self.calendar.as_flattened();
-        let p = prepare_day(
+        let prepared = prepare_day(
             &HOUSE,
             zero,
             calendar,
@@ -152,14 +153,14 @@ impl Day {
             &lists.b,
             &mut lists.deals,
         );
-        let s = self.ended(lists);
-        let left = p.masks;
-        let state = s.one.state;
-        state.m[0]
-            .wrapping_add(state.m[1])
-            .wrapping_add(s.two.spoken)
-            .wrapping_add(left.l1[0])
-            .wrapping_add(p.deals)
+        let dealt = prepared.map_or(0, |p| p.deals.wrapping_add(p.masks.l1[0]));
+        let heard = self.ended(lists).map_or(0, |s| {
+            let state = s.one.state;
+            state.m[0]
+                .wrapping_add(state.m[1])
+                .wrapping_add(s.two.spoken)
+        });
+        heard.wrapping_add(dealt)
     }
 }
 
@@ -179,9 +180,11 @@ fn in_curve(order: u32, x: u32) -> State {
     }
 }
 
-fn told(r: Answer) -> u32 {
-    let state = r.state;
-    let said = wrapping_mul(r.number, 65537).wrapping_add(wrapping_mul(r.spoken, 257));
+fn told(r: Result<Answer, Refused>) -> u32 {
+    let (said, state) = match r {
+        Ok(answer) => (wrapping_mul(answer.spoken, 257), answer.state),
+        Err(Refused { refusal, state }) => (wrapping_mul(refusal.condition.number(), 65537), state),
+    };
     let place = wrapping_mul(state.order, 31).wrapping_add(state.turn);
     said.wrapping_add(place).wrapping_add(state.m[0])
 }

@@ -5,7 +5,7 @@ use sample_masks::fill;
 use tables::HOUSE;
 use trio::{Shared, run};
 use words::wrapping_mul;
-use worker::{Registers, State, start};
+use worker::{Refused, Registers, State, start};
 
 // The mask lists A and B and the deals.
 #[derive(Drop)]
@@ -76,12 +76,11 @@ fn front(list: &[u32], n: u32) -> &[u32] {
 fn starting(host: u32, job: &[u32], list: &[u32], deals: &[u32], x: u32) -> u32 {
     let m = lane(x.wrapping_add(202));
     let mask = lane(x);
-    let s = start(host, job, &HOUSE, list, deals, Registers { m, mask });
-    let state = s.state;
-    s.word
-        .wrapping_add(s.spoken)
-        .wrapping_add(state.m[0])
-        .wrapping_add(state.mask[1])
+    let (said, state) = match start(host, job, &HOUSE, list, deals, Registers { m, mask }) {
+        Ok(answer) => (answer.word.wrapping_add(answer.spoken), answer.state),
+        Err(refused) => (0, refused.state),
+    };
+    said.wrapping_add(state.m[0]).wrapping_add(state.mask[1])
 }
 
 impl Lists {
@@ -99,7 +98,7 @@ impl Lists {
     pub(crate) fn preparing(&mut self, job: &[u32], x: u32) -> u32 {
         let l1 = lane(x);
         let l2 = lane(x.wrapping_add(7));
-        let p = prepare(
+        let prepared = prepare(
             job,
             &HOUSE,
             &self.a,
@@ -107,8 +106,11 @@ impl Lists {
             &mut self.deals,
             Masks { l1, l2 },
         );
-        let left = p.masks;
-        p.deals.wrapping_add(left.l1[0]).wrapping_add(left.l2[0])
+        let (deals, left) = match prepared {
+            Ok(prepared) => (prepared.deals, prepared.masks),
+            Err(refused) => (0, refused.masks),
+        };
+        deals.wrapping_add(left.l1[0]).wrapping_add(left.l2[0])
     }
 
     pub(crate) fn starting_one(&self, job: &[u32], x: u32) -> u32 {
@@ -123,7 +125,7 @@ impl Lists {
         let m = lane(x.wrapping_add(x).wrapping_add(209));
         let l1 = lane(x);
         let l2 = lane(x.wrapping_add(7));
-        let r = run(
+        let ran = run(
             job,
             &HOUSE,
             &self.a,
@@ -131,12 +133,15 @@ impl Lists {
             &mut self.deals,
             Shared { m, l1, l2 },
         );
-        let state = r.one.state;
-        let left = r.masks;
-        state.m[0]
-            .wrapping_add(r.two.spoken)
-            .wrapping_add(left.l1[0])
-            .wrapping_add(r.deals)
+        let (state, said, left) = match ran {
+            Ok(ran) => (
+                ran.one.state,
+                ran.two.spoken.wrapping_add(ran.deals),
+                ran.masks,
+            ),
+            Err(refused) => (refused.one, 0, refused.masks),
+        };
+        state.m[0].wrapping_add(said).wrapping_add(left.l1[0])
     }
 
     // Hearing at places and with lists that a number names, refused or not.
@@ -152,15 +157,21 @@ impl Lists {
         };
         let short = front(&self.a, x / 1000 % 330);
         let fewer = front(&self.deals, x / 1300 % 200);
-        let r = s.hear(x % 4, PROBED.as_flattened(), &HOUSE, short, fewer, 5);
-        let fault = wrapping_mul(r.number.wrapping_add(wrapping_mul(r.index, 1000)), 65537);
-        let place = wrapping_mul(r.state.order, 31).wrapping_add(r.state.turn);
-        let left = r.state.stored;
+        let (said, state) = match s.hear(x % 4, PROBED.as_flattened(), &HOUSE, short, fewer, 5) {
+            Ok(answer) => (wrapping_mul(answer.spoken, 257), answer.state),
+            Err(Refused { refusal, state }) => {
+                let index = wrapping_mul(refusal.index, 1000);
+                let fault = refusal.condition.number().wrapping_add(index);
+                (wrapping_mul(fault, 65537), state)
+            }
+        };
+        let place = wrapping_mul(state.order, 31).wrapping_add(state.turn);
+        let left = state.stored;
         let used = left
             .a
             .wrapping_add(wrapping_mul(left.b, 3))
             .wrapping_add(wrapping_mul(left.deals, 5));
-        let said = wrapping_mul(r.spoken, 257).wrapping_add(wrapping_mul(used, 8191));
-        fault.wrapping_add(said).wrapping_add(place)
+        said.wrapping_add(wrapping_mul(used, 8191))
+            .wrapping_add(place)
     }
 }
