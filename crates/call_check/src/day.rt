@@ -42,6 +42,7 @@ pub struct CheckedDay {
     pub whole: Counts,
 }
 
+// A function and no `From`, since neither type is this crate's.
 fn condition_of(error: HoursError) -> Condition
     ensures { number_of result ≡ Hours.number_of error }
 {
@@ -87,6 +88,7 @@ fn day_counts(curve: Counts, n: u32) -> Counts
 }
 
 // Conditions 12, 16, 17, 5, 6 and 7, and what the walk goes by. The calendar is judged here alone, once for each call.
+// Apart from `check_job`: they share `check_lists` alone, since a day's conditions are others and have no index.
 fn check_day(
     host: u32,
     table: &[u32],

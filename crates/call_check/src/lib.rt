@@ -1,4 +1,4 @@
-// What preparation, starting and hearing begin with: the checks of what each host is lent.
+// What preparation, starting and hearing begin with: the checks of what each host is lent, one by one as a call is.
 #![tactic(auto)]
 
 mod checking;

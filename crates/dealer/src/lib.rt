@@ -1,4 +1,4 @@
-// Host 0: preparation of a job or a day.
+// Host 0: preparation of a job or a day. The calls take what document 01 names, one by one, as C does.
 #![tactic(auto)]
 
 use jobs::Refusal;

@@ -42,7 +42,8 @@ pub enum Op {
     MulKnown,
     // the product of two bit words, of which a is known
     AndKnown,
-    // no gate: past the last one of a program
+    // no gate: past the last one of a program. No `Option` of a gate: walks ask below a piece's end alone, and each
+    // would have to unwrap what `gate_at` gives.
     Past,
 }
 

@@ -63,7 +63,7 @@ pub extern "C" fn lamphiek_unused_a(
     unused_of(job, table, Which::ListA, a, number)
 }
 
-// Unused words of list B. Numbers 2 to 6.
+// Unused words of list B. Numbers 2 to 6. Two exports, since C has them as two; `unused_of` is both.
 #[unsafe(no_mangle)]
 pub extern "C" fn lamphiek_unused_b(
     job: &[u32],

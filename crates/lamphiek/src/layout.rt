@@ -1,4 +1,4 @@
-// The structs of include/lamphiek.h as words, in and out.
+// The structs of include/lamphiek.h as words, in and out. Functions and no `From`: the types are other crates'.
 ghost use Rattle.std.specs.Prelude.{◌≡◌, ◌+◌, ◌≤◌, length, take, drop};
 ghost use Rattle.worker.specs.Answers.{state_of, lanes_of};
 ghost use Rattle.lamphiek.specs.Layout.{state_in, state_out, registers_in, masks_in, masks_out};

@@ -17,7 +17,7 @@ mod readings;
 mod stepping;
 
 // What a call returns: the number, 0 for none, and the order's index; a count, and the word given. What a call does not
-// give is 0.
+// give is 0. Numbers, since this is C's struct.
 #[repr(C)]
 #[derive(Clone, Copy)]
 pub struct Answer {

@@ -88,7 +88,7 @@ fn last_piece(source: u32, target: u32, i: usize) -> Piece
 }
 
 // The piece in which the gate at index i behind a curve's rows stands: the exact truncation for mode 0, and else a
-// refresh and the one-bit one; then R-1's last steps.
+// refresh and the one-bit one; then R-1's last steps. The mode is the order's fourth word, which may be any.
 fn end_piece(mode: u32, source: u32, target: u32, i: usize) -> Piece
     ensures { result ≡ end_piece 32 mode source target i }
 {

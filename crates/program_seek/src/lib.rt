@@ -159,7 +159,8 @@ fn refreshed_place(n: usize, from: GatePlace) -> Option<GatePlace>
     one_bit_place(n - 1, after(from, REFRESH))
 }
 
-// Behind a curve's rows: the truncation of its mode, and then R-1's last steps.
+// Behind a curve's rows: the truncation of its mode, which is the order's fourth word and may be any, and then R-1's
+// last steps.
 fn end_place(mode: u32, n: usize, from: GatePlace) -> Option<GatePlace>
     requires { Below (2 ^ 60) from }
     ensures { (r x d : ℕ) →

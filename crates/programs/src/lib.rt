@@ -6,7 +6,8 @@ mod kind;
 
 pub use kind::{Kind, UnknownKind};
 
-// An order's four words (document 01: kind, target, first source, fourth word).
+// An order's four words (document 01: kind, target, first source, fourth word): numbers, since a job is lent and
+// `piece_at`, `seek` and `order_fault` answer on every one. The code tells kinds apart by `Kind`.
 #[derive(Clone, Copy)]
 pub struct Order {
     pub kind: u32,
@@ -15,7 +16,8 @@ pub struct Order {
     pub fourth: u32,
 }
 
-// The place of a gate in its program: its index, and the words of A and the deals that the program uses before it.
+// The place of a gate in its program: its index, and the words of A and the deals that the program uses before it. No
+// invariant bounds them, or `sought` would carry a proof in every place.
 #[derive(Clone, Copy, Debug, PartialEq, Eq)]
 pub struct GatePlace {
     pub gate: usize,

@@ -118,7 +118,8 @@ fn exchange(job: &[u32], table: &[u32], a: &[u32], b: &[u32], deals: &[u32], s: 
     }
 }
 
-// The whole job, or the preparation's refusal: words go to and fro until the hosts are at the job's end.
+// The whole job, or the preparation's refusal: words go to and fro until the hosts are at the job's end, which their
+// places tell and no count.
 pub fn run(
     job: &[u32],
     table: &[u32],

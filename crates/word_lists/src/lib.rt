@@ -35,6 +35,7 @@ pub fn put_word(words: &mut [u32], at: usize, v: u32)
     }
 }
 
+// A lane's slot is a word of a gate: `at` and `put` spare each formula a cast and a borrow.
 pub fn at(lane: &[u32; 24], i: u32) -> u32
     ensures { result ≡ Steps.at lane.now i }
 {

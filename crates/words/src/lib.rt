@@ -15,7 +15,7 @@ pub fn wrapping_mul(a: u32, b: u32) -> u32
     (u64::from(a) * u64::from(b) % 4294967296) as u32
 }
 
-// The signed reading of a word, from -2^31 to 2^31 - 1.
+// The signed reading of a word, from -2^31 to 2^31 - 1. No `From` here or below: both types are the language's own.
 pub fn signed_reading(x: u32) -> i64
     ensures { result ≡ signed 32 x }
 {

@@ -13,7 +13,8 @@ use jobs::Counts;
 use program_seek::seek;
 use programs::GatePlace;
 
-// A day that was accepted: its table and its day list, and what the check found of it.
+// A day that was accepted: its table and its day list, and what the check found of it. That it was is one
+// word of a clause, `Accepted`, which an invariant would not make plainer.
 #[derive(Clone, Copy)]
 pub(crate) struct Daily<'a> {
     pub table: &'a [u32],

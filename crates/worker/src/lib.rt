@@ -1,4 +1,5 @@
-// Starting and hearing: hosts 1 and 2 stepped word by word through the gates of a job, or of a day.
+// Starting and hearing: hosts 1 and 2 stepped word by word through the gates of a job, or of a day. The calls take what
+// document 01 names, one by one, as C does; behind the checks it travels in structs.
 #![tactic(auto)]
 
 mod answering;

@@ -71,7 +71,7 @@ impl Reach {
     }
 }
 
-// Behind a gate that exchanges nothing and uses so much more: no word of B.
+// Behind a gate that exchanges nothing and uses so much more: no word of B, unlike host 0's `behind`.
 fn past(used: Used, more: Used) -> Used
     requires { (more.a ≤ 2) × (more.deals ≤ 1) × (used.a < 2 ^ 62) × (used.deals < 2 ^ 62) }
     ensures { (result.a ≡ used.a + more.a) × (result.b ≡ used.b) × (result.deals ≡ used.deals + more.deals) }

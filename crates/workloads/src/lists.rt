@@ -68,7 +68,7 @@ fn probed(order: u32, turn: u32, x: u32) -> Stored {
     }
 }
 
-// The first n words, or all where there are fewer.
+// The first n words, or all where there are fewer (a line of `figures` too: the programs share no crate of their own).
 fn front(list: &[u32], n: u32) -> &[u32] {
     list.get(..n as usize).unwrap_or(list)
 }
