@@ -1,9 +1,10 @@
 -- The piece of a gate holds that gate and those behind it (`Stands`): a curve's pieces at any width, every piece at 32. Assumes nothing.
 use Rattle.std.proofs.Common.{◌≡◌, ℕ, zero, suc, ◌+◌, ◌-◌, ◌*◌, ◌/◌, ◌%◌, ◌<◌, ◌≤◌, Bool, true, false, cond, T, eqb, ltb, leb, List, [], ◌∷◌, ◌++◌, map, length, get_or, take, drop, replicate, sym, refl, ap, ◌∙◌, subst, ap₂, true≢false, append_assoc, append-nil, mod-lt, mul_comm, div-add-mod', le-div_iff_mul-le, arith, leb→le, length-append, get_or-take, ltb-false, ltb-true, eqb-true}
 use borrow.Author.Tests.{eqb-false}
-use lib.ListN.{get_or-replicate, get_or-map, get_or-append, get_or-eq_default}
+use lib.ListN.{get_or-replicate, get_or-map, get_or-eq_default}
 use lib.Seq.{drop-append-add}
 use Rattle.gates.specs.Gates.{Gate, Refresh}
+use Rattle.gates.specs.Codes.{Past, fetched}
 use Rattle.tables.specs.Table.{Row, row_at}
 use Rattle.curves.specs.Curve.{last_count}
 use Rattle.programs.specs.declared.Order.{Order}
@@ -15,7 +16,9 @@ use Rattle.programs.proofs.CurveGates.{refreshed}
 use Rattle.programs.proofs.Sizes.{one_bit_sized, exact_sized, relu_sized, sum_sized, any_table, row_number, one_bit_number, exact_32}
 use Rattle.programs.proofs.Sizes.{relu_32, saturation_sized, saturation_32}
 use Rattle.program_fetch.specs.declared.Piece.{Piece}
-use Rattle.program_fetch.specs.Pieces.{change, first_gates, row_start, row_end, piece_kinds, piece_gates, order_with, part}
+use Rattle.program_fetch.specs.declared.Part.{Part}
+use Rattle.program_fetch.specs.declared.Part.TheVariants.{One, OneBit, Exact, Relu, First, RowStart, RowEnd, Saturation, Nothing}
+use Rattle.program_fetch.specs.Pieces.{change, first_gates, row_start, row_end, part_gates, piece_gates, order_with, wholes, whole, part}
 use Rattle.program_fetch.specs.Pieces.{last_part, row_piece, last_piece, end_piece, curve_piece, piece_at}
 use Rattle.program_fetch.proofs.Cuts.{Cut, at_first, behind, inside, left, row_first, row_relu, row_last, sum_row, sum_start}
 
@@ -30,10 +33,11 @@ pub record Stands (w : ℕ) (ps : List Row) (o : Order) (i : ℕ) (p : Piece) : 
 
 module _ (w : ℕ) (ps : List Row) (o : Order) where
   -- a part of the program that others follow
-  part_stands : (n : ℕ) (q : Order) (j i from end : ℕ) → Cut (program w ps o) n (piece_gates w ps (part q j from end)) → i ≡ n + from
-      → from < end → end ≡ length (piece_gates w ps (part q j from end)) → end ≤ 50 → Stands w ps o i (part q j from end)
-  part_stands n q j i from end c e f l m =
-      let gs : List Gate = piece_gates w ps (part q j from end) in
+  part_stands : (n : ℕ) (q : Part) (i from end : ℕ) → Cut (program w ps o) n (part_gates w ps q) → i ≡ n + from
+      → from < end → end ≡ length (part_gates w ps q) → end ≤ 50 → Stands w ps o i (part q from end)
+  unfolding piece_gates
+  part_stands n q i from end c e f l m =
+      let gs : List Gate = part_gates w ps q in
       record {
         end = l;
         few = m;
@@ -43,11 +47,11 @@ module _ (w : ℕ) (ps : List Row) (o : Order) where
         some = λ z. f;
       }
 
-  last_stands : (before : List Gate) (q : Order) (i from end : ℕ) → program w ps o ≡ before ++ piece_gates w ps (last_part q from end)
-      → i ≡ length before + from → end ≡ length (piece_gates w ps (last_part q from end)) → end ≤ 50
-      → Stands w ps o i (last_part q from end)
+  last_stands : (before : List Gate) (q : Part) (i from end : ℕ) → program w ps o ≡ before ++ part_gates w ps q
+      → i ≡ length before + from → end ≡ length (part_gates w ps q) → end ≤ 50 → Stands w ps o i (last_part q from end)
+  unfolding piece_gates
   last_stands before q i from end g e l m =
-      let gs : List Gate = piece_gates w ps (last_part q from end) in
+      let gs : List Gate = part_gates w ps q in
       record {
         end = l;
         few = m;
@@ -76,10 +80,10 @@ module _ (w : ℕ) (ps : List Row) (o : Order) (h : o.kind ≡ 10) where
   unfolding plus_size times_size
   sum_long = ap (λ (z : Size). z.gates) (sum_sized w o.source ps)
 
-  first_stands : Stands w ps o 0 (part (order_with 10 0 0 0) 0 0 1)
-  unfolding piece_gates piece_kinds kinds first_gates
+  first_stands : Stands w ps o 0 (part First 0 1)
+  unfolding part_gates first_gates
   first_stands =
-      part_stands w ps o 0 (order_with 10 0 0 0) 0 0 0 1
+      part_stands w ps o 0 First 0 0 1
       (subst (λ (l : List Gate). Cut l 0 (first_gates w ps)) (sym curve_is)
       (sum_start w o.source ps rest))
       refl (omega arith) refl (omega arith)
@@ -94,27 +98,27 @@ module _ (w : ℕ) (ps : List Row) (o : Order) (h : o.kind ≡ 10) where
         (row_program w o.source (row_at ps j).r (change w ps j)) m small
         (sum_row w o.source ps rest j l) c)
 
-    start_stands : Stands w ps o (1 + j * row_gates w + 0) (part (order_with 11 0 o.source 0) j 0 1)
-    unfolding piece_gates piece_kinds kinds row_start
+    start_stands : Stands w ps o (1 + j * row_gates w + 0) (part (RowStart o.source j) 0 1)
+    unfolding part_gates row_start
     start_stands =
-        part_stands w ps o (1 + j * row_gates w + 0) (order_with 11 0 o.source 0) j (1 + j * row_gates w + 0) 0 1
+        part_stands w ps o (1 + j * row_gates w + 0) (RowStart o.source j) (1 + j * row_gates w + 0) 0 1
         (row_part 0 (row_start w ps j o.source) (row_first w o.source ps j))
         (omega arith) (omega arith) refl (omega arith)
 
     relu_stands : (i : ℕ) → i < (relu_size w).gates → (relu_size w).gates ≤ 50
-        → Stands w ps o (1 + j * row_gates w + suc i) (part (order_with 9 res_slot y_slot 0) j i (relu_size w).gates)
-    unfolding piece_gates piece_kinds kinds
+        → Stands w ps o (1 + j * row_gates w + suc i) (part (Relu y_slot res_slot) i (relu_size w).gates)
+    unfolding part_gates kinds
     relu_stands i f m =
-        part_stands w ps o (1 + j * row_gates w + 1) (order_with 9 res_slot y_slot 0) j (1 + j * row_gates w + suc i) i (relu_size w).gates
+        part_stands w ps o (1 + j * row_gates w + 1) (Relu y_slot res_slot) (1 + j * row_gates w + suc i) i (relu_size w).gates
         (row_part 1 (relu_program w y_slot res_slot) (row_relu w o.source ps j))
         (omega arith) f (sym (ap (λ (z : Size). z.gates) (relu_sized w y_slot res_slot))) m
 
     end_stands : (i : ℕ) → (relu_size w).gates ≤ i → suc i < row_gates w
-        → Stands w ps o (1 + j * row_gates w + suc i) (part (order_with 12 0 0 0) j (i - (relu_size w).gates) 2)
-    unfolding piece_gates piece_kinds kinds row_end
+        → Stands w ps o (1 + j * row_gates w + suc i) (part (RowEnd j) (i - (relu_size w).gates) 2)
+    unfolding part_gates row_end
     end_stands i f m =
         let n = (relu_size w).gates in
-        part_stands w ps o (1 + j * row_gates w + (1 + n)) (order_with 12 0 0 0) j (1 + j * row_gates w + suc i) (i - n) 2
+        part_stands w ps o (1 + j * row_gates w + (1 + n)) (RowEnd j) (1 + j * row_gates w + suc i) (i - n) 2
         (row_part (1 + n) (row_end w ps j) (row_last w o.source ps j))
         (omega arith) (omega (arith, ap (λ (z : Size). z.gates) (row_number w))) refl (omega arith)
 
@@ -132,20 +136,20 @@ module _ (w : ℕ) (ps : List Row) (o : Order) (h : o.kind ≡ 10) where
   steps_stand : (gs : List Gate) (n : ℕ) → truncation w o.fourth ≡ gs → length gs ≡ n → (i from : ℕ) → i ≡ n + from
       → (saturation_size w).gates ≤ 50
       → Stands w ps o (1 + row_gates w * length ps + i) (last_piece w o.source o.target from)
-  unfolding piece_gates piece_kinds kinds
+  unfolding part_gates kinds
   steps_stand gs n e c i from f m =
-      last_stands w ps o (sum ++ gs) (order_with 13 o.target o.source 0) (1 + row_gates w * length ps + i) from
+      last_stands w ps o (sum ++ gs) (Saturation o.source o.target) (1 + row_gates w * length ps + i) from
       (saturation_size w).gates
       (curve_is ∙ ap (λ (l : List Gate). sum ++ (l ++ steps)) e ∙ sym (append_assoc sum gs steps))
       (omega (arith, sum_long, length-append sum gs))
       (sym (ap (λ (z : Size). z.gates) (saturation_sized w (last_count ps) o.source o.target))) m
 
   exact_stands : o.fourth ≡ 0 → (i : ℕ) → i < (exact_size w).gates → (exact_size w).gates ≤ 50
-      → Stands w ps o (1 + row_gates w * length ps + i) (part (order_with 8 acc_slot acc_slot 12) 0 i (exact_size w).gates)
-  unfolding piece_gates piece_kinds kinds truncation
+      → Stands w ps o (1 + row_gates w * length ps + i) (part (Exact 12 acc_slot acc_slot) i (exact_size w).gates)
+  unfolding part_gates kinds truncation
   exact_stands z i f m =
       let t : List Gate = exact_program w 12 acc_slot acc_slot in
-      part_stands w ps o (length sum + 0) (order_with 8 acc_slot acc_slot 12) 0 (1 + row_gates w * length ps + i) i (exact_size w).gates
+      part_stands w ps o (length sum + 0) (Exact 12 acc_slot acc_slot) (1 + row_gates w * length ps + i) i (exact_size w).gates
       (subst (λ (l : List Gate). Cut l (length sum + 0) t)
       (sym (curve_is ∙ ap (λ (k : ℕ). sum ++ (truncation w k ++ steps)) z))
       (behind sum (t ++ steps) 0 t (at_first t steps)))
@@ -162,19 +166,19 @@ module _ (w : ℕ) (ps : List Row) (o : Order) (h : o.kind ≡ 10) where
     one_bit_is : program w ps o ≡ sum ++ (refresh ++ (one_bit ++ steps))
     one_bit_is = curve_is ∙ ap (λ (l : List Gate). sum ++ (l ++ steps)) (sym (refreshed w o.fourth n))
 
-    refresh_stands : Stands w ps o (1 + row_gates w * length ps + 0) (part (order_with 5 acc_slot acc_slot 0) 0 0 1)
-    unfolding piece_gates piece_kinds kinds
+    refresh_stands : Stands w ps o (1 + row_gates w * length ps + 0) (part (One (order_with 5 acc_slot acc_slot 0)) 0 1)
+    unfolding part_gates kinds
     refresh_stands =
-        part_stands w ps o (length sum + 0) (order_with 5 acc_slot acc_slot 0) 0 (1 + row_gates w * length ps + 0) 0 1
+        part_stands w ps o (length sum + 0) (One (order_with 5 acc_slot acc_slot 0)) (1 + row_gates w * length ps + 0) 0 1
         (subst (λ (l : List Gate). Cut l (length sum + 0) refresh) (sym one_bit_is)
         (behind sum (refresh ++ (one_bit ++ steps)) 0 refresh (at_first refresh (one_bit ++ steps))))
         (omega (arith, sum_long)) (omega arith) refl (omega arith)
 
     one_bit_stands : (i : ℕ) → i < (one_bit_size w).gates
-        → Stands w ps o (1 + row_gates w * length ps + suc i) (part (order_with 7 acc_slot acc_slot 12) 0 i (one_bit_size w).gates)
-    unfolding piece_gates piece_kinds kinds
+        → Stands w ps o (1 + row_gates w * length ps + suc i) (part (OneBit 12 acc_slot acc_slot) i (one_bit_size w).gates)
+    unfolding part_gates kinds
     one_bit_stands i f =
-        part_stands w ps o (length sum + (1 + 0)) (order_with 7 acc_slot acc_slot 12) 0 (1 + row_gates w * length ps + suc i) i
+        part_stands w ps o (length sum + (1 + 0)) (OneBit 12 acc_slot acc_slot) (1 + row_gates w * length ps + suc i) i
         (one_bit_size w).gates
         (subst (λ (l : List Gate). Cut l (length sum + (1 + 0)) one_bit) (sym one_bit_is)
         (behind sum (refresh ++ (one_bit ++ steps)) (1 + 0) one_bit
@@ -246,32 +250,59 @@ module _ (w : ℕ) (ps : List Row) (o : Order) (h : o.kind ≡ 10) where
 
 -- ---- the other kinds
 module _ (w : ℕ) (ps : List Row) where
-  -- kinds 0 to 9: all of the program
-  whole : (p : Piece) → p.order.kind < 10 → piece_gates w ps p ≡ program w ps p.order
-  unfolding piece_gates piece_kinds kinds program
-  whole p h =
-      let o : Order = p.order in
-      let ks : List (List Gate) = kinds w ps o.target o.source o.fourth in
-      get_or-append (take 10 ks) (drop 10 (piece_kinds w ps o p.row)) [] o.kind h
-      ∙ get_or-take 10 ks o.kind [] h
-
   -- of a kind that does not look at the table
-  pub one_gated : (p : Piece) → p.order.kind < 6 → piece_gates w ps p ≡ program w [] p.order
-  one_gated p h = whole p (omega arith) ∙ any_table w ps [] p.order (λ e. omega arith)
+  single_gates : (o : Order) → o.kind < 6 → part_gates w ps (One o) ≡ program w ps o
+  unfolding part_gates program
+  single_gates o h = get_or-take 6 (kinds w ps o.target o.source o.fourth) o.kind [] h
 
-  pub nothing : (p : Piece) → 14 ≤ p.order.kind → piece_gates w ps p ≡ []
-  unfolding piece_gates piece_kinds kinds
-  nothing p h = get_or-eq_default (piece_kinds w ps p.order p.row) [] h
+  pub one_gated : (o : Order) → o.kind < 6 → part_gates w ps (One o) ≡ program w [] o
+  one_gated o h = single_gates o h ∙ any_table w ps [] o (λ e. omega arith)
 
-  none_stands : (o : Order) (i : ℕ) → 10 < o.kind → Stands w ps o i (last_part (order_with 14 0 0 0) i 0)
-  unfolding piece_gates piece_kinds kinds program
+  pub none_gated : (o : Order) → 6 ≤ o.kind → (i : ℕ) → Past ≡ fetched (part_gates w ps (One o)) i
+  unfolding part_gates kinds fetched
+  none_gated o h i =
+      let ks = take 6 (kinds w ps o.target o.source o.fourth) in
+      ap (λ (gs : List Gate). fetched gs i) (sym (get_or-eq_default ks [] h))
+
+  -- kinds 0 to 9: all of the program
+  pub single : (o : Order) → o.kind < 6 → One o ≡ whole o
+  unfolding whole
+  single o h = sym (get_or-replicate 6 o.kind (One o) Nothing h) ∙ get_or-take 6 (wholes o) o.kind Nothing h
+
+  behind_single : (o : Order) (j : ℕ) → j < 4 → part_gates w ps (get_or (wholes o) (suc (suc (suc (suc (suc (suc j)))))) Nothing)
+      ≡ get_or (kinds w ps o.target o.source o.fourth) (suc (suc (suc (suc (suc (suc j)))))) []
+  unfolding part_gates kinds
+  behind_single o zero h = refl
+  behind_single o (suc zero) h = refl
+  behind_single o (suc (suc zero)) h = refl
+  behind_single o (suc (suc (suc zero))) h = refl
+  behind_single o (suc (suc (suc (suc j)))) h = absurd (omega arith)
+
+  whole_gates : (o : Order) → o.kind < 10 → part_gates w ps (whole o) ≡ program w ps o
+  unfolding whole program
+  whole_gates o h = go (ltb o.kind 6) refl
+    where
+      go : (b : Bool) → ltb o.kind 6 ≡ b → part_gates w ps (whole o) ≡ program w ps o
+      go true e =
+          let m : o.kind < 6 = ltb-true o.kind 6 e in
+          ap (part_gates w ps) (sym (single o m)) ∙ single_gates o m
+      go false e =
+          let m : 6 ≤ o.kind = ltb-false o.kind 6 e in
+          let j : ℕ = o.kind - 6 in
+          let is : o.kind ≡ suc (suc (suc (suc (suc (suc j))))) = omega (arith, m) in
+          ap (λ (k : ℕ). part_gates w ps (get_or (wholes o) k Nothing)) is
+          ∙ behind_single o j (omega (arith, m, h))
+          ∙ ap (λ (k : ℕ). get_or (kinds w ps o.target o.source o.fourth) k []) (sym is)
+
+  none_stands : (o : Order) (i : ℕ) → 10 < o.kind → Stands w ps o i (last_part Nothing i 0)
+  unfolding part_gates kinds program
   none_stands o i h =
-      last_stands w ps o [] (order_with 14 0 0 0) i i 0
+      last_stands w ps o [] Nothing i i 0
       (get_or-eq_default (kinds w ps o.target o.source o.fourth) [] h) (omega arith) refl (omega arith)
 
 -- ---- the numbers of gates of kinds 0 to 9, at 32
 
-abbrev kind_gates : List ℕ
+abbrev pub kind_gates : List ℕ
 kind_gates = replicate 6 1 ++ (3 ∷ 13 ∷ 50 ∷ 39 ∷ [])
 
 lengths : (ps : List Row) (d a c : ℕ) → map length (take 10 (kinds 32 ps d a c)) ≡ kind_gates
@@ -304,14 +335,14 @@ each_at b [] h k = omega arith
 each_at b (n ∷ l) h zero = leb→le n b h.0
 each_at b (n ∷ l) h (suc k) = each_at b l h.1 k
 
-whole_stands : (ps : List Row) (o : Order) (i : ℕ) → o.kind < 10 → Stands 32 ps o i (last_part o i (length (program 32 ps o)))
+whole_stands : (ps : List Row) (o : Order) (i : ℕ) → o.kind < 10 → Stands 32 ps o i (last_part (whole o) i (length (program 32 ps o)))
 whole_stands ps o i h =
     let n = length (program 32 ps o) in
-    let all : piece_gates 32 ps (last_part o i n) ≡ program 32 ps o = whole 32 ps (last_part o i n) h in
+    let all : part_gates 32 ps (whole o) ≡ program 32 ps o = whole_gates 32 ps o h in
     let m : get_or kind_gates o.kind 0 ≤ 50 =
     each_at 50 kind_gates (tt, (tt, (tt, (tt, (tt, (tt, (tt, (tt, (tt, (tt, tt)))))))))) o.kind
     in
-    last_stands 32 ps o [] o i i n (sym all) (omega arith) (ap length (sym all)) (omega (arith, m, counted ps o h))
+    last_stands 32 ps o [] (whole o) i i n (sym all) (omega arith) (ap length (sym all)) (omega (arith, m, counted ps o h))
 
 -- ---- the piece of a gate stands where the gate does
 

@@ -12,14 +12,54 @@ mod pieces;
 
 pub use pieces::{gate_at, piece_at};
 
-// A piece of an order's program: all of it for kinds 0 to 9, and for a curve one of its parts. The piece has an order
-// of its own, whose kinds 10 to 13 are a curve's first gate, what a row has before and after its ReLU, and R-1's last
-// steps; with a kind above 13 it has no gates.
+// What a piece of an order's program is: all the gates of an order of kinds 0 to 9, of which a row's ReLU and a curve's
+// truncation are too, or a part that a curve alone has. One `match` tells all of them apart at a gate.
+#[derive(Clone, Copy)]
+pub enum Part {
+    // kinds 0 to 5, of one gate
+    One(Order),
+    Slack {
+        shift: u32,
+        source: u32,
+        target: u32,
+    },
+    OneBit {
+        shift: u32,
+        source: u32,
+        target: u32,
+    },
+    Exact {
+        shift: u32,
+        source: u32,
+        target: u32,
+    },
+    Relu {
+        source: u32,
+        target: u32,
+    },
+    // a curve's first gate
+    First,
+    // what a row of the table has before its ReLU and after it
+    RowStart {
+        source: u32,
+        row: usize,
+    },
+    RowEnd {
+        row: usize,
+    },
+    // R-1's last steps
+    Saturation {
+        source: u32,
+        target: u32,
+    },
+    // no gates, as of an order of no kind
+    Nothing,
+}
+
+// A piece of an order's program: all of it for kinds 0 to 9, and for a curve one of its parts.
 #[derive(Clone, Copy)]
 pub struct Piece {
-    pub order: Order,
-    // the table's row, for kinds 11 and 12
-    pub row: usize,
+    pub part: Part,
     // the index of a gate in the piece, and the number of the piece's gates
     pub from: usize,
     pub end: usize,
