@@ -14,16 +14,18 @@ ghost use Rattle.call_check.specs.Days.{hours_found, DayIs};
 use crate::checking::{check_lists, needs_of};
 use calendars::{CountedQuarters, HoursError, Quarters};
 use jobs::{Condition, Counts};
+use programs::{BlockSize, EXACT, ROW, SATURATION};
 
 // A day list has 96 shares of two words each.
 const DAY_WORDS: usize = 192;
 
-const CURVE_END_EXCHANGES: u32 = programs::EXACT.exchanges as u32
-    + programs::SATURATION.exchanges as u32;
-
-const CURVE_END_DEALS: u32 = programs::EXACT.deals as u32 + programs::SATURATION.deals as u32;
-
-const CURVE_END_WORDS_A: u32 = programs::EXACT.a as u32 + programs::SATURATION.a as u32;
+// What stands behind a curve's rows: the exact truncation, and R-1's last steps.
+const CURVE_END: BlockSize = BlockSize {
+    gates: EXACT.gates + SATURATION.gates,
+    exchanges: EXACT.exchanges + SATURATION.exchanges,
+    a: EXACT.a + SATURATION.a,
+    deals: EXACT.deals + SATURATION.deals,
+};
 
 // What the walk of a day goes by: the counts of one curve, which quarters count, and how many.
 #[derive(Clone, Copy, Debug, PartialEq, Eq)]
@@ -61,11 +63,11 @@ fn curve_counts(rows: u32) -> Counts
     requires { rows ≤ 16 }
     ensures { counted result ≡ curve_cost 0 rows }
 {
-    let b = rows * programs::ROW.exchanges as u32 + CURVE_END_EXCHANGES;
+    let b = rows * ROW.exchanges as u32 + CURVE_END.exchanges as u32;
     Counts {
-        deals: rows * programs::ROW.deals as u32 + CURVE_END_DEALS,
+        deals: rows * ROW.deals as u32 + CURVE_END.deals as u32,
         words: 2 * b,
-        a: rows * programs::ROW.a as u32 + CURVE_END_WORDS_A,
+        a: rows * ROW.a as u32 + CURVE_END.a as u32,
         b,
     }
 }
@@ -77,10 +79,10 @@ fn day_counts(curve: Counts, n: u32) -> Counts
     ensures { counted result ≡ day_of n (counted curve) }
 {
     Counts {
-        deals: curve.deals * n + programs::EXACT.deals as u32,
-        words: curve.words * n + 2 * programs::EXACT.exchanges as u32,
-        a: curve.a * n + programs::EXACT.a as u32,
-        b: curve.b * n + programs::EXACT.exchanges as u32,
+        deals: curve.deals * n + EXACT.deals as u32,
+        words: curve.words * n + 2 * EXACT.exchanges as u32,
+        a: curve.a * n + EXACT.a as u32,
+        b: curve.b * n + EXACT.exchanges as u32,
     }
 }
 

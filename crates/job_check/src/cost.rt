@@ -6,7 +6,7 @@ ghost use Rattle.jobs.specs.Counts.{counted};
 ghost use Rattle.job_check.specs.Tally.{tallied, CurveTallied};
 
 use jobs::Counts;
-use programs::Order;
+use programs::{Kind, Order};
 
 // A tally holds the deals, the words of A and the words of B in one number, 20 bits each, so that the counts of an
 // order are added at once. No job reaches 2^20 of any.
@@ -14,32 +14,33 @@ const ONE_OF_A: u64 = 1048576;
 
 const ONE_DEAL: u64 = ONE_OF_A * ONE_OF_A;
 
-const PRODUCT: u64 = ONE_DEAL + 2 * ONE_OF_A + 1;
+// A block's tally; a macro, since a constant's value calls no function.
+macro_rules! tally_of {
+    ($block:ident) => {
+        programs::$block.deals as u64 * ONE_DEAL
+            + programs::$block.a as u64 * ONE_OF_A
+            + programs::$block.exchanges as u64
+    };
+}
 
-const REFRESH: u64 = ONE_OF_A + 1;
+const PRODUCT: u64 = tally_of!(PRODUCT);
 
-const SLACK: u64 = ONE_DEAL + ONE_OF_A;
+const REFRESH: u64 = tally_of!(REFRESH);
 
-const ONE_BIT: u64 = programs::ONE_BIT.deals as u64 * ONE_DEAL
-    + programs::ONE_BIT.a as u64 * ONE_OF_A
-    + programs::ONE_BIT.exchanges as u64;
+const SLACK: u64 = tally_of!(SLACK);
+
+const ONE_BIT: u64 = tally_of!(ONE_BIT);
 
 // A refresh, then the one-bit truncation.
-const REFRESHED: u64 = REFRESH + ONE_BIT;
+const REFRESHED: u64 = tally_of!(REFRESHED);
 
-const EXACT: u64 = programs::EXACT.deals as u64 * ONE_DEAL
-    + programs::EXACT.a as u64 * ONE_OF_A
-    + programs::EXACT.exchanges as u64;
+const EXACT: u64 = tally_of!(EXACT);
 
 // A ReLU, and a curve's row.
-const ROW: u64 = programs::ROW.deals as u64 * ONE_DEAL
-    + programs::ROW.a as u64 * ONE_OF_A
-    + programs::ROW.exchanges as u64;
+const ROW: u64 = tally_of!(ROW);
 
 // R-1's last steps of a curve.
-const SATURATION: u64 = programs::SATURATION.deals as u64 * ONE_DEAL
-    + programs::SATURATION.a as u64 * ONE_OF_A
-    + programs::SATURATION.exchanges as u64;
+const SATURATION: u64 = tally_of!(SATURATION);
 
 // The rows of a table that keeps its rules; without one no curve is counted.
 pub(crate) fn rows_of(table: &[u32], ruled: bool) -> u64
@@ -71,23 +72,25 @@ pub(crate) fn curve_tallies(rows: u64) -> CurveTallies
 pub(crate) fn order_tally(o: Order, curve: CurveTallies) -> u64
     ensures { (n : ℕ) → CurveTallied curve n → tallied result ≡ kind_cost o.kind o.fourth n }
 {
-    let kind = o.kind;
+    let Ok(kind) = Kind::try_from(o.kind) else {
+        return 0;
+    };
     let mode = o.fourth;
     match kind {
-        4 => PRODUCT,
-        5 => REFRESH,
-        6 => SLACK,
-        7 => ONE_BIT,
-        8 => EXACT,
-        9 => ROW,
-        10 => {
+        Kind::Add | Kind::Subtract | Kind::AddConstant | Kind::TimesConstant => 0,
+        Kind::Product => PRODUCT,
+        Kind::Refresh => REFRESH,
+        Kind::Slack => SLACK,
+        Kind::OneBit => ONE_BIT,
+        Kind::Exact => EXACT,
+        Kind::Relu => ROW,
+        Kind::Curve => {
             if mode == 0 {
                 curve.exact
             } else {
                 curve.one_bit
             }
         }
-        _ => 0,
     }
 }
 

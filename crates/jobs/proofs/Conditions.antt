@@ -1,12 +1,18 @@
 -- The conditions of document 01, "Turned down", test by test. Assumes nothing.
-use mathlib.Core.Path.{◌≡◌, refl}
+use mathlib.Core.Path.{◌≡◌, refl, sym, ap, ◌∙◌, subst}
+use mathlib.Core.Logic.{◌⊎◌, inl, inr}
 use mathlib.Core.Bool.{Bool, true, false, not, ◌||◌}
 use mathlib.Core.List.{List}
-use Prim.Native.Nat.{ℕ, zero, suc, ◌%◌, ◌≤◌, ◌<◌}
+use Prim.Native.Nat.{ℕ, ◌%◌, ◌≤◌, ◌<◌}
+use native.Mathlib.Omega.{arith}
 use borrow.Author.Tests.{lt-ltb, le-ltb, ltb-false, eq-eqb, ne_eqb, eqb-true, not-false}
 use lib.Dec.{eqb, ltb}
 use lib.ListN.{length, get_or}
 use Rattle.programs.specs.declared.Order.{Order}
+use Rattle.programs.specs.declared.kind.Kind.{Kind}
+use Rattle.programs.specs.declared.kind.Kind.TheVariants.{Add, Subtract, AddConstant, TimesConstant, Product, Refresh}
+use Rattle.programs.specs.declared.kind.Kind.TheVariants.{Slack, OneBit, Exact, Relu, Curve}
+use Rattle.programs.specs.Kinds.{kind_number}
 use Rattle.jobs.specs.Job.{ill_sized, unknown_kind, two_sources, unknown_register, ill_fourths, ill_fourth, order_fault}
 use Rattle.jobs.proofs.Accepted.{or_false}
 
@@ -34,6 +40,27 @@ module _ (job : List ℕ) where
 
 -- ---- condition 4
 
+-- the kinds whose fourth word is a second source
+two : (k : Kind) → (k ≡ Add) ⊎ ((k ≡ Subtract) ⊎ (k ≡ Product)) → two_sources (kind_number k) ≡ true
+unfolding two_sources
+two k (inl h) = rw h
+two k (inr (inl h)) = rw h
+two k (inr (inr h)) = rw h
+
+one : (k : Kind) → (k ≡ Add → ⊥) → (k ≡ Subtract → ⊥) → (k ≡ Product → ⊥) → two_sources (kind_number k) ≡ false
+unfolding two_sources
+one Add a b d = absurd (a refl)
+one Subtract a b d = absurd (b refl)
+one AddConstant a b d = refl
+one TimesConstant a b d = refl
+one Product a b d = absurd (d refl)
+one Refresh a b d = refl
+one Slack a b d = refl
+one OneBit a b d = refl
+one Exact a b d = refl
+one Relu a b d = refl
+one Curve a b d = refl
+
 module _ (o : Order) where
   pub target_above : 15 < o.target → true ≡ unknown_register o
   unfolding unknown_register
@@ -44,60 +71,71 @@ module _ (o : Order) where
   source_above t h = rw (le-ltb 15 o.target t, lt-ltb 15 o.source h)
 
   module _ (t : o.target ≤ 15) (s : o.source ≤ 15) where
-    pub second_source : two_sources o.kind ≡ true → ltb 15 o.fourth ≡ unknown_register o
+    pub second_source : {k : Kind} → kind_number k ≡ o.kind → (k ≡ Add) ⊎ ((k ≡ Subtract) ⊎ (k ≡ Product))
+        → ltb 15 o.fourth ≡ unknown_register o
     unfolding unknown_register
-    second_source e = rw (le-ltb 15 o.target t, le-ltb 15 o.source s, e)
+    second_source e h = rw (le-ltb 15 o.target t, le-ltb 15 o.source s, ap two_sources (sym e) ∙ two _ h)
 
-    pub one_source : (o.kind ≡ 0 → ⊥) → (o.kind ≡ 1 → ⊥) → (o.kind ≡ 4 → ⊥) → false ≡ unknown_register o
-    unfolding unknown_register two_sources
-    one_source a b d =
-        rw (le-ltb 15 o.target t, le-ltb 15 o.source s, ne_eqb o.kind 0 a, ne_eqb o.kind 1 b, ne_eqb o.kind 4 d)
+    pub one_source : {k : Kind} → kind_number k ≡ o.kind → (k ≡ Add → ⊥) → (k ≡ Subtract → ⊥) → (k ≡ Product → ⊥)
+        → false ≡ unknown_register o
+    unfolding unknown_register
+    one_source e a b d = rw (le-ltb 15 o.target t, le-ltb 15 o.source s, ap two_sources (sym e) ∙ one _ a b d)
 
--- ---- condition 5, of the kinds whose fourth word is a register or any constant
+-- ---- condition 5
 
-module _ (w : ℕ) (ruled : Bool) (c : ℕ) where
-  pub any_fourth : (k : ℕ) → (k ≡ 5 → ⊥) → (k ≡ 6 → ⊥) → (k ≡ 7 → ⊥) → (k ≡ 8 → ⊥) → (k ≡ 9 → ⊥) → (k ≡ 10 → ⊥)
-      → false ≡ get_or (ill_fourths w ruled c) k false
+module _ (w : ℕ) (ruled : Bool) (o : Order) (k : Kind) (e : kind_number k ≡ o.kind) where
+  pub fourth_of : {j : Kind} → k ≡ j → {b : Bool} → b ≡ get_or (ill_fourths w ruled o.fourth) (kind_number j) false
+      → b ≡ ill_fourth w ruled o
+  unfolding ill_fourth
+  fourth_of h q = q ∙ ap (λ n. get_or (ill_fourths w ruled o.fourth) n false) (ap kind_number (sym h) ∙ e)
+
+-- of the kinds whose fourth word is a register or any constant
+module _ (w : ℕ) (ruled : Bool) (o : Order) where
+  pub any_fourth : (k : Kind) → kind_number k ≡ o.kind → (k ≡ Refresh → ⊥) → (k ≡ Slack → ⊥) → (k ≡ OneBit → ⊥) → (k ≡ Exact → ⊥)
+      → (k ≡ Relu → ⊥) → (k ≡ Curve → ⊥) → false ≡ ill_fourth w ruled o
   unfolding ill_fourths
-  any_fourth zero a b d e f g = refl
-  any_fourth (suc zero) a b d e f g = refl
-  any_fourth (suc (suc zero)) a b d e f g = refl
-  any_fourth (suc (suc (suc zero))) a b d e f g = refl
-  any_fourth (suc (suc (suc (suc zero)))) a b d e f g = refl
-  any_fourth (suc (suc (suc (suc (suc zero))))) a b d e f g = absurd (a refl)
-  any_fourth (suc (suc (suc (suc (suc (suc zero)))))) a b d e f g = absurd (b refl)
-  any_fourth (suc (suc (suc (suc (suc (suc (suc zero))))))) a b d e f g = absurd (d refl)
-  any_fourth (suc (suc (suc (suc (suc (suc (suc (suc zero)))))))) a b d e f g = absurd (e refl)
-  any_fourth (suc (suc (suc (suc (suc (suc (suc (suc (suc zero))))))))) a b d e f g = absurd (f refl)
-  any_fourth (suc (suc (suc (suc (suc (suc (suc (suc (suc (suc zero)))))))))) a b d e f g = absurd (g refl)
-  any_fourth (suc (suc (suc (suc (suc (suc (suc (suc (suc (suc (suc k))))))))))) a b d e f g = refl
-
--- a curve's mode, with a table that keeps its rules and with one that does not
-pub or_none : (b : Bool) → b ≡ (b || false)
-or_none true = refl
-or_none false = refl
-
-pub or_all : (b : Bool) → true ≡ (b || true)
-or_all true = refl
-or_all false = refl
+  any_fourth Add e a b d f g h = fourth_of w ruled o Add e refl refl
+  any_fourth Subtract e a b d f g h = fourth_of w ruled o Subtract e refl refl
+  any_fourth AddConstant e a b d f g h = fourth_of w ruled o AddConstant e refl refl
+  any_fourth TimesConstant e a b d f g h = fourth_of w ruled o TimesConstant e refl refl
+  any_fourth Product e a b d f g h = fourth_of w ruled o Product e refl refl
+  any_fourth Refresh e a b d f g h = absurd (a refl)
+  any_fourth Slack e a b d f g h = absurd (b refl)
+  any_fourth OneBit e a b d f g h = absurd (d refl)
+  any_fourth Exact e a b d f g h = absurd (f refl)
+  any_fourth Relu e a b d f g h = absurd (g refl)
+  any_fourth Curve e a b d f g h = absurd (h refl)
 
 -- ---- the first of 3, 4 and 5
+
+known : (k : Kind) → kind_number k ≤ 10
+known Add = omega arith
+known Subtract = omega arith
+known AddConstant = omega arith
+known TimesConstant = omega arith
+known Product = omega arith
+known Refresh = omega arith
+known Slack = omega arith
+known OneBit = omega arith
+known Exact = omega arith
+known Relu = omega arith
+known Curve = omega arith
 
 module _ (w : ℕ) (ruled : Bool) (o : Order) where
   pub fault_3 : 10 < o.kind → 3 ≡ order_fault w ruled o
   unfolding order_fault unknown_kind
   fault_3 h = rw (lt-ltb 10 o.kind h)
 
-  module _ (k : o.kind ≤ 10) {r : Bool} (er : r ≡ unknown_register o) where
+  module _ (k : Kind) (ek : kind_number k ≡ o.kind) {r : Bool} (er : r ≡ unknown_register o) where
     pub fault_4 : r ≡ true → 4 ≡ order_fault w ruled o
     unfolding order_fault unknown_kind
-    fault_4 e = rw (le-ltb 10 o.kind k, ← er, e)
+    fault_4 e = rw (le-ltb 10 o.kind (subst (λ n. n ≤ 10) ek (known k)), ← er, e)
 
     module _ (registers : r ≡ false) {f : Bool} (ef : f ≡ ill_fourth w ruled o) where
       pub fault_5 : f ≡ true → 5 ≡ order_fault w ruled o
       unfolding order_fault unknown_kind
-      fault_5 e = rw (le-ltb 10 o.kind k, ← er, registers, ← ef, e)
+      fault_5 e = rw (le-ltb 10 o.kind (subst (λ n. n ≤ 10) ek (known k)), ← er, registers, ← ef, e)
 
       pub no_fault : f ≡ false → 0 ≡ order_fault w ruled o
       unfolding order_fault unknown_kind
-      no_fault e = rw (le-ltb 10 o.kind k, ← er, registers, ← ef, e)
+      no_fault e = rw (le-ltb 10 o.kind (subst (λ n. n ≤ 10) ek (known k)), ← er, registers, ← ef, e)

@@ -2,7 +2,7 @@
 use mathlib.Core.Path.{◌≡◌, refl, sym, ap, ap₂, ◌∙◌, subst}
 use mathlib.Core.Bool.{Bool, true, false, cond}
 use mathlib.Core.List.{List, [], ◌∷◌, map}
-use Prim.Native.Nat.{ℕ, zero, suc, ◌*◌, ◌/◌, ◌≤◌}
+use Prim.Native.Nat.{ℕ, zero, suc, ◌*◌, ◌/◌, ◌≤◌, ◌<◌}
 use native.Mathlib.Omega.{arith}
 use lib.Dec.{T}
 use lib.ListN.{length, get_or, get_or-map}
@@ -10,8 +10,11 @@ use Rattle.tables.specs.Table.{Row, rows, keeps_rules}
 use Rattle.tables.proofs.Rows.{rules}
 use Rattle.gates.specs.Meaning.{meaning, order_steps, job_steps}
 use Rattle.gates.specs.Costs.{Cost, cost_of, plus, step_cost, cost}
+use Rattle.std.proofs.lemmas.List.{get_or_past}
 use Rattle.gates.proofs.Needs.{cost_path}
 use Rattle.programs.specs.declared.Order.{Order}
+use Rattle.programs.specs.declared.kind.Kind.{Kind}
+use Rattle.programs.specs.Kinds.{kind_number}
 use Rattle.programs.specs.Orders.{program}
 use Rattle.programs.specs.Costs.{program_cost}
 use Rattle.programs.specs.Sizes.{Size, size_of, plus_size, times_cost, times_size, truncation_size, curve_size, kind_sizes}
@@ -84,21 +87,15 @@ unfolding kind_cost kind_costs curve_cost
 one_bit_cost zero n h = absurd (h refl)
 one_bit_cost (suc m) n h = refl
 
-pub no_cost : (k c n : ℕ) → (k ≡ 4 → ⊥) → (k ≡ 5 → ⊥) → (k ≡ 6 → ⊥) → (k ≡ 7 → ⊥) → (k ≡ 8 → ⊥) → (k ≡ 9 → ⊥) → (k ≡ 10 → ⊥)
-    → cost_of 0 0 0 0 ≡ kind_cost k c n
+-- the entry of a kind, by its number
+pub entry_of : {k j : Kind} {i : ℕ} → kind_number k ≡ i → k ≡ j → (c n : ℕ) {z : Cost} → z ≡ kind_cost (kind_number j) c n
+    → z ≡ kind_cost i c n
+entry_of e h c n q = q ∙ ap (λ i. kind_cost i c n) (ap kind_number (sym h) ∙ e)
+
+-- above the last kind's number there is none
+pub no_entry : (i c n : ℕ) → 10 < i → cost_of 0 0 0 0 ≡ kind_cost i c n
 unfolding kind_cost kind_costs
-no_cost zero c n h4 h5 h6 h7 h8 h9 h10 = refl
-no_cost (suc zero) c n h4 h5 h6 h7 h8 h9 h10 = refl
-no_cost (suc (suc zero)) c n h4 h5 h6 h7 h8 h9 h10 = refl
-no_cost (suc (suc (suc zero))) c n h4 h5 h6 h7 h8 h9 h10 = refl
-no_cost (suc (suc (suc (suc zero)))) c n h4 h5 h6 h7 h8 h9 h10 = absurd (h4 refl)
-no_cost (suc (suc (suc (suc (suc zero))))) c n h4 h5 h6 h7 h8 h9 h10 = absurd (h5 refl)
-no_cost (suc (suc (suc (suc (suc (suc zero)))))) c n h4 h5 h6 h7 h8 h9 h10 = absurd (h6 refl)
-no_cost (suc (suc (suc (suc (suc (suc (suc zero))))))) c n h4 h5 h6 h7 h8 h9 h10 = absurd (h7 refl)
-no_cost (suc (suc (suc (suc (suc (suc (suc (suc zero)))))))) c n h4 h5 h6 h7 h8 h9 h10 = absurd (h8 refl)
-no_cost (suc (suc (suc (suc (suc (suc (suc (suc (suc zero))))))))) c n h4 h5 h6 h7 h8 h9 h10 = absurd (h9 refl)
-no_cost (suc (suc (suc (suc (suc (suc (suc (suc (suc (suc zero)))))))))) c n h4 h5 h6 h7 h8 h9 h10 = absurd (h10 refl)
-no_cost (suc (suc (suc (suc (suc (suc (suc (suc (suc (suc (suc k))))))))))) c n h4 h5 h6 h7 h8 h9 h10 = refl
+no_entry i c n h = rw (get_or_past (kind_costs c n) i (cost_of 0 0 0 0) (omega arith))
 
 -- ---- the rows matter to a curve alone, and an accepted curve has a table that keeps its rules
 

@@ -53,7 +53,10 @@ impl From<Condition> for Refusal {
     ghost from_gives = { λ condition refusal. refusal ≡ record { condition = condition; index = 0 } };
 
     fn from(condition: Condition) -> Refusal {
-        Refusal { condition, index: 0 }
+        Refusal {
+            condition,
+            index: 0,
+        }
     }
 }
 

@@ -9,7 +9,7 @@ ghost use Rattle.text_lines.specs.Answers.{held, mode_number};
 ghost use Rattle.rehearsal_answer.specs.Rehearsal.{answer, answer_of};
 ghost use Rattle.rehearsal_answer.specs.Trial.{in_first, trial, Ran};
 
-use programs::{EXACT, ROW, SATURATION};
+use programs::{EXACT, Kind, ROW, SATURATION};
 use sample_masks::fill;
 use shares::{Disagree, OutOfRange, share};
 use text_lines::{Mode, Request, parse};
@@ -48,7 +48,7 @@ fn curve(mode: Mode, m: u32, l1: u32, l2: u32) -> Trio
     let mut b = [0u32; LIST_B];
     fill(&mut b, B, 1);
     let mut deals = [0u32; DEALS];
-    let job = [10, 0, 0, mode.number()];
+    let job = [Kind::Curve as u32, 0, 0, mode.number()];
     let registers = Shared {
         m: in_first(m),
         l1: in_first(l1),
