@@ -1,5 +1,5 @@
 -- The piece of a gate, case by case as the code tells them apart, with the sizes at 32 in numbers. Assumes nothing.
-use Rattle.std.proofs.Common.{◌≡◌, ℕ, zero, suc, ◌-◌, ◌*◌, ◌/◌, ◌%◌, ◌<◌, ◌≤◌, List, length, refl, sym, ap, ◌∙◌, arith, le-ltb, lt-ltb, eq-eqb, ne_eqb}
+use Rattle.std.proofs.Common.{◌≡◌, ℕ, zero, suc, ◌-◌, ◌*◌, ◌/◌, ◌%◌, ◌<◌, ◌≤◌, List, length, get_or, refl, sym, ap, arith, le-ltb, lt-ltb, eq-eqb, ne_eqb}
 use Rattle.tables.specs.Table.{Row}
 use Rattle.programs.specs.declared.Order.{Order}
 use Rattle.programs.specs.declared.kind.Kind.{Kind}
@@ -9,8 +9,11 @@ use Rattle.programs.specs.Programs.{y_slot, acc_slot, res_slot}
 use Rattle.programs.specs.Orders.{program}
 use Rattle.programs.specs.Sizes.{row_gates}
 use Rattle.programs.proofs.Sizes.{one_bit_number, exact_32, relu_32, row_32, saturation_32}
-use Rattle.program_fetch.specs.declared.Part.TheVariants.{Whole, First, RowStart, RowEnd, Saturation, Nothing}
-use Rattle.program_fetch.specs.Pieces.{order_with, part, last_part, row_piece, last_piece, end_piece, curve_piece, piece_at}
+use Rattle.program_fetch.specs.declared.Part.TheVariants.{One, First, RowStart, RowEnd, Saturation, Nothing}
+use Rattle.program_fetch.specs.declared.Part.TheVariants as Parts
+use Rattle.program_fetch.specs.declared.Part.{Part}
+use Rattle.program_fetch.proofs.Stands.{single, kind_gates, counted_at, counted_one}
+use Rattle.program_fetch.specs.Pieces.{order_with, wholes, whole, part, last_part, row_piece, last_piece, end_piece, curve_piece, piece_at}
 
 less_one : (i : ℕ) → suc i - 1 ≡ i
 less_one i = omega arith
@@ -23,7 +26,7 @@ module _ (x j : ℕ) where
   row_starts zero h = refl
   row_starts (suc i) h = absurd (omega arith)
 
-  pub row_relu : (i : ℕ) → 1 ≤ i → i - 1 < 39 → part (Whole (order_with 9 res_slot y_slot 0)) (i - 1) 39 ≡ row_piece 32 x j i
+  pub row_relu : (i : ℕ) → 1 ≤ i → i - 1 < 39 → part (Parts.Relu y_slot res_slot) (i - 1) 39 ≡ row_piece 32 x j i
   unfolding row_piece
   row_relu zero h l = absurd (omega arith)
   row_relu (suc i) h l = rw (less_one i, relu_32, lt-ltb i 39 (omega arith))
@@ -39,7 +42,7 @@ module _ (x d : ℕ) where
   pub end_last : (i : ℕ) → last_part (Saturation x d) i 41 ≡ last_piece 32 x d i
   end_last i = rw saturation_32
 
-  pub end_exact : (mode i : ℕ) → mode ≡ 0 → i < 50 → part (Whole (order_with 8 acc_slot acc_slot 12)) i 50 ≡ end_piece 32 mode x d i
+  pub end_exact : (mode i : ℕ) → mode ≡ 0 → i < 50 → part (Parts.Exact 12 acc_slot acc_slot) i 50 ≡ end_piece 32 mode x d i
   unfolding end_piece
   end_exact zero i h l = rw (exact_32, lt-ltb i 50 l)
   end_exact (suc m) i h l = absurd (omega arith)
@@ -49,14 +52,14 @@ module _ (x d : ℕ) where
   after_exact zero i h l = rw (exact_32, le-ltb i 50 l)
   after_exact (suc m) i h l = absurd (omega arith)
 
-  pub end_refresh : (mode i : ℕ) → (mode ≡ 0 → ⊥) → i ≡ 0 → part (Whole (order_with 5 acc_slot acc_slot 0)) 0 1 ≡ end_piece 32 mode x d i
+  pub end_refresh : (mode i : ℕ) → (mode ≡ 0 → ⊥) → i ≡ 0 → part (One (order_with 5 acc_slot acc_slot 0)) 0 1 ≡ end_piece 32 mode x d i
   unfolding end_piece
   end_refresh zero i n h = absurd (n refl)
   end_refresh (suc m) zero n h = refl
   end_refresh (suc m) (suc i) n h = absurd (omega arith)
 
   pub end_one_bit : (mode i : ℕ) → (mode ≡ 0 → ⊥) → (i ≡ 0 → ⊥) → i - 1 < 13
-      → part (Whole (order_with 7 acc_slot acc_slot 12)) (i - 1) 13 ≡ end_piece 32 mode x d i
+      → part (Parts.OneBit 12 acc_slot acc_slot) (i - 1) 13 ≡ end_piece 32 mode x d i
   unfolding end_piece
   end_one_bit zero i n h l = absurd (n refl)
   end_one_bit (suc m) zero n h l = absurd (h refl)
@@ -90,31 +93,33 @@ module _ (n : ℕ) (o : Order) where
 
 -- ---- of any order, by its kind
 
--- the kinds below a curve, and those of one gate
-pub below_curve : (k : Kind) → (k ≡ Curve → ⊥) → kind_number k < 10
-below_curve Curve n = absurd (n refl)
-below_curve _ n = omega arith
-
-pub single : (k : Kind) → kind_number k < 10 → (k ≡ Slack → ⊥) → (k ≡ OneBit → ⊥) → (k ≡ Exact → ⊥) → (k ≡ Relu → ⊥)
+-- the kinds of one gate
+pub below_slack : (k : Kind) → (k ≡ Slack → ⊥) → (k ≡ OneBit → ⊥) → (k ≡ Exact → ⊥) → (k ≡ Relu → ⊥) → (k ≡ Curve → ⊥)
     → kind_number k < 6
-single Slack l s b e r = absurd (s refl)
-single OneBit l s b e r = absurd (b refl)
-single Exact l s b e r = absurd (e refl)
-single Relu l s b e r = absurd (r refl)
-single Curve l s b e r = absurd (omega (arith, l))
-single _ l s b e r = omega arith
+below_slack Slack s b e r c = absurd (s refl)
+below_slack OneBit s b e r c = absurd (b refl)
+below_slack Exact s b e r c = absurd (e refl)
+below_slack Relu s b e r c = absurd (r refl)
+below_slack Curve s b e r c = absurd (c refl)
+below_slack _ s b e r c = omega arith
 
 module _ (ps : List Row) (o : Order) (i : ℕ) where
-  module _ (k : Kind) (is : kind_number k ≡ o.kind) where
-    pub in_whole : (k ≡ Curve → ⊥) → (n : ℕ) → n ≡ length (program 32 ps o) → last_part (Whole o) i n ≡ piece_at 32 ps o i
-    unfolding piece_at
-    in_whole c n e = rw (e, lt-ltb o.kind 10 (omega (arith, is, below_curve k c)))
+  in_part : (q : Part) (n : ℕ) → o.kind < 10 → q ≡ whole o → n ≡ length (program 32 ps o) → last_part q i n ≡ piece_at 32 ps o i
+  unfolding piece_at
+  in_part q n h eq en = rw (eq, en, lt-ltb o.kind 10 h)
 
-    pub in_curve : k ≡ Curve → (n : ℕ) → length ps ≡ n → curve_piece 32 n o i ≡ piece_at 32 ps o i
-    unfolding piece_at
-    in_curve c n e =
-        let h : o.kind ≡ 10 = sym is ∙ ap kind_number c in
-        rw (← e, le-ltb o.kind 10 (omega (arith, h)), eq-eqb o.kind 10 h)
+  pub in_single : o.kind < 6 → last_part (One o) i 1 ≡ piece_at 32 ps o i
+  in_single h = in_part (One o) 1 (omega arith) (single 32 ps o h) (counted_one ps o (omega arith) h)
+
+  pub in_whole : (k : ℕ) → o.kind ≡ k → k < 10 → last_part (get_or (wholes o) k Nothing) i (get_or kind_gates k 0) ≡ piece_at 32 ps o i
+  unfolding whole
+  in_whole k e h =
+      in_part (get_or (wholes o) k Nothing) (get_or kind_gates k 0) (omega arith)
+      (ap (λ (j : ℕ). get_or (wholes o) j Nothing) (sym e)) (counted_at ps o (omega arith) k e)
+
+  pub in_curve : o.kind ≡ 10 → (n : ℕ) → length ps ≡ n → curve_piece 32 n o i ≡ piece_at 32 ps o i
+  unfolding piece_at
+  in_curve h n e = rw (← e, le-ltb o.kind 10 (omega arith), eq-eqb o.kind 10 h)
 
   pub in_none : 10 < o.kind → last_part Nothing i 0 ≡ piece_at 32 ps o i
   unfolding piece_at

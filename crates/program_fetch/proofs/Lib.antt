@@ -4,6 +4,6 @@ pub mod OneGate
 pub mod Rounds
 pub mod Indices
 pub mod Cuts
-pub mod Cases
 pub mod Stands
+pub mod Cases
 pub mod PieceSteps

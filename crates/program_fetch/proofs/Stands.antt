@@ -17,8 +17,8 @@ use Rattle.programs.proofs.Sizes.{one_bit_sized, exact_sized, relu_sized, sum_si
 use Rattle.programs.proofs.Sizes.{relu_32, saturation_sized, saturation_32}
 use Rattle.program_fetch.specs.declared.Piece.{Piece}
 use Rattle.program_fetch.specs.declared.Part.{Part}
-use Rattle.program_fetch.specs.declared.Part.TheVariants.{Whole, First, RowStart, RowEnd, Saturation, Nothing}
-use Rattle.program_fetch.specs.Pieces.{change, first_gates, row_start, row_end, part_gates, piece_gates, order_with, part}
+use Rattle.program_fetch.specs.declared.Part.TheVariants.{One, OneBit, Exact, Relu, First, RowStart, RowEnd, Saturation, Nothing}
+use Rattle.program_fetch.specs.Pieces.{change, first_gates, row_start, row_end, part_gates, piece_gates, order_with, wholes, whole, part}
 use Rattle.program_fetch.specs.Pieces.{last_part, row_piece, last_piece, end_piece, curve_piece, piece_at}
 use Rattle.program_fetch.proofs.Cuts.{Cut, at_first, behind, inside, left, row_first, row_relu, row_last, sum_row, sum_start}
 
@@ -106,10 +106,10 @@ module _ (w : ℕ) (ps : List Row) (o : Order) (h : o.kind ≡ 10) where
         (omega arith) (omega arith) refl (omega arith)
 
     relu_stands : (i : ℕ) → i < (relu_size w).gates → (relu_size w).gates ≤ 50
-        → Stands w ps o (1 + j * row_gates w + suc i) (part (Whole (order_with 9 res_slot y_slot 0)) i (relu_size w).gates)
+        → Stands w ps o (1 + j * row_gates w + suc i) (part (Relu y_slot res_slot) i (relu_size w).gates)
     unfolding part_gates kinds
     relu_stands i f m =
-        part_stands w ps o (1 + j * row_gates w + 1) (Whole (order_with 9 res_slot y_slot 0)) (1 + j * row_gates w + suc i) i (relu_size w).gates
+        part_stands w ps o (1 + j * row_gates w + 1) (Relu y_slot res_slot) (1 + j * row_gates w + suc i) i (relu_size w).gates
         (row_part 1 (relu_program w y_slot res_slot) (row_relu w o.source ps j))
         (omega arith) f (sym (ap (λ (z : Size). z.gates) (relu_sized w y_slot res_slot))) m
 
@@ -145,11 +145,11 @@ module _ (w : ℕ) (ps : List Row) (o : Order) (h : o.kind ≡ 10) where
       (sym (ap (λ (z : Size). z.gates) (saturation_sized w (last_count ps) o.source o.target))) m
 
   exact_stands : o.fourth ≡ 0 → (i : ℕ) → i < (exact_size w).gates → (exact_size w).gates ≤ 50
-      → Stands w ps o (1 + row_gates w * length ps + i) (part (Whole (order_with 8 acc_slot acc_slot 12)) i (exact_size w).gates)
+      → Stands w ps o (1 + row_gates w * length ps + i) (part (Exact 12 acc_slot acc_slot) i (exact_size w).gates)
   unfolding part_gates kinds truncation
   exact_stands z i f m =
       let t : List Gate = exact_program w 12 acc_slot acc_slot in
-      part_stands w ps o (length sum + 0) (Whole (order_with 8 acc_slot acc_slot 12)) (1 + row_gates w * length ps + i) i (exact_size w).gates
+      part_stands w ps o (length sum + 0) (Exact 12 acc_slot acc_slot) (1 + row_gates w * length ps + i) i (exact_size w).gates
       (subst (λ (l : List Gate). Cut l (length sum + 0) t)
       (sym (curve_is ∙ ap (λ (k : ℕ). sum ++ (truncation w k ++ steps)) z))
       (behind sum (t ++ steps) 0 t (at_first t steps)))
@@ -166,19 +166,19 @@ module _ (w : ℕ) (ps : List Row) (o : Order) (h : o.kind ≡ 10) where
     one_bit_is : program w ps o ≡ sum ++ (refresh ++ (one_bit ++ steps))
     one_bit_is = curve_is ∙ ap (λ (l : List Gate). sum ++ (l ++ steps)) (sym (refreshed w o.fourth n))
 
-    refresh_stands : Stands w ps o (1 + row_gates w * length ps + 0) (part (Whole (order_with 5 acc_slot acc_slot 0)) 0 1)
+    refresh_stands : Stands w ps o (1 + row_gates w * length ps + 0) (part (One (order_with 5 acc_slot acc_slot 0)) 0 1)
     unfolding part_gates kinds
     refresh_stands =
-        part_stands w ps o (length sum + 0) (Whole (order_with 5 acc_slot acc_slot 0)) (1 + row_gates w * length ps + 0) 0 1
+        part_stands w ps o (length sum + 0) (One (order_with 5 acc_slot acc_slot 0)) (1 + row_gates w * length ps + 0) 0 1
         (subst (λ (l : List Gate). Cut l (length sum + 0) refresh) (sym one_bit_is)
         (behind sum (refresh ++ (one_bit ++ steps)) 0 refresh (at_first refresh (one_bit ++ steps))))
         (omega (arith, sum_long)) (omega arith) refl (omega arith)
 
     one_bit_stands : (i : ℕ) → i < (one_bit_size w).gates
-        → Stands w ps o (1 + row_gates w * length ps + suc i) (part (Whole (order_with 7 acc_slot acc_slot 12)) i (one_bit_size w).gates)
+        → Stands w ps o (1 + row_gates w * length ps + suc i) (part (OneBit 12 acc_slot acc_slot) i (one_bit_size w).gates)
     unfolding part_gates kinds
     one_bit_stands i f =
-        part_stands w ps o (length sum + (1 + 0)) (Whole (order_with 7 acc_slot acc_slot 12)) (1 + row_gates w * length ps + suc i) i
+        part_stands w ps o (length sum + (1 + 0)) (OneBit 12 acc_slot acc_slot) (1 + row_gates w * length ps + suc i) i
         (one_bit_size w).gates
         (subst (λ (l : List Gate). Cut l (length sum + (1 + 0)) one_bit) (sym one_bit_is)
         (behind sum (refresh ++ (one_bit ++ steps)) (1 + 0) one_bit
@@ -250,21 +250,49 @@ module _ (w : ℕ) (ps : List Row) (o : Order) (h : o.kind ≡ 10) where
 
 -- ---- the other kinds
 module _ (w : ℕ) (ps : List Row) where
-  -- kinds 0 to 9: all of the program
-  pub whole : (o : Order) → o.kind < 10 → part_gates w ps (Whole o) ≡ program w ps o
-  unfolding part_gates program
-  whole o h = get_or-take 10 (kinds w ps o.target o.source o.fourth) o.kind [] h
-
   -- of a kind that does not look at the table
-  pub one_gated : (o : Order) → o.kind < 6 → part_gates w ps (Whole o) ≡ program w [] o
-  one_gated o h = whole o (omega arith) ∙ any_table w ps [] o (λ e. omega arith)
+  single_gates : (o : Order) → o.kind < 6 → part_gates w ps (One o) ≡ program w ps o
+  unfolding part_gates program
+  single_gates o h = get_or-take 6 (kinds w ps o.target o.source o.fourth) o.kind [] h
 
-  -- a kind above 9 is no kind of a whole piece
-  pub of_none : (o : Order) → 10 ≤ o.kind → (i : ℕ) → Past ≡ fetched (part_gates w ps (Whole o)) i
+  pub one_gated : (o : Order) → o.kind < 6 → part_gates w ps (One o) ≡ program w [] o
+  one_gated o h = single_gates o h ∙ any_table w ps [] o (λ e. omega arith)
+
+  pub none_gated : (o : Order) → 6 ≤ o.kind → (i : ℕ) → Past ≡ fetched (part_gates w ps (One o)) i
   unfolding part_gates kinds fetched
-  of_none o h i =
-      let ks = take 10 (kinds w ps o.target o.source o.fourth) in
+  none_gated o h i =
+      let ks = take 6 (kinds w ps o.target o.source o.fourth) in
       ap (λ (gs : List Gate). fetched gs i) (sym (get_or-eq_default ks [] h))
+
+  -- kinds 0 to 9: all of the program
+  pub single : (o : Order) → o.kind < 6 → One o ≡ whole o
+  unfolding whole
+  single o h = sym (get_or-replicate 6 o.kind (One o) Nothing h) ∙ get_or-take 6 (wholes o) o.kind Nothing h
+
+  behind_single : (o : Order) (j : ℕ) → j < 4 → part_gates w ps (get_or (wholes o) (suc (suc (suc (suc (suc (suc j)))))) Nothing)
+      ≡ get_or (kinds w ps o.target o.source o.fourth) (suc (suc (suc (suc (suc (suc j)))))) []
+  unfolding part_gates kinds
+  behind_single o zero h = refl
+  behind_single o (suc zero) h = refl
+  behind_single o (suc (suc zero)) h = refl
+  behind_single o (suc (suc (suc zero))) h = refl
+  behind_single o (suc (suc (suc (suc j)))) h = absurd (omega arith)
+
+  whole_gates : (o : Order) → o.kind < 10 → part_gates w ps (whole o) ≡ program w ps o
+  unfolding whole program
+  whole_gates o h = go (ltb o.kind 6) refl
+    where
+      go : (b : Bool) → ltb o.kind 6 ≡ b → part_gates w ps (whole o) ≡ program w ps o
+      go true e =
+          let m : o.kind < 6 = ltb-true o.kind 6 e in
+          ap (part_gates w ps) (sym (single o m)) ∙ single_gates o m
+      go false e =
+          let m : 6 ≤ o.kind = ltb-false o.kind 6 e in
+          let j : ℕ = o.kind - 6 in
+          let is : o.kind ≡ suc (suc (suc (suc (suc (suc j))))) = omega (arith, m) in
+          ap (λ (k : ℕ). part_gates w ps (get_or (wholes o) k Nothing)) is
+          ∙ behind_single o j (omega (arith, m, h))
+          ∙ ap (λ (k : ℕ). get_or (kinds w ps o.target o.source o.fourth) k []) (sym is)
 
   none_stands : (o : Order) (i : ℕ) → 10 < o.kind → Stands w ps o i (last_part Nothing i 0)
   unfolding part_gates kinds program
@@ -274,7 +302,7 @@ module _ (w : ℕ) (ps : List Row) where
 
 -- ---- the numbers of gates of kinds 0 to 9, at 32
 
-abbrev kind_gates : List ℕ
+abbrev pub kind_gates : List ℕ
 kind_gates = replicate 6 1 ++ (3 ∷ 13 ∷ 50 ∷ 39 ∷ [])
 
 lengths : (ps : List Row) (d a c : ℕ) → map length (take 10 (kinds 32 ps d a c)) ≡ kind_gates
@@ -307,14 +335,14 @@ each_at b [] h k = omega arith
 each_at b (n ∷ l) h zero = leb→le n b h.0
 each_at b (n ∷ l) h (suc k) = each_at b l h.1 k
 
-whole_stands : (ps : List Row) (o : Order) (i : ℕ) → o.kind < 10 → Stands 32 ps o i (last_part (Whole o) i (length (program 32 ps o)))
+whole_stands : (ps : List Row) (o : Order) (i : ℕ) → o.kind < 10 → Stands 32 ps o i (last_part (whole o) i (length (program 32 ps o)))
 whole_stands ps o i h =
     let n = length (program 32 ps o) in
-    let all : part_gates 32 ps (Whole o) ≡ program 32 ps o = whole 32 ps o h in
+    let all : part_gates 32 ps (whole o) ≡ program 32 ps o = whole_gates 32 ps o h in
     let m : get_or kind_gates o.kind 0 ≤ 50 =
     each_at 50 kind_gates (tt, (tt, (tt, (tt, (tt, (tt, (tt, (tt, (tt, (tt, tt)))))))))) o.kind
     in
-    last_stands 32 ps o [] (Whole o) i i n (sym all) (omega arith) (ap length (sym all)) (omega (arith, m, counted ps o h))
+    last_stands 32 ps o [] (whole o) i i n (sym all) (omega arith) (ap length (sym all)) (omega (arith, m, counted ps o h))
 
 -- ---- the piece of a gate stands where the gate does
 

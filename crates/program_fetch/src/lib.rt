@@ -13,17 +13,45 @@ mod pieces;
 pub use pieces::{gate_at, piece_at};
 
 // What a piece of an order's program is: all the gates of an order of kinds 0 to 9, of which a row's ReLU and a curve's
-// truncation are too, or a part that a curve alone has.
+// truncation are too, or a part that a curve alone has. One `match` tells all of them apart at a gate.
 #[derive(Clone, Copy)]
 pub enum Part {
-    Whole(Order),
+    // kinds 0 to 5, of one gate
+    One(Order),
+    Slack {
+        shift: u32,
+        source: u32,
+        target: u32,
+    },
+    OneBit {
+        shift: u32,
+        source: u32,
+        target: u32,
+    },
+    Exact {
+        shift: u32,
+        source: u32,
+        target: u32,
+    },
+    Relu {
+        source: u32,
+        target: u32,
+    },
     // a curve's first gate
     First,
     // what a row of the table has before its ReLU and after it
-    RowStart { source: u32, row: usize },
-    RowEnd { row: usize },
+    RowStart {
+        source: u32,
+        row: usize,
+    },
+    RowEnd {
+        row: usize,
+    },
     // R-1's last steps
-    Saturation { source: u32, target: u32 },
+    Saturation {
+        source: u32,
+        target: u32,
+    },
     // no gates, as of an order of no kind
     Nothing,
 }

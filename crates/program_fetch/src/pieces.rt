@@ -1,13 +1,9 @@
 // The piece of an order's program in which a gate stands, and the gates of a piece.
-ghost use Rattle.std.specs.Prelude.{◌≡◌, ◌<◌, List, length};
+ghost use Rattle.std.specs.Prelude.{◌≡◌, List};
 ghost use Rattle.gates.specs.Codes.{fetched, read};
 ghost use Rattle.tables.specs.Table.{Row, rows};
-ghost use Rattle.programs.specs.declared.Order.{Order};
-ghost use Rattle.programs.specs.Kinds.{kind_number};
-ghost use Rattle.programs.specs.Programs.{acc_slot};
-ghost use Rattle.programs.specs.Orders.{program};
-ghost use Rattle.program_fetch.specs.declared.Part.TheVariants.{Whole};
-ghost use Rattle.program_fetch.specs.Pieces.{order_with, part, last_part, row_piece, last_piece, end_piece};
+ghost use Rattle.program_fetch.specs.declared.Part.TheVariants.{One};
+ghost use Rattle.program_fetch.specs.Pieces.{part, last_part, row_piece, last_piece, end_piece};
 ghost use Rattle.program_fetch.specs.Pieces.{curve_piece, piece_at, part_gates, piece_gates};
 
 use crate::codes::past;
@@ -23,17 +19,25 @@ use programs::{
 // The shift of a curve's truncation.
 const CURVE_SHIFT: u32 = 12;
 
-// All the gates of an order of this kind.
-fn whole(kind: Kind, target: u32, source: u32, fourth: u32) -> Part
-    ensures { result ≡ Whole (order_with (kind_number kind) target source fourth) }
-{
-    Part::Whole(Order {
-        kind: kind as u32,
-        target,
-        source,
-        fourth,
-    })
-}
+// A curve's truncations, which leave their value in the sum's own slot, and the refresh before the one-bit one.
+const EXACT: Part = Part::Exact {
+    shift: CURVE_SHIFT,
+    source: ACC_SLOT,
+    target: ACC_SLOT,
+};
+
+const ONE_BIT: Part = Part::OneBit {
+    shift: CURVE_SHIFT,
+    source: ACC_SLOT,
+    target: ACC_SLOT,
+};
+
+const REFRESH: Order = Order {
+    kind: Kind::Refresh as u32,
+    target: ACC_SLOT,
+    source: ACC_SLOT,
+    fourth: 0,
+};
 
 // A piece that others follow.
 fn part(what: Part, from: usize, end: usize) -> Piece
@@ -68,16 +72,16 @@ fn row_piece(source: u32, row: usize, i: usize) -> Piece
     }
     let rest = i - ROW_HEAD;
     if rest < RELU_GATES {
-        return part(whole(Kind::Relu, RES_SLOT, Y_SLOT, 0), rest, RELU_GATES);
+        return part(
+            Part::Relu {
+                source: Y_SLOT,
+                target: RES_SLOT,
+            },
+            rest,
+            RELU_GATES,
+        );
     }
     part(Part::RowEnd { row }, rest - RELU_GATES, ROW_TAIL)
-}
-
-// A curve's truncation of this kind, which leaves its value in the sum's own slot.
-fn truncation_part(kind: Kind, from: usize, end: usize) -> Piece
-    ensures { result ≡ part (Whole (order_with (kind_number kind) acc_slot acc_slot 12)) from end }
-{
-    part(whole(kind, ACC_SLOT, ACC_SLOT, CURVE_SHIFT), from, end)
 }
 
 // R-1's last steps, which go from the source to the target.
@@ -94,16 +98,16 @@ fn end_piece(mode: u32, source: u32, target: u32, i: usize) -> Piece
 {
     if mode == 0 {
         if i < EXACT_GATES {
-            return truncation_part(Kind::Exact, i, EXACT_GATES);
+            return part(EXACT, i, EXACT_GATES);
         }
         return last_piece(source, target, i - EXACT_GATES);
     }
     if i == 0 {
-        return part(whole(Kind::Refresh, ACC_SLOT, ACC_SLOT, 0), 0, 1);
+        return part(Part::One(REFRESH), 0, 1);
     }
     let rest = i - 1;
     if rest < ONE_BIT_GATES {
-        return truncation_part(Kind::OneBit, rest, ONE_BIT_GATES);
+        return part(ONE_BIT, rest, ONE_BIT_GATES);
     }
     last_piece(source, target, rest - ONE_BIT_GATES)
 }
@@ -123,20 +127,6 @@ fn curve_piece(o: Order, count: usize, i: usize) -> Piece
     end_piece(o.fourth, o.source, o.target, i - 1 - ROW_GATES * count)
 }
 
-// The number of gates of an order of kinds 0 to 9.
-fn gate_count(kind: Kind) -> usize
-    requires { kind_number kind < 10 }
-    ensures { (ps : List Row) (o : Order) → kind_number kind ≡ o.kind → result ≡ length (program 32 ps o) }
-{
-    match kind {
-        Kind::Slack => SLACK_GATES,
-        Kind::OneBit => ONE_BIT_GATES,
-        Kind::Exact => EXACT_GATES,
-        Kind::Relu => RELU_GATES,
-        _ => 1,
-    }
-}
-
 // The piece in which the gate at index i of an order's program stands. Nothing is asked of the order or of the table:
 // a kind above 10 has no gates.
 pub fn piece_at(o: Order, table: &[u32], i: usize) -> Piece
@@ -145,28 +135,48 @@ pub fn piece_at(o: Order, table: &[u32], i: usize) -> Piece
     let Ok(kind) = Kind::try_from(o.kind) else {
         return last_part(Part::Nothing, i, 0);
     };
+    let source = o.source;
+    let target = o.target;
+    let shift = o.fourth;
     match kind {
+        Kind::Slack => {
+            let slack = Part::Slack {
+                shift,
+                source,
+                target,
+            };
+            last_part(slack, i, SLACK_GATES)
+        }
+        Kind::OneBit => {
+            let one_bit = Part::OneBit {
+                shift,
+                source,
+                target,
+            };
+            last_part(one_bit, i, ONE_BIT_GATES)
+        }
+        Kind::Exact => {
+            let exact = Part::Exact {
+                shift,
+                source,
+                target,
+            };
+            last_part(exact, i, EXACT_GATES)
+        }
+        Kind::Relu => last_part(Part::Relu { source, target }, i, RELU_GATES),
         Kind::Curve => curve_piece(o, table.len() / 2, i),
-        _ => last_part(Part::Whole(o), i, gate_count(kind)),
+        _ => last_part(Part::One(o), i, 1),
     }
 }
 
-// The gate at an index of an order of kinds 0 to 9, and no gate for any other.
-#[tactic(auto, unfolding(crate::specs::Pieces::part_gates, programs::specs::Orders::kinds))]
-fn whole_gate(o: Order, i: usize) -> GateCode
-    ensures { (ps : List Row) → read result ≡ fetched (part_gates 32 ps (Whole o)) i }
+// The gate of an order of kinds 0 to 5, and no gate for any other.
+fn single_gate(o: Order, i: usize) -> GateCode
+    ensures { (ps : List Row) → read result ≡ fetched (part_gates 32 ps (One o)) i }
 {
-    let Ok(kind) = Kind::try_from(o.kind) else {
-        return past();
-    };
-    match kind {
-        Kind::Slack => slack_gate(o.fourth, o.source, o.target, i),
-        Kind::OneBit => one_bit_gate(o.fourth, o.source, o.target, i),
-        Kind::Exact => exact_gate(o.fourth, o.source, o.target, i),
-        Kind::Relu => relu_gate(o.source, o.target, i),
-        Kind::Curve => past(),
-        _ => one_gate(o, i),
+    if o.kind < Kind::Slack as u32 {
+        return one_gate(o, i);
     }
+    past()
 }
 
 // The gate at an index of a piece, and no gate past its end.
@@ -175,7 +185,23 @@ pub fn gate_at(p: Piece, table: &[u32], i: usize) -> GateCode
     ensures { read result ≡ fetched (piece_gates 32 (rows table.now) p) i }
 {
     match p.part {
-        Part::Whole(o) => whole_gate(o, i),
+        Part::One(o) => single_gate(o, i),
+        Part::Slack {
+            shift,
+            source,
+            target,
+        } => slack_gate(shift, source, target, i),
+        Part::OneBit {
+            shift,
+            source,
+            target,
+        } => one_bit_gate(shift, source, target, i),
+        Part::Exact {
+            shift,
+            source,
+            target,
+        } => exact_gate(shift, source, target, i),
+        Part::Relu { source, target } => relu_gate(source, target, i),
         Part::First => first_gate(table, i),
         Part::RowStart { source, row } => row_start_gate(source, table, row, i),
         Part::RowEnd { row } => row_end_gate(table, row, i),

@@ -1,13 +1,11 @@
-use Rattle.std.proofs.Common.{ap, ◌∙◌}
-use Rattle.program_fetch.specs.declared.Part.{Part}
-use Rattle.program_fetch.specs.Pieces.{part}
+use Rattle.std.proofs.Common.{◌∙◌}
 use Rattle.program_fetch.proofs.Cases.{end_exact, after_exact, end_refresh, end_one_bit, after_one_bit}
 use Rattle.program_fetch.proofs.pieces.end_piece.Goals as goal
 
 pub returns-then-i-lt-EXACT_GATES : goal.returns-then-i-lt-EXACT_GATES
 returns-then-i-lt-EXACT_GATES c =
     let a = c.args in
-    c.truncation_part.ensures ∙ end_exact a.source a.target a.mode a.i c.if-mode-eq0.true c.if-i-lt-EXACT_GATES.true
+    c.part.ensures ∙ end_exact a.source a.target a.mode a.i c.if-mode-eq0.true c.if-i-lt-EXACT_GATES.true
 
 pub returns-then-mode-eq0 : goal.returns-then-mode-eq0
 returns-then-mode-eq0 c =
@@ -17,13 +15,12 @@ returns-then-mode-eq0 c =
 pub returns-then-i-eq0 : goal.returns-then-i-eq0
 returns-then-i-eq0 c =
     let a = c.args in
-    c.part.ensures ∙ ap (λ (q : Part). part q 0 1) c.whole.ensures
-    ∙ end_refresh a.source a.target a.mode a.i c.if-mode-eq0.false c.if-i-eq0.true
+    c.part-then-i-eq0.ensures ∙ end_refresh a.source a.target a.mode a.i c.if-mode-eq0.false c.if-i-eq0.true
 
 pub returns-then-rest-lt-ONE_BIT_GATES : goal.returns-then-rest-lt-ONE_BIT_GATES
 returns-then-rest-lt-ONE_BIT_GATES c =
     let a = c.args in
-    c.truncation_part-then-rest-lt-ONE_BIT_GATES.ensures
+    c.part-then-rest-lt-ONE_BIT_GATES.ensures
     ∙ end_one_bit a.source a.target a.mode a.i c.if-mode-eq0.false c.if-i-eq0.false c.if-rest-lt-ONE_BIT_GATES.true
 
 pub returns : goal.returns
