@@ -9,8 +9,8 @@ use crate::codes::{on_slots, past, with_constant, with_part};
 use gates::{GateCode, Op};
 use programs::{
     EXACT_HEAD, EXACT_LAST, EXACT_LOW, EXACT_LOW_NUMBER, EXACT_SCALE, EXACT_SUB, EXACT_SUM,
-    EXACT_TOP, EXACT_TOP_NUMBER, G_SLOT, N_SLOT, Order, P_SLOT, RELU_LAST, RELU_ONE, RELU_SUB,
-    RES_SLOT, S_SLOT, T_SLOT, WIDTH, Y_SLOT,
+    EXACT_TOP, EXACT_TOP_NUMBER, G_SLOT, Kind, N_SLOT, Order, P_SLOT, RELU_LAST, RELU_ONE,
+    RELU_SUB, RES_SLOT, S_SLOT, T_SLOT, WIDTH, Y_SLOT,
 };
 use words::rings::{Arithmetic, Numbers};
 
@@ -36,7 +36,17 @@ fn full_power(k: u32) -> u32
 
 // ---- the programs
 
-// Kinds 0 to 5: a program of one gate.
+const ADD: u32 = Kind::Add as u32;
+
+const SUBTRACT: u32 = Kind::Subtract as u32;
+
+const ADD_CONSTANT: u32 = Kind::AddConstant as u32;
+
+const TIMES_CONSTANT: u32 = Kind::TimesConstant as u32;
+
+const PRODUCT: u32 = Kind::Product as u32;
+
+// Kinds 0 to 5: a program of one gate. The last of them is the refresh.
 pub(crate) fn one_gate(o: Order, i: usize) -> GateCode
     requires { o.kind < 6 }
     ensures { read result ≡ fetched (program 32 [] o) i }
@@ -49,11 +59,11 @@ pub(crate) fn one_gate(o: Order, i: usize) -> GateCode
     let a = o.source;
     let c = o.fourth;
     match kind {
-        0 => on_slots(Op::Add, d, a, c),
-        1 => on_slots(Op::Sub, d, a, c),
-        2 => with_constant(Op::Plus, d, a, c),
-        3 => with_constant(Op::Scale, d, a, c),
-        4 => on_slots(Op::Mul, d, a, c),
+        ADD => on_slots(Op::Add, d, a, c),
+        SUBTRACT => on_slots(Op::Sub, d, a, c),
+        ADD_CONSTANT => with_constant(Op::Plus, d, a, c),
+        TIMES_CONSTANT => with_constant(Op::Scale, d, a, c),
+        PRODUCT => on_slots(Op::Mul, d, a, c),
         _ => on_slots(Op::Refresh, d, a, 0),
     }
 }
