@@ -67,16 +67,15 @@ fn begin(
     a: &[u32],
     b: &[u32],
     deals: &mut [u32],
-    m: [u32; 16],
-    l1: [u32; 16],
-    l2: [u32; 16],
+    registers: Shared,
 ) -> Result<Trio, Refused>
     ensures deals_after { trio_of result deals.new
         ≡ begun (job_script 32 job.now table.now) a.now b.now
-        (m, l1, l2)
+        (shared registers)
         deals.old }
-    ensures full { Full 16 (m, l1, l2) }
+    ensures full { Full 16 (shared registers) }
 {
+    let Shared { m, l1, l2 } = registers;
     let prepared = match prepare(job, table, a, b, deals, Masks { l1, l2 }) {
         Ok(prepared) => prepared,
         Err(refused) => {
@@ -133,10 +132,7 @@ pub fn run(
         (shared registers)
         deals.old }
 {
-    let m = registers.m;
-    let l1 = registers.l1;
-    let l2 = registers.l2;
-    let mut s = begin(job, table, a, b, deals, m, l1, l2)?;
+    let mut s = begin(job, table, a, b, deals, registers)?;
     let orders = (job.len() / 4) as u32;
     while s.one.state.order < orders {
         s = exchange(job, table, a, b, deals, s);
