@@ -11,6 +11,7 @@ use job_check::survey;
 use jobs::{Condition, Counts, Refusal};
 
 // What a host needs of a job's counts: host 1 its words of A, host 2 its words of B and its deals, host 0 all three.
+// The host is the number that a call names, whatever it is: number 1 refuses others.
 pub(crate) fn needs_of(host: u32, whole: Counts) -> Counts
     ensures { counted result ≡ needs_of host (counted whole) }
 {

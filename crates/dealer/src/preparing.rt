@@ -74,7 +74,7 @@ fn deal_piece(
 }
 
 // The orders of a job, from its first to its last: an addition or subtraction at once (R-2), the others piece by piece.
-// No count runs over these turns: an order has one turn or several.
+// No count runs over this: an order is gone through at once or in several pieces.
 pub(crate) fn deal_job(
     job: &[u32],
     table: &[u32],

@@ -1,4 +1,5 @@
-// The kinds of orders (document 01, "Orders"), and what one costs.
+// The kinds of orders (document 01, "Orders"), and what one costs: of this program's own, which the engine is held
+// against.
 use std::fmt;
 
 // How a curve shifts its sum down at the end.

@@ -22,7 +22,7 @@ fn mask_word(g: GateCode, v: u32, l: &[u32; 24]) -> Option<u32>
         Op::Add => Some(x.wrapping_add(at(l, g.b))),
         Op::Sub => Some(x.wrapping_sub(at(l, g.b))),
         Op::Xor => Some(x ^ at(l, g.b)),
-        Op::Scale => Some(x.wrapping_mul(g.n)),
+        Op::Scale => Some(words::wrapping_mul(x, g.n)),
         Op::Plus => Some(x),
         Op::Up => Some(shift_up(x, g.n)),
         Op::Bit => Some(bit_of(x, g.n)),

@@ -41,7 +41,7 @@ impl Condition {
     }
 }
 
-// The condition, and the order's index: 0 except for 3 to 5.
+// The condition, and the order's index: 0 except for 3 to 5. Document 01 gives an index with every number.
 #[derive(Clone, Copy, Debug, PartialEq, Eq)]
 pub struct Refusal {
     pub condition: Condition,

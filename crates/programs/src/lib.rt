@@ -7,7 +7,8 @@ mod kind;
 pub use kind::{Kind, UnknownKind};
 
 // An order's four words (document 01: kind, target, first source, fourth word): numbers, since a job is lent and
-// `piece_at`, `seek` and `order_fault` answer on every one. The code tells kinds apart by `Kind`.
+// `piece_at`, `seek` and `order_fault` answer on every one. Where the code tells kinds apart,
+// it names them by `Kind`.
 #[derive(Clone, Copy)]
 pub struct Order {
     pub kind: u32,

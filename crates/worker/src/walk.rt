@@ -71,7 +71,8 @@ impl Reach {
     }
 }
 
-// Behind a gate that exchanges nothing and uses so much more: no word of B, unlike host 0's `behind`.
+// Behind a gate that exchanges nothing and uses so much more: no word of B. Host 0's `behind` asks a bound on B too,
+// and one function for both would be public with a `requires`.
 fn past(used: Used, more: Used) -> Used
     requires { (more.a ≤ 2) × (more.deals ≤ 1) × (used.a < 2 ^ 62) × (used.deals < 2 ^ 62) }
     ensures { (result.a ≡ used.a + more.a) × (result.b ≡ used.b) × (result.deals ≡ used.deals + more.deals) }
@@ -144,7 +145,7 @@ fn walk_piece(host: &Worker<'_>, p: Piece, table: &[u32], used: Used, lanes: &mu
 }
 
 // From a place of an accepted job, at a gate of its order, to the next product or refresh, or to the end, on the lanes
-// in place: the halt there. The walk moves on by orders and by pieces of an order, so no count runs over its turns.
+// in place: the halt there. The walk moves on by orders and by pieces of an order, so no count runs over it.
 pub(crate) fn advance(
     host: &Worker<'_>,
     job: Job<'_>,
