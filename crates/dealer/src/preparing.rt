@@ -141,9 +141,11 @@ pub fn prepare(
         b: 0,
         deals: 0,
     };
-    deal_job(job, table, Lists { a, b }, none, &mut lanes, deals);
+    let used = deal_job(job, table, Lists { a, b }, none, &mut lanes, deals);
+    // as many as the check counted, so they fit a word
+    prove!(used.deals == counts.deals as usize);
     Ok(Prepared {
-        deals: counts.deals,
+        deals: used.deals as u32,
         masks: registers(lanes),
     })
 }

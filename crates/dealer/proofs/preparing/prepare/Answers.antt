@@ -1,10 +1,8 @@
 use mathlib.Core.Path.{sym, ap, ◌∙◌}
-use Prim.Native.Nat.{ℕ}
 use Rattle.gates.specs.Costs.{Cost}
 use Rattle.jobs.specs.Job.{Fault, job_cost}
 use Rattle.jobs.proofs.Refusals.{numbered}
 use Rattle.calls.specs.Scripts.{job_script}
-use Rattle.calls.specs.Calls.{Prepared}
 use Rattle.calls.proofs.Lists.{given_registers}
 use Rattle.walks.proofs.Prepared.{room_outset, refused, dealt_count, finished}
 use borrow.Author.Rules.{rules}
@@ -16,21 +14,27 @@ returns-in-Err c =
     refused (job_script 32 s.job.now s.table.now) s.a.now s.b.now s.deals.now (s.masks.l1, s.masks.l2) _ _
     c.in-Err.ensures.fault (numbered c.in-Err.refusal.condition)
 
-pub deal_job-requires : goal.deal_job-requires
-deal_job-requires c =
+pub deal_job-used-requires : goal.deal_job-used-requires
+deal_job-used-requires c =
     let s = c.args in
     room_outset (job_script 32 s.job.now s.table.now) s.a.now s.b.now s.deals.now _ _
     (sym (ap (λ (f : Fault). f.0) c.in-Ok.ensures.fault))
 
-pub returns : goal.returns
+pub prove-unreachable-requires : goal.prove-unreachable-requires
 unfolding job_cost
+prove-unreachable-requires c =
+    let s = c.args in
+    let e = sym (ap (λ (f : Fault). f.0) c.in-Ok.ensures.fault) in
+    let n = dealt_count (job_script 32 s.job.now s.table.now) s.a.now s.b.now s.deals.now (s.masks.l1, s.masks.l2)
+    _ _ _ e (c.copy_front.ensures ∙ given_registers s.masks.l1 (search rules))
+    (c.copy_front-2.ensures ∙ given_registers s.masks.l2 (search rules)) c.deal_job-used.ensures in
+    c.if-prove.true (n ∙ sym (ap (λ (k : Cost). k.deals) c.in-Ok.ensures.counts))
+
+pub returns : goal.returns
 returns c =
     let s = c.args in
     let e = sym (ap (λ (f : Fault). f.0) c.in-Ok.ensures.fault) in
-    let m₁ = c.copy_front.ensures ∙ given_registers s.masks.l1 (search rules) in
-    let m₂ = c.copy_front-2.ensures ∙ given_registers s.masks.l2 (search rules) in
-    let n = dealt_count (job_script 32 s.job.now s.table.now) s.a.now s.b.now s.deals.now (s.masks.l1, s.masks.l2)
-    _ _ _ e m₁ m₂ c.deal_job.ensures in
-    ap {B = Prepared} (λ (k : ℕ). record { number = 0; index = 0; deals = k; masks = (c.registers.result.l1, c.registers.result.l2); buffer = c.deal_job.new.deals }) (ap (λ (k : Cost). k.deals) c.in-Ok.ensures.counts ∙ sym n)
-    ∙ finished (job_script 32 s.job.now s.table.now) s.a.now s.b.now s.deals.now (s.masks.l1, s.masks.l2)
-    _ _ _ e m₁ m₂ c.deal_job.ensures _ _ c.registers.ensures.0 c.registers.ensures.1
+    finished (job_script 32 s.job.now s.table.now) s.a.now s.b.now s.deals.now (s.masks.l1, s.masks.l2)
+    _ _ _ e (c.copy_front.ensures ∙ given_registers s.masks.l1 (search rules))
+    (c.copy_front-2.ensures ∙ given_registers s.masks.l2 (search rules))
+    c.deal_job-used.ensures _ _ c.registers.ensures.0 c.registers.ensures.1
