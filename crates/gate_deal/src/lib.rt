@@ -42,7 +42,7 @@ pub fn deal_word(g: GateCode, x: u32, l1: &[u32; 24], l2: &[u32; 24]) -> u32
 {
     let a1 = at(l1, g.a);
     let a2 = at(l2, g.a);
-    match g.op {
+    match Op::from(g.op) {
         Op::DealSum => second_mask::<Numbers>(field(Numbers::plus(a1, a2), g.n, g.b), x),
         Op::DealNegated => second_mask::<Numbers>(field(negated_sum(a1, a2), g.n, g.b), x),
         Op::DealSigned => second_mask::<Numbers>(signed_floor(negated_sum(a1, a2), g.n), x),

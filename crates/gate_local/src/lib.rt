@@ -18,7 +18,7 @@ fn mask_word(g: GateCode, v: u32, l: &[u32; 24]) -> Option<u32>
         (λ w. slice_set l.now g.d w ≡ on_mask (step_of 32 g) v l.now) }
 {
     let x = at(l, g.a);
-    match g.op {
+    match Op::from(g.op) {
         Op::Add => Some(x.wrapping_add(at(l, g.b))),
         Op::Sub => Some(x.wrapping_sub(at(l, g.b))),
         Op::Xor => Some(x ^ at(l, g.b)),
@@ -39,7 +39,7 @@ fn m_word(g: GateCode, m: &[u32; 24]) -> Option<u32>
         (m.now ≡ on_m (step_of 32 g) m.now)
         (λ w. slice_set m.now g.d w ≡ on_m (step_of 32 g) m.now) }
 {
-    match g.op {
+    match Op::from(g.op) {
         Op::Plus => Some(at(m, g.a).wrapping_add(g.n)),
         Op::Const => Some(g.n),
         Op::Public => Some(field(at(m, g.a), g.n, g.b)),

@@ -15,13 +15,23 @@ pub fn shape_of(g: GateCode) -> Shape
     ensures { result ≡ shape (step_of 32 g) }
 {
     let d = g.d;
-    match g.op {
+    match Op::from(g.op) {
+        Op::Add
+        | Op::Sub
+        | Op::Xor
+        | Op::Scale
+        | Op::Plus
+        | Op::Up
+        | Op::Bit
+        | Op::Const
+        | Op::Public
+        | Op::PublicSigned => Shape::Local,
         Op::DealSum | Op::DealNegated | Op::DealSigned | Op::DealXor | Op::DealBits => {
             Shape::Dealing { d }
         }
         Op::Mul | Op::And => Shape::Product { d },
         Op::Refresh | Op::MulKnown | Op::AndKnown => Shape::Undealt { d },
-        _ => Shape::Local,
+        Op::Past => Shape::Local,
     }
 }
 

@@ -67,7 +67,7 @@ pub fn word1(g: GateCode, m: &[u32; 24], l: &[u32; 24], g1: u32, l1: u32) -> u32
 {
     let a = g.a;
     let b = g.b;
-    match g.op {
+    match Op::from(g.op) {
         Op::Mul => product_word1::<Numbers>(at(m, a), at(m, b), at(l, a), at(l, b), g1, l1),
         Op::And => product_word1::<Bits>(at(m, a), at(m, b), at(l, a), at(l, b), g1, l1),
         Op::Refresh => refresh_word1::<Numbers>(at(m, a), at(l, a), l1),
@@ -83,7 +83,7 @@ pub fn word2(g: GateCode, m: &[u32; 24], l: &[u32; 24], g2: u32, l2: u32) -> u32
 {
     let a = g.a;
     let b = g.b;
-    match g.op {
+    match Op::from(g.op) {
         Op::Mul => product_word2::<Numbers>(at(m, a), at(m, b), at(l, a), at(l, b), g2, l2),
         Op::And => product_word2::<Bits>(at(m, a), at(m, b), at(l, a), at(l, b), g2, l2),
         Op::Refresh => refresh_word2::<Numbers>(at(l, a), l2),
@@ -97,7 +97,7 @@ pub fn word2(g: GateCode, m: &[u32; 24], l: &[u32; 24], g2: u32, l2: u32) -> u32
 pub fn met_word(g: GateCode, u: u32, v: u32) -> u32
     ensures { result ≡ met (step_of 32 g) u v }
 {
-    match g.op {
+    match Op::from(g.op) {
         Op::Mul => Numbers::plus(u, v),
         Op::And => Bits::plus(u, v),
         Op::Refresh => Numbers::plus(u, v),

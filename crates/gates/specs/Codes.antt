@@ -1,5 +1,5 @@
--- The gate that the code's operation and operands stand for, and the gate at an index of a list. Assumes nothing.
-use Rattle.std.specs.Prelude.{List, [], ◌∷◌, ℕ, zero, suc}
+-- The gate that the code's five numbers stand for, and the gate at an index of a list. Assumes nothing.
+use Rattle.std.specs.Prelude.{List, [], ◌∷◌, ℕ, zero, suc, get_or}
 use Rattle.gates.specs.declared.GateCode.{GateCode}
 use Rattle.gates.specs.declared.Op.{Op}
 use Rattle.gates.specs.Gates.{Field, Signed, OfSum, OfNegated, OfBits, Gate, Add, Sub, Xor, Mul, And, Refresh}
@@ -16,6 +16,18 @@ unfoldable pub fetched : List Gate → ℕ → Fetched
 fetched [] i = Past
 fetched (g ∷ gs) zero = At g
 fetched (g ∷ gs) (suc i) = fetched gs i
+
+-- the operations in the order of their numbers: first those that each host does alone, then the deals, then the
+-- exchanges, those with a deal first
+abbrev pub operations : List Op
+operations =
+    Op.Add ∷ Op.Sub ∷ Op.Xor ∷ Op.Scale ∷ Op.Plus ∷ Op.Up ∷ Op.Bit ∷ Op.Const ∷ Op.Public ∷ Op.PublicSigned
+    ∷ Op.DealSum ∷ Op.DealNegated ∷ Op.DealSigned ∷ Op.DealXor ∷ Op.DealBits
+    ∷ Op.Mul ∷ Op.And ∷ Op.Refresh ∷ Op.MulKnown ∷ Op.AndKnown ∷ []
+
+-- the operation of a number; every number past the last one is no gate's
+unfoldable pub op_of : ℕ → Op
+op_of n = get_or operations n Op.Past
 
 -- the gate of an operation with these operands, or none
 unfoldable pub gate_with : Op → (d a b n : ℕ) → Fetched
@@ -41,9 +53,18 @@ gate_with Op.MulKnown d a b n = At (MulKnown d a b)
 gate_with Op.AndKnown d a b n = At (AndKnown d a b)
 gate_with Op.Past d a b n = Past
 
--- the gate that a code stands for; none where its operation is past the last one
+-- the gates with these operands, in the order of the operations' numbers
+unfoldable pub gates_with : (d a b n : ℕ) → List Gate
+gates_with d a b n =
+    Add d a b ∷ Sub d a b ∷ Xor d a b ∷ Scale d a n ∷ Plus d a n ∷ Up d a n ∷ Bit d a n ∷ Const d n
+    ∷ Public d a (Field n b) ∷ Public d a (Signed n)
+    ∷ Deal d a (OfSum (Field n b)) ∷ Deal d a (OfNegated (Field n b)) ∷ Deal d a (OfNegated (Signed n))
+    ∷ Deal d a OfBits ∷ DealBits d a
+    ∷ Mul d a b ∷ And d a b ∷ Refresh d a ∷ MulKnown d a b ∷ AndKnown d a b ∷ []
+
+-- the gate that a code stands for: that of its number among those with its operands, or none (`read_by_number`)
 unfoldable pub read : GateCode → Fetched
-read c = gate_with c.op c.d c.a c.b c.n
+read c = gate_with (op_of c.op) c.d c.a c.b c.n
 
 -- the step of a gate, and the end of its order past the last one
 unfoldable pub fetched_step : ℕ → Fetched → Step

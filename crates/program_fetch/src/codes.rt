@@ -8,14 +8,26 @@ use gates::{GateCode, Op};
 pub(crate) fn on_slots(op: Op, d: u32, a: u32, b: u32) -> GateCode
     ensures { read result ≡ gate_with op d a b 0 }
 {
-    GateCode { op, d, a, b, n: 0 }
+    GateCode {
+        op: op as u32,
+        d,
+        a,
+        b,
+        n: 0,
+    }
 }
 
 // An operation on a slot with a constant.
 pub(crate) fn with_constant(op: Op, d: u32, a: u32, n: u32) -> GateCode
     ensures { read result ≡ gate_with op d a 0 n }
 {
-    GateCode { op, d, a, b: 0, n }
+    GateCode {
+        op: op as u32,
+        d,
+        a,
+        b: 0,
+        n,
+    }
 }
 
 // An operation on j bits of a slot, from bit k on.
@@ -23,7 +35,7 @@ pub(crate) fn with_part(op: Op, d: u32, a: u32, k: u32, j: u32) -> GateCode
     ensures { read result ≡ gate_with op d a j k }
 {
     GateCode {
-        op,
+        op: op as u32,
         d,
         a,
         b: j,

@@ -99,7 +99,7 @@ pub const ROUND_GATES: usize = 5;
 pub const ADDER_GATES: usize = ADDER_HEAD + ROUND_GATES * ROUNDS - 2;
 
 // all but the first
-const ADDER_DEALT_PRODUCTS: usize = 2 * ROUNDS - 1;
+pub const ADDER_DEALT_PRODUCTS: usize = 2 * ROUNDS - 1;
 
 pub const ADDER: BlockSize = BlockSize {
     gates: ADDER_GATES,

@@ -4,6 +4,10 @@ use Rattle.gates.specs.Meaning.{meaning}
 use Rattle.gates.specs.Speech.{shape}
 use Rattle.gate_shape.proofs.shape_of.Goals as goal
 
+pub returns-in-Add : goal.returns-in-Add
+unfolding step_of read gate_with fetched_step meaning shape
+returns-in-Add c = search rules
+
 pub returns-in-DealSum : goal.returns-in-DealSum
 unfolding step_of read gate_with fetched_step meaning shape
 returns-in-DealSum c = search rules
@@ -16,6 +20,6 @@ pub returns-in-Refresh : goal.returns-in-Refresh
 unfolding step_of read gate_with fetched_step meaning shape
 returns-in-Refresh c = search rules
 
-pub returns-in_default : goal.returns-in_default
+pub returns-in-Past : goal.returns-in-Past
 unfolding step_of read gate_with fetched_step meaning shape
-returns-in_default c = search rules
+returns-in-Past c = search rules
