@@ -6,7 +6,7 @@
 use rehearsal_answer::rehearsed;
 use std::io;
 use std::io::Read;
-use text_lines::{Line, cut};
+use text_lines::{Line, Stop, cut};
 
 fn answer(rt: &impl Print, line: &Line) -> io::Result<()> {
     let text = rehearsed(line.as_bytes());
@@ -16,7 +16,7 @@ fn answer(rt: &impl Print, line: &Line) -> io::Result<()> {
 // Answers every line that ends in the chunk, and hands back the one that it leaves open.
 fn take_in(rt: &impl Print, chunk: &[u8], begun: Line) -> io::Result<Line> {
     let mut piece = cut(chunk, 0, begun);
-    while let Some(next) = piece.next {
+    while let Stop::Newline(next) = piece.stop {
         answer(rt, &piece.line)?;
         piece = cut(chunk, next, Line::new());
     }

@@ -3,14 +3,15 @@ use mathlib.Core.Path.{◌≡◌, refl, sym, ap, ◌∙◌}
 use mathlib.Core.Logic.{◌⊎◌, inl, inr, ⊎_elim}
 use mathlib.Core.Bool.{Bool, true, false, cond}
 use mathlib.Core.List.{List, [], ◌∷◌, ◌++◌, map-append}
-use Prim.Native.Nat.{ℕ, zero, suc, ◌+◌, ◌-◌, ◌≤◌, ◌<◌}
+use Prim.Native.Nat.{ℕ, zero, suc, ◌+◌, ◌-◌, ◌≤◌, ◌<◌, max}
 use native.Mathlib.Decide.{dec_lt}
 use native.Mathlib.Numerals.{add-one}
 use native.Mathlib.Omega.{arith}
 use borrow.Author.Tests.{le-ltb, eq-eqb, ne_eqb}
 use lib.Dec.{eqb, lit≤, lit<}
-use lib.ListN.{length, get_or, take, drop, drop_of_length-le, length-append}
+use lib.ListN.{length, get_or, take, drop, drop_of_length-le, length-append, length-drop}
 use lib.Seq.{take_all, take-append-le, length-take-le, drop-cons, drop-drop}
+use Rattle.std.proofs.lemmas.Bool.{true≢false}
 use Rattle.text_lines.specs.Lines.{parsed}
 use Rattle.text_lines.specs.Buffers.{Buffer, filled, with_byte}
 use Rattle.text_lines.specs.Input.{Cut, cut_is, cut_from, cut_then, cuts, cut_chunk, Split, split_is, line_then, lines_in, kept}
@@ -116,6 +117,25 @@ module _ (chunk : List ℕ) (i : ℕ) (line : Buffer) where
   pub chunk_ends : length chunk ≤ i → cut_from i (drop i chunk) line ≡ cut_is false i line
   unfolding cut_from
   chunk_ends h = rw (drop_of_length-le chunk h)
+
+-- ---- where a line that is left open stops
+
+open_end : (s : List ℕ) (at : ℕ) (line : Buffer) → (cut_from at s line).ended ≡ false → (cut_from at s line).next ≡ at + length s
+unfolding cut_from
+open_end [] at line t = omega arith
+open_end (b ∷ s) at line t =
+    go (eqb b 10) (cut_from (at + 1) s (with_byte 65 line b)) (open_end s (at + 1) (with_byte 65 line b)) t
+  where
+    go : (d : Bool) (c : Cut) → (c.ended ≡ false → c.next ≡ at + 1 + length s)
+        → (cond d (cut_is true (at + 1) line) c).ended ≡ false → (cond d (cut_is true (at + 1) line) c).next ≡ at + suc (length s)
+    go true c f u = absurd (true≢false u)
+    go false c f u = omega (arith, f u)
+
+-- at the chunk's end, or at its own place where that lies behind the end
+pub open_stops : (chunk : List ℕ) (at : ℕ) (line : Buffer) → (cut_from at (drop at chunk) line).ended ≡ false
+    → (cut_from at (drop at chunk) line).next ≡ max at (length chunk)
+open_stops chunk at line t =
+    omega (arith, length-drop at chunk, open_end (drop at chunk) at line t)
 
 -- ---- cutting one line after the other ends
 

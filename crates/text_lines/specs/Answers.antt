@@ -4,6 +4,8 @@ use Rattle.text_lines.specs.declared.parsing.Mode.{Mode}
 use Rattle.text_lines.specs.declared.parsing.Mode.TheVariants.{Exact, OneBit}
 use Rattle.text_lines.specs.declared.parsing.Request.{Request}
 use Rattle.text_lines.specs.declared.short.Short.{Short}
+use Rattle.text_lines.specs.declared.cutting.Stop.{Stop}
+use Rattle.text_lines.specs.declared.cutting.Stop.TheVariants.{Newline, ChunkEnd}
 use Rattle.text_lines.specs.declared.cutting.Piece.{Piece}
 use Rattle.text_lines.specs.Lines.{Parsed, refusing, asking}
 use Rattle.text_lines.specs.Buffers.{Buffer, buffer}
@@ -23,10 +25,10 @@ asked None = refusing 0
 abbrev pub held : {N : ℕ} → Short N → Buffer
 held t = buffer t.bytes t.len
 
--- a cut of a chunk that ends at a place: a line that does not end is left open there
-abbrev pub cut_at : (end : ℕ) (next : Option ℕ) → Buffer → Cut
-cut_at end (Some next) line = cut_is true next line
-cut_at end None line = cut_is false end line
+-- a line that was cut: ended by a newline, with the place behind it; or left open, with the place where the chunk ended
+abbrev pub cut_at : Stop → Buffer → Cut
+cut_at (Newline next) line = cut_is true next line
+cut_at (ChunkEnd end) line = cut_is false end line
 
-abbrev pub piece : (end : ℕ) → Piece → Cut
-piece end p = cut_at end p.next (held p.line)
+abbrev pub piece : Piece → Cut
+piece p = cut_at p.stop (held p.line)

@@ -1,5 +1,5 @@
 // The input, cut into lines as its chunks come.
-ghost use Rattle.std.specs.Prelude.{◌≡◌, drop, length, max};
+ghost use Rattle.std.specs.Prelude.{◌≡◌, drop};
 ghost use Rattle.text_lines.specs.Input.{cut_from};
 ghost use Rattle.text_lines.specs.Answers.{held, piece};
 
@@ -9,16 +9,24 @@ use crate::Short;
 // else it holds.
 pub type Line = Short<65>;
 
-// What a cut gives: the line so far; where it ended, the place in the chunk at which the next one begins.
+// Where a cut stopped: behind the newline that ended the line, which is where the next one begins; or, the line left
+// open, where the chunk ends, or at the place asked for where that lies behind the end.
+#[derive(Clone, Copy)]
+pub enum Stop {
+    Newline(usize),
+    ChunkEnd(usize),
+}
+
+// What a cut gives: the line so far, and where the cut stopped.
 #[derive(Clone, Copy)]
 pub struct Piece {
     pub line: Line,
-    pub next: Option<usize>,
+    pub stop: Stop,
 }
 
 // The line that goes on, or begins, at a place of the chunk, behind what was read of it before.
 pub fn cut(chunk: &[u8], at: usize, begun: Line) -> Piece
-    ensures { piece (max at (length chunk.now)) result ≡ cut_from at (drop at chunk.now) (held begun) }
+    ensures { piece result ≡ cut_from at (drop at chunk.now) (held begun) }
 {
     let mut line = begun;
     // a range and no `enumerate().skip(at)`: what is handed back, and what the contract speaks of, are places
@@ -27,10 +35,13 @@ pub fn cut(chunk: &[u8], at: usize, begun: Line) -> Piece
         if byte == b'\n' {
             return Piece {
                 line,
-                next: Some(i + 1),
+                stop: Stop::Newline(i + 1),
             };
         }
         line.push(byte);
     }
-    Piece { line, next: None }
+    Piece {
+        line,
+        stop: Stop::ChunkEnd(at.max(chunk.len())),
+    }
 }

@@ -6,6 +6,6 @@ mod cutting;
 mod parsing;
 mod short;
 
-pub use cutting::{Line, Piece, cut};
+pub use cutting::{Line, Piece, Stop, cut};
 pub use parsing::{Mode, Request, parse};
 pub use short::{Short, front};

@@ -14,7 +14,7 @@ use Rattle.text_prints.proofs.Decimals.{shown_length}
 use Rattle.text_prints.proofs.Signs.{signed_length}
 
 word_length : (n : ℕ) → Fits w32 n → length (shown n) ≤ 10
-word_length n h = shown_length 10 n (omega arith) (omega arith) (omega arith)
+word_length n h = shown_length 9 n (omega arith)
 
 module _ (mode : ℕ) (reading value : ℤ) (deals words : ℕ) where
   -- nothing of an answer is cut off

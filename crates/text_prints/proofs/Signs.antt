@@ -46,5 +46,5 @@ shows_word n z h e = rw (e, to_z-of_z w64 (pos n) (record { sfits = omega arith 
 
 pub signed_length : (z : ℤ) → SFits w64 z → length (signed_shown z) ≤ 20
 unfolding signed_shown
-signed_length (pos n) h = omega (arith, shown_length 19 n (omega arith) (omega (arith, h.sfits)) (omega (arith, h.sfits)))
-signed_length (negsuc n) h = omega (arith, shown_length 19 (suc n) (omega arith) (omega (arith, h.sfits)) (omega (arith, h.sfits)))
+signed_length (pos n) h = omega (arith, shown_length 18 n (omega (arith, h.sfits)))
+signed_length (negsuc n) h = omega (arith, shown_length 18 (suc n) (omega (arith, h.sfits)))

@@ -1,6 +1,4 @@
 use mathlib.Core.Path.{◌≡◌, sym, ◌∙◌}
-use Prim.Native.Nat.{max}
-use lib.ListN.{length}
 use native.Mathlib.Omega.{arith}
 use Rattle.text_lines.specs.Answers.{held}
 use Rattle.text_lines.proofs.Chunks.{newline, goes_on, chunk_ends}
@@ -23,5 +21,5 @@ loop-i-preserved c =
 pub returns : goal.returns
 returns c =
     let l = c.loop-i in
-    let end : max c.args.at (length c.args.chunk.now) ≡ l.i = omega arith in
-    rw end (sym (chunk_ends c.args.chunk.now l.i (held l.line) c.loop-i-test.false) ∙ l.invariant.same)
+    let stop : c.max.result ≡ l.i = omega (arith, c.max.ensures) in
+    rw stop (sym (chunk_ends c.args.chunk.now l.i (held l.line) c.loop-i-test.false) ∙ l.invariant.same)
