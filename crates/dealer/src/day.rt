@@ -95,8 +95,13 @@ pub fn prepare_day(
     let used = deal_day(table, shares, found.day, Lists { a, b }, &mut lanes, deals);
     put(&mut lanes.first, SHARE_SLOT, 0);
     put(&mut lanes.second, SHARE_SLOT, 0);
+    let mut masks = Masks {
+        l1: [0u32; 16],
+        l2: [0u32; 16],
+    };
+    registers(&lanes, &mut masks);
     Ok(Prepared {
         deals: used.deals as u32,
-        masks: registers(lanes),
+        masks,
     })
 }

@@ -22,15 +22,13 @@ use job_order::order_at;
 use program_fetch::{Piece, gate_at, piece_at};
 use word_lists::copy_front;
 
-// The masks of the registers, before the temporaries.
-pub(crate) fn registers(lanes: Lanes) -> Masks
-    ensures { (result.l1 ≡ take 16 lanes.first) × (result.l2 ≡ take 16 lanes.second) }
+// The masks of the registers, before the temporaries: written over others, since new ones would be filled with zeros
+// first and copied into the answer.
+pub(crate) fn registers(lanes: &Lanes, masks: &mut Masks)
+    ensures { (masks.new.l1 ≡ take 16 lanes.now.first) × (masks.new.l2 ≡ take 16 lanes.now.second) }
 {
-    let mut l1 = [0u32; 16];
-    let mut l2 = [0u32; 16];
-    copy_front(&lanes.first, &mut l1, 16);
-    copy_front(&lanes.second, &mut l2, 16);
-    Masks { l1, l2 }
+    copy_front(&lanes.first, &mut masks.l1, 16);
+    copy_front(&lanes.second, &mut masks.l2, 16);
 }
 
 // What is used behind a gate.
@@ -119,23 +117,23 @@ pub fn prepare(
     a: &[u32],
     b: &[u32],
     deals: &mut [u32],
-    masks: Masks,
+    mut masks: Masks,
 ) -> Result<Prepared, Refused>
     ensures { answer result deals.new
         ≡ Calls.prepare (job_script 32 job.now table.now) a.now b.now
         deals.old
         (masks.l1, masks.l2) }
 {
-    let counts = match check_dealer(job, table, a, b, deals) {
-        Ok(counts) => counts,
-        Err(refusal) => return Err(Refused { refusal, masks }),
-    };
     let mut lanes = Lanes {
         first: [0u32; 24],
         second: [0u32; 24],
     };
     copy_front(&masks.l1, &mut lanes.first, 16);
     copy_front(&masks.l2, &mut lanes.second, 16);
+    let counts = match check_dealer(job, table, a, b, deals) {
+        Ok(counts) => counts,
+        Err(refusal) => return Err(Refused { refusal, masks }),
+    };
     let none = Used {
         a: 0,
         b: 0,
@@ -144,8 +142,9 @@ pub fn prepare(
     let used = deal_job(job, table, Lists { a, b }, none, &mut lanes, deals);
     // as many as the check counted, so they fit a word
     prove!(used.deals == counts.deals as usize);
+    registers(&lanes, &mut masks);
     Ok(Prepared {
         deals: used.deals as u32,
-        masks: registers(lanes),
+        masks,
     })
 }

@@ -1,6 +1,6 @@
 // Starting and hearing of a day (R-3). Each order of a day that is run (R-6) is walked as one order of a job, with the
 // share of its quarter in a slot of the lanes; what stood there is put back before a call answers.
-ghost use Rattle.std.specs.Prelude.{◌≡◌, true, ℕ, ◌+◌, ◌≤◌, ◌<◌, length, drop, Ok};
+ghost use Rattle.std.specs.Prelude.{◌≡◌, true, ℕ, ◌+◌, ◌≤◌, ◌<◌, length, drop};
 ghost use Rattle.tables.specs.Table.{rows};
 ghost use Rattle.gates.specs.Meaning.{job_steps};
 ghost use Rattle.gates.specs.Steps.{origin};
@@ -34,7 +34,8 @@ use jobs::Condition;
 use word_lists::{at, put};
 use worker_gate::Worker;
 
-// From the first gate of an order to its first product, on the lanes in place.
+// From the first gate of an order to its first product, on the lanes in place. Inlined for the stack, as `resume`.
+#[inline(always)]
 fn begin(host: &Worker<'_>, daily: Daily<'_>, order: u32, lanes: &mut Lanes) -> Halt
     requires { Accepted daily × (order ≤ 96) × (is_run (held daily.day.quarters) order ≡ true) × Long lanes.old }
     ensures long { Long lanes.new }
@@ -149,34 +150,33 @@ pub fn start_day(
     Ok(answered(h, lanes.first, lanes.second))
 }
 
-// From the product or refresh where a state stands; the word that stood in the share's slot is put back.
-fn hear_there(host: &Worker<'_>, daily: Daily<'_>, s: State, heard: u32, stand: Stand) -> Answer
-    requires { Accepted daily × StandsIn daily s.order s.turn stand }
+// From the product or refresh where a state stands, on its lanes in place; the word that stood in the share's slot is
+// put back.
+fn hear_there(
+    host: &Worker<'_>,
+    daily: Daily<'_>,
+    place: Place,
+    heard: u32,
+    stand: Stand,
+    lanes: &mut Lanes,
+) -> Halt
+    requires { Accepted daily × StandsIn daily place.order place.turn stand × Long lanes.old }
     ensures { (H : Hours) → SameDay (held daily.entry.day.quarters) H
         → ((0, 0)
         ≡ lent_fault
         (lent host.now.host (day_script 32 daily.entry.table.now (length daily.entry.shares.now) H)
         host.now.masks.now host.now.deals.now))
-        → answer_of (Ok result)
+        → halt_on result lanes.new.first lanes.new.second
         ≡ day_hear 32 host.now.host daily.entry.table.now daily.entry.shares.now H
-        host.now.masks.now host.now.deals.now (state_with s.m s.mask s.order s.turn stand.walked) heard }
+        host.now.masks.now host.now.deals.now
+        (state_with lanes.old.first lanes.old.second place.order place.turn stand.walked) heard }
 {
-    let m = s.m;
-    let mask = s.mask;
-    let mut lanes = Lanes {
-        first: m,
-        second: mask,
-    };
     let first = at(&lanes.first, SHARE_SLOT);
     let second = at(&lanes.second, SHARE_SLOT);
-    let place = Place {
-        order: s.order,
-        turn: s.turn,
-    };
-    let h = go_on(host, daily, place, heard, stand, &mut lanes);
+    let h = go_on(host, daily, place, heard, stand, lanes);
     put(&mut lanes.first, SHARE_SLOT, first);
     put(&mut lanes.second, SHARE_SLOT, second);
-    answered(h, lanes.first, lanes.second)
+    h
 }
 
 impl State {
@@ -196,6 +196,11 @@ impl State {
             ≡ day_hear 32 host table.now shares.now (hours calendar.now weekday)
             masks.now deals.now (state_of self) heard }
     {
+        // before the checks, so that the state's lanes are copied once
+        let mut lanes = Lanes {
+            first: self.m,
+            second: self.mask,
+        };
         let checked = match check_day_lent(host, table, shares, calendar, weekday, masks, deals) {
             Ok(checked) => checked,
             Err(condition) => return Err(refused(condition, self)),
@@ -221,7 +226,13 @@ impl State {
         if self.stored != stand.walked {
             return Err(refused(Condition::OtherPlaces, self));
         }
+        let place = Place {
+            order,
+            turn: self.turn,
+        };
         let host = Worker { host, masks, deals };
-        Ok(hear_there(&host, Daily { table, shares, day }, self, heard, stand))
+        let daily = Daily { table, shares, day };
+        let h = hear_there(&host, daily, place, heard, stand, &mut lanes);
+        Ok(answered(h, lanes.first, lanes.second))
     }
 }

@@ -24,7 +24,8 @@ use program_seek::seek;
 use worker_gate::Worker;
 
 // The other's word is heard at the product or refresh where the state stands; the walk goes on from the walk's places
-// there.
+// there. Inlined, as `begin` of a day: a frame less below the lanes keeps each call within the header's bound on stack.
+#[inline(always)]
 pub(crate) fn resume(
     host: &Worker<'_>,
     job: Job<'_>,

@@ -72,8 +72,8 @@ returns-then-ne c =
     ∙ hear_unequal a.host a.table.now a.shares.now H a.masks.now a.deals.now _ l.ensures.fault (state_of a.self) (omega (arith, c.well_formed)) (omega (arith, c.well_formed)) a.heard refl f
     (same_day a.host a.table.now a.shares.now H a.masks.now a.deals.now _ l.ensures.fault refl _ l.ensures.day) _ p.0 p.1 (are_unequal a.self.stored _ c.if-ne.ensures)
 
-pub hear_there-requires : goal.hear_there-requires
-hear_there-requires c =
+pub hear_there-h-requires : goal.hear_there-h-requires
+hear_there-h-requires c =
     let a = c.args in
     let H = hours a.calendar.now a.weekday in
     let l = c.in-Ok in
@@ -82,13 +82,14 @@ hear_there-requires c =
     let placed = placed_day a.table.now f a.self.order a.self.turn (omega (arith, c.if-order-gt-QUARTERS.false)) _ c.place_in.ensures L.ruled _ c.in-Some.is
     (counted l.checked.day.curve) (counted c.used_before.result) L.counts c.used_before.ensures in
     let p = stands_in _ _ _ _ _ _ _ _ placed _ c.order_words-job.ensures _ c.order_at.ensures _ c.stand_at-stand.ensures in
-    (L, p)
+    (L, p, (omega (arith, c.well_formed), omega (arith, c.well_formed)))
 
 pub returns : goal.returns
 returns c =
     let a = c.args in
     let l = c.in-Ok in
-    c.hear_there.ensures (hours a.calendar.now a.weekday)
+    c.answered.ensures
+    ∙ c.hear_there-h.ensures (hours a.calendar.now a.weekday)
     (same_day a.host a.table.now a.shares.now (hours a.calendar.now a.weekday) a.masks.now a.deals.now _ l.ensures.fault refl _ l.ensures.day)
     l.ensures.fault
     ∙ ap (λ (u : Stored). day_hear 32 a.host a.table.now a.shares.now (hours a.calendar.now a.weekday) a.masks.now
