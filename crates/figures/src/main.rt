@@ -21,7 +21,6 @@ use crate::rejected::{at_place, bad_table, faulty_order, ill_sized, no_host, sho
 use crate::sums::{Sums, print_rest};
 use crate::sweeps::{Readings, sweep};
 use crate::unmarked::{is_opened, is_slack_wrong, is_split_wrong};
-use jobs::Condition;
 use std::io;
 
 // The trials of a kind, and their line.
@@ -91,19 +90,19 @@ fn refused_jobs(rt: &impl Print) -> io::Result<()> {
         rt,
         "refused 3, kinds above 10",
         0..48,
-        |i| faulty_order(Condition::UnknownKind, i),
+        |i| faulty_order(3, i),
     )?;
     group(
         rt,
         "refused 4, registers above 15",
         48..256,
-        |i| faulty_order(Condition::UnknownRegister, i),
+        |i| faulty_order(4, i),
     )?;
     group(
         rt,
         "refused 5, fourth words",
         256..448,
-        |i| faulty_order(Condition::IllOperand, i),
+        |i| faulty_order(5, i),
     )?;
     group(
         rt,
@@ -115,29 +114,24 @@ fn refused_jobs(rt: &impl Print) -> io::Result<()> {
 
 // Lists, places and shares that are turned down.
 fn refused_places(rt: &impl Print) -> io::Result<()> {
-    group(
-        rt,
-        "refused 6, lists one word short",
-        0..8,
-        |i| short(Condition::ShortMasks, i),
-    )?;
+    group(rt, "refused 6, lists one word short", 0..8, |i| short(6, i))?;
     group(
         rt,
         "refused 7, deals one word short",
         8..12,
-        |i| short(Condition::ShortDeals, i),
+        |i| short(7, i),
     )?;
     group(
         rt,
         "refused 8, places that are no product or refresh",
         0..16,
-        |i| at_place(Condition::NoPlace, i),
+        |i| at_place(8, i),
     )?;
     group(
         rt,
         "refused 9, hearing at the end",
         16..20,
-        |i| at_place(Condition::AtEnd, i),
+        |i| at_place(9, i),
     )?;
     group(
         rt,

@@ -1,5 +1,6 @@
 // The calls that turn a case down (document 01, "Turned down"). A refused call is to give back what it was given and
-// write nothing; that every other number in its answer is 0 is said by its type, which has none.
+// write nothing; that every other number in its answer is 0 is said by its type, which has none. The number and the
+// index that are due are document 01's, written out; the engine's condition is asked for its number.
 use crate::draw::drawn;
 use crate::trials::front;
 use calls::Stored;
@@ -34,7 +35,7 @@ impl Call {
     pub(crate) const HEARINGS: [Call; 2] = [Call::Hearing(1), Call::Hearing(2)];
 }
 
-// A call, and the refusal that it is to answer.
+// A call, and what it is to answer: the number and the order's index.
 #[derive(Clone, Copy)]
 pub(crate) struct Case {
     pub(crate) call: Call,
@@ -45,7 +46,8 @@ pub(crate) struct Case {
     pub(crate) masks: usize,
     pub(crate) masks_b: usize,
     pub(crate) deals: usize,
-    pub(crate) due: Refusal,
+    pub(crate) number: u32,
+    pub(crate) index: u32,
 }
 
 // A lane with no kept words.
@@ -56,8 +58,8 @@ fn lane(registers: [u32; 16]) -> [u32; 24] {
 }
 
 impl Case {
-    // With all that the call needs. Host 1 hears at the first place, host 2 at one that no job here has.
-    pub(crate) fn new(call: Call, due: Refusal) -> Self {
+    // With all that the call needs, and index 0. Host 1 hears at the first place, host 2 at one that no job here has.
+    pub(crate) fn new(call: Call, number: u32) -> Self {
         let (order, turn) = match call {
             Call::Hearing(2) => (7, 9),
             _ => (0, 0),
@@ -74,7 +76,8 @@ impl Case {
             masks: 512,
             masks_b: 512,
             deals: 512,
-            due,
+            number,
+            index: 0,
         }
     }
 
@@ -88,12 +91,13 @@ impl Case {
         }
     }
 
-    // What a host is to answer: it gives back its state.
-    fn turned_down(&self, state: State) -> Result<Answer, worker::Refused> {
-        Err(worker::Refused {
-            refusal: self.due,
-            state,
-        })
+    fn is_due(&self, refusal: Refusal) -> bool {
+        refusal.condition.number() == self.number && refusal.index == self.index
+    }
+
+    // A host is to give back its state too.
+    fn is_host_due(&self, answer: Result<Answer, worker::Refused>, given: State) -> bool {
+        answer.is_err_and(|refused| self.is_due(refused.refusal) && refused.state == given)
     }
 
     fn starting(&self, host: u32, job: &[u32], table: &[u32]) -> bool {
@@ -103,7 +107,8 @@ impl Case {
         let masks = front(&lent, self.masks);
         let deals = front(&lent, self.deals);
         let given = self.state(lane(m), lane(mask));
-        start(host, job, table, masks, deals, Registers { m, mask }) == self.turned_down(given)
+        let answer = start(host, job, table, masks, deals, Registers { m, mask });
+        self.is_host_due(answer, given)
     }
 
     // From a state with drawn registers and kept words.
@@ -112,7 +117,8 @@ impl Case {
         let given = self.state(drawn(73), drawn(74));
         let masks = front(&lent, self.masks);
         let deals = front(&lent, self.deals);
-        given.hear(host, job, table, masks, deals, 123456789) == self.turned_down(given)
+        let answer = given.hear(host, job, table, masks, deals, 123456789);
+        self.is_host_due(answer, given)
     }
 
     // The masks and the whole buffer are to stay as before.
@@ -127,26 +133,24 @@ impl Case {
         let a = front(&lent, self.masks);
         let b = front(&lent, self.masks_b);
         let deals = &mut buffer[..self.deals.min(512)];
-        let turned_down = Err(dealer::Refused {
-            refusal: self.due,
-            masks,
-        });
-        prepare(job, table, a, b, deals, masks) == turned_down && buffer == before
+        let Err(refused) = prepare(job, table, a, b, deals, masks) else {
+            return false;
+        };
+        self.is_due(refused.refusal) && refused.masks == masks && buffer == before
     }
 
-    // Only the condition, and, where the call gives its number, the whole list.
+    // Only the number, and, where the call lends a word for it, the whole list.
     fn unused_masks(&self, which: Which, job: &[u32], table: &[u32]) -> bool {
         let lent = drawn::<512>(81);
         let masks = front(&lent, self.masks);
         let mut said = 99;
         let rest = leftover(job, table, which, masks, &mut said);
-        let condition = self.due.condition;
-        let numbered = said == condition.number() && rest == masks;
-        unused(job, table, which, masks) == Err(condition) && numbered
+        let numbered = said == self.number && rest == masks;
+        numbered && unused(job, table, which, masks).is_err_and(|c| c.number() == self.number)
     }
 
     fn checking(&self, job: &[u32], table: &[u32]) -> bool {
-        job_check::check(job, table) == Err(self.due)
+        job_check::check(job, table).is_err_and(|refusal| self.is_due(refusal))
     }
 
     // Whether the call, on this job and table, answers anything else than is due.

@@ -2,7 +2,7 @@
 // wrong.
 use crate::refusals::{Call, Case};
 use calls::Stored;
-use jobs::{Condition, Refusal, Which};
+use jobs::Which;
 
 // A job, and how far its lists are used at its end.
 #[derive(Clone, Copy)]
@@ -41,7 +41,7 @@ pub(crate) fn no_host(i: u32) -> bool {
     let host = [0, 3, u32::MAX][i / 2 % 3];
     let call = [Call::Starting(host), Call::Hearing(host)][i % 2];
     let job = [RELU.words, &BAD_ORDER][i / 6 % 2];
-    Case::new(call, Condition::OtherHost.into()).is_wrong(job, &[])
+    Case::new(call, 1).is_wrong(job, &[])
 }
 
 const ILL_SIZED: [&[u32]; 7] = [
@@ -57,7 +57,7 @@ const ILL_SIZED: [&[u32]; 7] = [
 // Number 2, in each of the eight calls.
 pub(crate) fn ill_sized(i: u32) -> bool {
     let i = i as usize;
-    Case::new(Call::ALL[i % 8], Condition::IllSized.into()).is_wrong(ILL_SIZED[i / 8 % 7], &[])
+    Case::new(Call::ALL[i % 8], 2).is_wrong(ILL_SIZED[i / 8 % 7], &[])
 }
 
 // The orders of the numbers 3 (three), 4 (thirteen) and 5 (twelve).
@@ -93,9 +93,8 @@ const FAULTS: [[u32; 4]; 28] = [
 ];
 
 // An order alone, or, before another fault, as the second of three.
-fn is_wrong_order(order: [u32; 4], call: Call, due: Refusal) -> bool {
-    let case = Case::new(call, due);
-    match due.index {
+fn is_wrong_order(order: [u32; 4], case: Case) -> bool {
+    match case.index {
         0 => case.is_wrong(&order, &tables::HOUSE),
         _ => case.is_wrong(
             [[8, 2, 3, 31], order, BAD_ORDER].as_flattened(),
@@ -105,14 +104,13 @@ fn is_wrong_order(order: [u32; 4], call: Call, due: Refusal) -> bool {
 }
 
 // Each order both ways in each of the eight calls.
-pub(crate) fn faulty_order(condition: Condition, i: u32) -> bool {
+pub(crate) fn faulty_order(number: u32, i: u32) -> bool {
     let order = FAULTS[i as usize / 16 % 28];
-    let index = i / 8 % 2;
-    is_wrong_order(
-        order,
-        Call::ALL[i as usize % 8],
-        Refusal { condition, index },
-    )
+    let case = Case {
+        index: i / 8 % 2,
+        ..Case::new(Call::ALL[i as usize % 8], number)
+    };
+    is_wrong_order(order, case)
 }
 
 // Seventeen rows, fewer than two, an odd word, and six tables of two rows.
@@ -135,11 +133,11 @@ const BAD_TABLES: [&[u32]; 10] = [
 // Number 5: a curve order on such a table, alone and after an order that needs none, in each of the eight calls.
 pub(crate) fn bad_table(i: u32) -> bool {
     let table = BAD_TABLES[i as usize / 16 % 10];
-    let call = Call::ALL[i as usize % 8];
-    let condition = Condition::IllOperand;
-    let index = i / 8 % 2;
-    let case = Case::new(call, Refusal { condition, index });
-    match index {
+    let case = Case {
+        index: i / 8 % 2,
+        ..Case::new(Call::ALL[i as usize % 8], 5)
+    };
+    match case.index {
         0 => case.is_wrong(&[10, 1, 2, 0], table),
         _ => case.is_wrong(&[9, 2, 3, 0, 10, 1, 2, 1], table),
     }
@@ -163,7 +161,7 @@ const SHORT: [(Call, [usize; 3], [u32; 2]); 12] = [
 ];
 
 // Eight cases of number 6, four of number 7.
-pub(crate) fn short(condition: Condition, i: u32) -> bool {
+pub(crate) fn short(number: u32, i: u32) -> bool {
     let (call, [masks, masks_b, deals], [order, turn]) = SHORT[i as usize % 12];
     let case = Case {
         masks,
@@ -171,7 +169,7 @@ pub(crate) fn short(condition: Condition, i: u32) -> bool {
         deals,
         order,
         turn,
-        ..Case::new(call, condition.into())
+        ..Case::new(call, number)
     };
     case.is_wrong(RELU.words, &[])
 }
@@ -192,13 +190,13 @@ const PLACES: [(Job, u32, u32); 10] = [
 
 // No product or refresh of an order, past the end, and at the end, with what the two jobs use in all: both hosts hear
 // there.
-pub(crate) fn at_place(condition: Condition, i: u32) -> bool {
+pub(crate) fn at_place(number: u32, i: u32) -> bool {
     let (job, order, turn) = PLACES[i as usize / 2 % 10];
     let case = Case {
         order,
         turn,
         stored: job.used,
-        ..Case::new(Call::HEARINGS[i as usize % 2], condition.into())
+        ..Case::new(Call::HEARINGS[i as usize % 2], number)
     };
     case.is_wrong(job.words, &[])
 }
@@ -230,10 +228,7 @@ pub(crate) fn unequal(i: u32) -> bool {
         order,
         turn,
         stored,
-        ..Case::new(
-            Call::HEARINGS[i as usize % 2],
-            Condition::OtherPlaces.into(),
-        )
+        ..Case::new(Call::HEARINGS[i as usize % 2], 18)
     };
     case.is_wrong(RELU.words, &[])
 }
